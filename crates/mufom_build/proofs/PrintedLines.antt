@@ -157,7 +157,7 @@ in_item : (item : Item) → IsMadeItem item → is_long_literal item ≡ false �
 in_item (Literal bytes) made fits = in_bytes bytes made (short (length bytes) fits) where
   short : (n : ℕ) → nat_lt 65535 n ≡ false → n < 2 ^ 64
   short n h = grind arith
-in_item (Field kind value size) (a, b) fits = (in_words (codes "field ") ▸ in_words (show.kind_text kind) ▸ in_words (codes " ") ▸ in_byte size b ▸
+in_item (Field kind size value) (a, b) fits = (in_words (codes "field ") ▸ in_words (show.kind_text kind) ▸ in_words (codes " ") ▸ in_byte size b ▸
     in_words (codes " = ") ▸ in_value value a)
 
 in_items : (items : List Item) → All IsMadeItem items → list_any is_long_literal items ≡ false

@@ -72,9 +72,9 @@ blocks : SpellsLines exact (mark_lines 0 0 (block_begin heads.Module (0x6D ∷ [
 blocks = found (lines_in exact (mark_lines 0 0 (block_begin heads.Module (0x6D ∷ []) ∷ name_mark (0x61 ∷ []) ∷ block_end (Some (number 7)) ∷ []))
     (codes "block 03 \"m\"\nname 0 \"a\"\n end  = 7 \n")) refl
 
-repeats : SpellsLines exact (load_lines (loads.Repeat 2 (items.Literal [] ∷ items.Field Either (variable letters.X 0) 4 ∷ []))
+repeats : SpellsLines exact (load_lines (loads.Repeat 2 (items.Literal [] ∷ items.Field Either 4 (variable letters.X 0) ∷ []))
     ++ load_lines (loads.Repeat 0 [])) (codes "repeat 2\n  bytes 0\n  field either 4 = X0\nend\nrepeat 0\nend\n")
-repeats = found (lines_in exact (load_lines (loads.Repeat 2 (items.Literal [] ∷ items.Field Either (variable letters.X 0) 4 ∷ []))
+repeats = found (lines_in exact (load_lines (loads.Repeat 2 (items.Literal [] ∷ items.Field Either 4 (variable letters.X 0) ∷ []))
     ++ load_lines (loads.Repeat 0 [])) (codes "repeat 2\n  bytes 0\n  field either 4 = X0\nend\nrepeat 0\nend\n")) refl
 
 unended : lines_in exact (load_lines (loads.Repeat 0 [])) (codes "repeat 0\n") ≡ None

@@ -118,7 +118,7 @@ bytes_pieces (b ∷ bytes) = words (codes "bytes ") ++ count (length (b ∷ byte
 
 abbrev pub item_pieces : Item → Line
 item_pieces (Literal bytes) = bytes_pieces bytes
-item_pieces (Field kind value size) = words (codes "field ") ++ words (kind_text kind) ++ words (codes " ") ++ small_piece size
+item_pieces (Field kind size value) = words (codes "field ") ++ words (kind_text kind) ++ words (codes " ") ++ small_piece size
     ++ words (codes " = ") ++ value_pieces value
 
 abbrev pub load_lines : Load → List Line

@@ -57,7 +57,7 @@ size_there size e = let two = either_false (size == 0) (nat_lt 8 size) e in (som
 
 narrow_item : (item : Item) → has_bad_size item ≡ false → IsNarrow item
 narrow_item (Literal bytes) e = tt {0}
-narrow_item (Field kind t size) e = (size_there size e).1
+narrow_item (Field kind size t) e = (size_there size e).1
 
 narrow_items : (items : List Item) → list_any has_bad_size items ≡ false → All IsNarrow items
 narrow_items [] e = All-nil IsNarrow
@@ -98,7 +98,7 @@ valid_units m valid = units m.maus (no_defect m valid d.BadMaus) where
 abbrev IsOwn : Sited → Step → Type 0
 IsOwn home (counter_step site section t) = site ≡ home
 IsOwn home (item_step site section (Literal bytes)) = site ≡ home
-IsOwn home (item_step site section (Field kind t size)) = (site ≡ home) × (0 < size)
+IsOwn home (item_step site section (Field kind size t)) = (site ≡ home) × (0 < size)
 
 In-repeated : {A : Type 0} (n : ℕ) (x : A) (xs : List A) → In x (repeated n xs) → In x xs
 In-repeated zero x xs h = absurd h
@@ -110,7 +110,7 @@ In-repeated (suc n) x xs h = by_case (In-append x xs (repeated n xs) h) (In-repe
 module _ (home : Sited) where
   own_item : (section : ℕ) (item : Item) → has_bad_size item ≡ false → IsOwn home (item_step home section item)
   own_item section (Literal bytes) e = refl
-  own_item section (Field kind t size) e = (refl, (size_there size e).0)
+  own_item section (Field kind size t) e = (refl, (size_there size e).0)
 
   own_items : (current : Option ℕ) (items : List Item) → list_any has_bad_size items ≡ false → (step : Step) → In step (item_steps home current items)
       → IsOwn home step
@@ -198,7 +198,7 @@ module _ (m : Parts) (valid : IsValid m) (placed : Bases) (bases : List ℕ) (va
   plain_step (counter_step site section t) own well =
       (below_length s.bases section well.0, subst (λ x. IsWellNamed s x t → HasValuation s valuation x t) (sym own) (has_valuation t) well.1)
   plain_step (item_step site section (Literal bytes)) own well = (below_length s.bases section well, tt {0})
-  plain_step (item_step site section (Field kind t size)) own well =
+  plain_step (item_step site section (Field kind size t)) own well =
       (below_length s.bases section well.0, (own.1, subst (λ x. IsWellNamed s x t → HasValuation s valuation x t) (sym own.0) (has_valuation t) well.1))
 
   all_steps : steps ms ≡ steps_of (home_of m) None m.loads

@@ -144,7 +144,7 @@ module _ (s : Setting) (layout : Layout) (valuation : ValuationAt) (laid : IsLai
   item_facts : (site : Sited) (section at : ℕ) (item : Item) → IsPlainItem s valuation site item → (item_bytes layout valuation section at item).1
       ≡ field_fact s site section at item
   item_facts site section at (Literal bytes) h = refl
-  item_facts site section at (Field kind t size) h =
+  item_facts site section at (Field kind size t) h =
       ap (λ m. (field_outcome m section at kind size (valuation at t)).1) (sym laid.modulus)
       ∙ ap (λ o. (field_outcome s.modulus section at kind size o).1) (h.1.is_value at)
       ∙ field_facts site section at kind t size h.1 (value s site (Some at) t) refl
@@ -152,7 +152,7 @@ module _ (s : Setting) (layout : Layout) (valuation : ValuationAt) (laid : IsLai
   -- an item has as many bytes as it loads
   item_count : (section at : ℕ) (item : Item) → length (item_bytes layout valuation section at item).0 ≡ byte_count item
   item_count section at (Literal bytes) = refl
-  item_count section at (Field kind t size) =
+  item_count section at (Field kind size t) =
       let found = field_outcome (2 ^ layout.width) section at kind size (valuation at t) in
       length-in_byte_order layout.order (number_bytes size found.0) ∙ length-number_bytes size found.0
 
@@ -160,10 +160,10 @@ module _ (s : Setting) (layout : Layout) (valuation : ValuationAt) (laid : IsLai
   item_cells : (site : Sited) (section at : ℕ) (item : Item) → IsPlainItem s valuation site item → (item_bytes layout valuation section at item).1 ≡ None
       → cells_from at (item_bytes layout valuation section at item).0 ≡ step_cells layout.order s.modulus (item_reading s site section (Some at) item)
   item_cells site section at (Literal bytes) h e = refl
-  item_cells site section at (Field kind t size) h e =
+  item_cells site section at (Field kind size t) h e =
       by_value (valuation at t) (value s site (Some at) t) (h.1.is_value at)
       (ap (λ m. (field_outcome m section at kind size (valuation at t)).1) laid.modulus ∙ e)
-      ∙ ap (λ m. step_cells layout.order m (item_reading s site section (Some at) (Field kind t size))) (sym laid.modulus) where
+      ∙ ap (λ m. step_cells layout.order m (item_reading s site section (Some at) (Field kind size t))) (sym laid.modulus) where
         by_value : (w v : Option ℕ) → w ≡ v → (field_outcome s.modulus section at kind size w).1 ≡ None
             → cells_from at (in_byte_order layout.order (number_bytes size (field_outcome (2 ^ layout.width) section at kind size w).0))
             ≡ step_cells layout.order (2 ^ layout.width) (field_reading section (Some at) kind size v)
@@ -271,7 +271,7 @@ module _ (s : Setting) (layout : Layout) (valuation : ValuationAt) (laid : IsLai
 
     -- an item without bytes changes nothing
     empty_taken : (item : Item) → IsPlainItem s valuation site item → byte_count item ≡ 0 → IsTaken earlier (item_step site section item) p (p, None)
-    empty_taken (Field kind t size) w none = absurd (let some = w.0 in omega (arith, some, none))
+    empty_taken (Field kind size t) w none = absurd (let some = w.0 in omega (arith, some, none))
     empty_taken (Literal (byte ∷ bytes)) w none = absurd (omega (arith, none))
     empty_taken (Literal []) w none = record {
       agrees = λ e. record {

@@ -63,7 +63,7 @@ field_outcome modulus section at kind size (Some v) =
 -- the bytes of an item at a counter, and what is met at them
 abbrev pub item_bytes : Layout → ValuationAt → ℕ → ℕ → Item → List ℕ × Option LocateFact
 item_bytes layout valuation section at (Literal bytes) = (bytes, None)
-item_bytes layout valuation section at (Field kind t size) =
+item_bytes layout valuation section at (Field kind size t) =
     let found = field_outcome (2 ^ layout.width) section at kind size (valuation at t) in
     (in_byte_order layout.order (number_bytes size found.0), found.1)
 

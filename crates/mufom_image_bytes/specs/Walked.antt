@@ -28,7 +28,7 @@ pub record HasValuation (s : Setting) (valuation : ValuationAt) (site : Sited) (
 -- a field has a byte, and its expression is computed
 abbrev pub IsPlainItem : Setting → ValuationAt → Sited → Item → Type 0
 IsPlainItem s valuation site (Literal bytes) = Unit {0}
-IsPlainItem s valuation site (Field kind t size) = (0 < size) × HasValuation s valuation site t
+IsPlainItem s valuation site (Field kind size t) = (0 < size) × HasValuation s valuation site t
 
 -- a step is one of a section, and its expression is computed
 abbrev pub IsPlainStep : Setting → ValuationAt → Step → Type 0

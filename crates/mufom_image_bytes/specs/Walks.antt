@@ -46,7 +46,7 @@ LoadsOne layout valuation current load before after stop = Reaches after stop (l
 -- a field has at most eight bytes
 abbrev pub IsNarrow : Item → Type 0
 IsNarrow (Literal bytes) = Unit {0}
-IsNarrow (Field kind value size) = size ≤ 8
+IsNarrow (Field kind size value) = size ≤ 8
 
 -- the fields of a load have at most eight bytes each
 abbrev pub HasNarrowItems : Load → Type 0

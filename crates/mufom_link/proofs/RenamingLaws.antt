@@ -89,7 +89,7 @@ module _ (ms : List Parts) (site : Sited) (r : Renaming) (agrees : Agrees ms sit
 
   item-agrees : (item : Item) → item_any outside item ≡ false → renamed_item r item ≡ joined_item ms site item
   item-agrees (Literal bytes) e = refl
-  item-agrees (Field kind t size) e = ap (λ u. Field kind u size) (tree-agrees t e)
+  item-agrees (Field kind size t) e = ap (λ u. Field kind size u) (tree-agrees t e)
 
   load-agrees : (load : Load) → has_bad_place (counts_of site.parts) load ≡ false → renamed_load r load ≡ joined_load ms site load
   load-agrees (SetSection section) e =

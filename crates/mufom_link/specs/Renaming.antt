@@ -28,7 +28,7 @@ renamed_public r entry = record { name = entry.name; value = renamed_tree r entr
 
 abbrev pub renamed_item : Renaming → Item → Item
 renamed_item r (Literal bytes) = Literal bytes
-renamed_item r (Field kind t size) = Field kind (renamed_tree r t) size
+renamed_item r (Field kind size t) = Field kind size (renamed_tree r t)
 
 abbrev pub renamed_load : Renaming → Load → Load
 renamed_load r (SetSection section) = SetSection (r.section section)

@@ -8,7 +8,7 @@ use Rattle.mufom_loads.specs.declared.load.Load.TheVariants.{SetSection, SetPc, 
 -- how many bytes an item loads
 abbrev pub byte_count : Item → ℕ
 byte_count (Literal bytes) = length bytes
-byte_count (Field kind value size) = size
+byte_count (Field kind size value) = size
 
 -- how many bytes items load, one after another
 abbrev pub lengths_of : List Item → ℕ

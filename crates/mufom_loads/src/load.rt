@@ -11,8 +11,8 @@ pub enum Item {
     /// The value of an expression, in a field of `size` bytes.
     Field {
         kind: FieldKind,
-        value: Postfix,
         size: u8,
+        value: Postfix,
     },
 }
 

@@ -20,7 +20,7 @@ use Rattle.mufom_meaning.proofs.Members.{In, In-at, In-append, map-In}
 -- an expression in an item has no divisor of value 0, and its value fits the field
 abbrev pub IsFitting : Setting → Sited → ℕ → Item → Type 0
 IsFitting s site at (Literal bytes) = Unit {0}
-IsFitting s site at (Field kind t size) =
+IsFitting s site at (Field kind size t) =
     (has_zero_divisor s site (Some at) t ≡ false) × ((v : ℕ) → value s site (Some at) t ≡ Some v → fits s.modulus kind size v ≡ true)
 
 -- an item is loaded at an address, inside its section and the address space
@@ -101,11 +101,11 @@ module _ (s : Setting) where
 
     pub no_field_divisor : (section at : ℕ) → ¬ HasZeroDivisor ms s (sites.Field section at)
     no_field_divisor section at h =
-        let none = (free h.0 h.1 section at (Field h.2 h.3 h.4) h.5).place.fitting.0 in
+        let none = (free h.0 h.1 section at (Field h.2 h.4 h.3) h.5).place.fitting.0 in
         let clash : false ≡ true = sym none ∙ h.6 in cc
 
     pub none_overflows : (section at : ℕ) (kind : FieldKind) (size v : ℕ) → ¬ StandsInWalk ms s (overflow section at kind size v)
-    none_overflows section at kind size v h = h.5 ((free h.0 h.1 section at (Field kind h.2 size) h.3).place.fitting.1 v h.4)
+    none_overflows section at kind size v h = h.5 ((free h.0 h.1 section at (Field kind size h.2) h.3).place.fitting.1 v h.4)
 
     pub none_outside : (section address : ℕ) → ¬ StandsInWalk ms s (load_outside section address)
     none_outside section address h = by_side (free h.0 h.1 section h.2 h.4 h.5).place h.7 where

@@ -27,9 +27,9 @@ use Rattle.mufom_make.proofs.Rising.{IsFitting, IsInPlace, IsRising}
 
 -- the items that a module loads, one after another
 abbrev items_at : (last : Bool) → ℕ → List Item
-items_at last n = Field Either (next_value last) 4
+items_at last n = Field Either 4 (next_value last)
     ∷ Literal (to_be_bytes w32 n)
-    ∷ Field Either (variable letters.P 0) 4
+    ∷ Field Either 4 (variable letters.P 0)
     ∷ Literal (n % 256 ∷ 0 ∷ [])
     ∷ Literal (n % 256 ∷ 0 ∷ [])
     ∷ []
@@ -138,10 +138,10 @@ module _ (s : Setting) (count : ℕ) (made : IsMade s count) where
   fits-field : (v : ℕ) → v < 2 ^ 32 → fits s.modulus Either 4 v ≡ true
   fits-field v less = or_right (fits_signed s.modulus 4 v) (nat_lt v (256 ^ 4)) (is_lt v (256 ^ 4) less)
 
-  fitting-field : (site : Sited) (t : Tree) (at : ℕ) → has_zero_divisor s site (Some at) t ≡ false → IsFitting s site at (Field Either t 4)
+  fitting-field : (site : Sited) (t : Tree) (at : ℕ) → has_zero_divisor s site (Some at) t ≡ false → IsFitting s site at (Field Either 4 t)
   fitting-field site t at none = (none, λ v e. fits-field v (made.small site (Some at) t v e))
 
-  fitting-next : (site : Sited) (last : Bool) (at : ℕ) → IsFitting s site at (Field Either (next_value last) 4)
+  fitting-next : (site : Sited) (last : Bool) (at : ℕ) → IsFitting s site at (Field Either 4 (next_value last))
   fitting-next site true at = fitting-field site (number 0) at refl
   fitting-next site false at = fitting-field site (variable letters.X 0) at refl
 

@@ -42,9 +42,9 @@ next_value false = variable letters.X 0
 -- 16 bytes: the next address, the number of the module, the program counter, and twice the lowest byte of the number and 0
 abbrev pub loads_at : (last : Bool) → ℕ → List Load
 loads_at last n = SetSection 0
-    ∷ One (Field Either (next_value last) 4)
+    ∷ One (Field Either 4 (next_value last))
     ∷ One (Literal (to_be_bytes w32 n))
-    ∷ One (Field Either (variable letters.P 0) 4)
+    ∷ One (Field Either 4 (variable letters.P 0))
     ∷ Repeat 2 (Literal (n % 256 ∷ 0 ∷ []) ∷ [])
     ∷ []
 

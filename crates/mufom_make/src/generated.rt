@@ -132,7 +132,7 @@ fn next_value(last: bool) -> Postfix
 
 // A load of the value of an expression, as an address.
 fn address_load(value: Postfix) -> Load
-    ensures { result ≡ Load.One (Field Either value 4) }
+    ensures { result ≡ Load.One (Field Either 4 value) }
 {
     Load::One(Item::Field {
         kind: FieldKind::Either,

@@ -74,7 +74,7 @@ joined_public ms site entry = record { name = entry.name; value = joined_tree ms
 -- the same of an item
 abbrev pub joined_item : List Parts → Sited → Item → Item
 joined_item ms site (Literal bytes) = Literal bytes
-joined_item ms site (Field kind t size) = Field kind (joined_tree ms site t) size
+joined_item ms site (Field kind size t) = Field kind size (joined_tree ms site t)
 
 -- the same of a load, whose section goes by its flat number
 abbrev pub joined_load : List Parts → Sited → Load → Load

@@ -58,7 +58,7 @@ HasZeroDivisor ms s (sites.Counter section) =
     × IsTrue (has_zero_divisor s site (counter s earlier section) t)
 HasZeroDivisor ms s (sites.Field section at) =
     (earlier : List Step) × (site : Sited) × (kind : FieldKind) × (t : Tree) × (size : ℕ)
-    × IsLoadedAt ms s earlier site section at (Field kind t size)
+    × IsLoadedAt ms s earlier site section at (Field kind size t)
     × IsTrue (has_zero_divisor s site (Some at) t)
 HasZeroDivisor ms s sites.Start = (e : SitedTree) × StandsIn e (start_trees ms) × IsTrue (has_zero_divisor s e.0 None e.1)
 HasZeroDivisor ms s (sites.Debug n) = (e : SitedTree) × (slice_get (debug_trees ms) n ≡ Some e) × IsTrue (has_zero_divisor s e.0 None e.1)
@@ -84,7 +84,7 @@ StandsInWalk ms s (loaded_twice address) =
     × IsLoadedAt ms s earlier site section at item × (q < byte_count item) × (address ≡ (at + q) % s.modulus)
     × (StandsIn address (loaded_addresses s earlier) ⊎ ((p : ℕ) × (p < q) × (address ≡ (at + p) % s.modulus)))
 StandsInWalk ms s (overflow section at kind size v) =
-    (earlier : List Step) × (site : Sited) × (t : Tree) × IsLoadedAt ms s earlier site section at (Field kind t size)
+    (earlier : List Step) × (site : Sited) × (t : Tree) × IsLoadedAt ms s earlier site section at (Field kind size t)
     × (value s site (Some at) t ≡ Some v) × ¬ IsTrue (fits s.modulus kind size v)
 StandsInWalk ms s _ = ⊥
 

@@ -53,7 +53,7 @@ pub data StepReading : Type 0 where
 -- what an item means at a counter
 abbrev pub item_reading : Setting → Sited → ℕ → Option ℕ → Item → StepReading
 item_reading s site section at (Literal bytes) = literal_reading section at bytes
-item_reading s site section at (Field kind t size) = field_reading section at kind size (value s site at t)
+item_reading s site section at (Field kind size t) = field_reading section at kind size (value s site at t)
 
 -- what a step means after the steps before it, the latest first
 abbrev pub step_reading : Setting → List Step → Step → StepReading

@@ -36,7 +36,7 @@ IsExpressionAt ms None site t =
     ((q : SitedPublic) × StandsIn q (flat_publics ms) × (q.site ≡ site) × (q.entry.value ≡ t))
     ⊎ (StandsIn (site, t) (start_trees ms) ⊎ StandsIn (site, t) (debug_trees ms))
 IsExpressionAt ms (Some c) site t =
-    IsStepAfter ms c.0 (counter_step site c.1 t) ⊎ ((kind : FieldKind) × (size : ℕ) × IsStepAfter ms c.0 (item_step site c.1 (Field kind t size)))
+    IsStepAfter ms c.0 (counter_step site c.1 t) ⊎ ((kind : FieldKind) × (size : ℕ) × IsStepAfter ms c.0 (item_step site c.1 (Field kind size t)))
 
 -- a variable of the expression mentions the public
 abbrev pub IsMentionedIn : Setting → Sited → Tree → SitedPublic → Type 0

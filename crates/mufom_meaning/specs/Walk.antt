@@ -68,7 +68,7 @@ overflow_at modulus section at kind size (Some v) = if fits modulus kind size v 
 -- what is met at the expression of a field
 abbrev pub field_fact : Setting → Sited → ℕ → ℕ → Item → Option LocateFact
 field_fact s site section at (Literal bytes) = None
-field_fact s site section at (Field kind t size) =
+field_fact s site section at (Field kind size t) =
     zero_divisor_at s site (Some at) t (sites.Field section at) or_else overflow_at s.modulus section at kind size (value s site (Some at) t)
 
 -- the base of a section, by its flat number

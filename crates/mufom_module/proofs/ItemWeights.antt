@@ -25,7 +25,7 @@ at_most n h = search rules
 
 item-weight : (item : Item) → has_bad_size item ≡ false → byte_count item ≤ item_weight item
 item-weight (Literal bytes) h = omega arith
-item-weight (Field kind value size) h = let few = at_most size (neither (size == 0) (nat_lt 8 size) h).1 in omega (arith, few)
+item-weight (Field kind size value) h = let few = at_most size (neither (size == 0) (nat_lt 8 size) h).1 in omega (arith, few)
 
 items-weight : (items : List Item) → list_any has_bad_size items ≡ false → lengths_of items ≤ items_weight items
 items-weight [] h = omega arith

@@ -175,11 +175,11 @@ length-field kind value size =
 
 length-item : (n : ℕ) (item : Item) → length (w.item widest item) ≡ item_weight item
 length-item n (Literal bytes) = omega arith
-length-item n (Field kind value size) = length-field kind value size
+length-item n (Field kind size value) = length-field kind value size
 
 length-single : (item : Item) → length (w.single widest item) ≡ 1 + item_weight item
 length-single (Literal bytes) = omega arith
-length-single (Field kind value size) = let its = length-field kind value size in omega (arith, its)
+length-single (Field kind size value) = let its = length-field kind value size in omega (arith, its)
 
 length-repeated : (items : List Item) → length (w.repeated widest items) ≡ 1 + items_weight items
 length-repeated [] = refl

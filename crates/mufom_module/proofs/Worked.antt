@@ -45,11 +45,11 @@ unfolding weight
 weighs = refl
 
 -- a field of nine bytes
-wide : first_defect (record small { loads = loads.SetSection 0 ∷ loads.One (items.Field kinds.Either (number 0) 9) ∷ [] }) ≡ Some d.FieldSize
+wide : first_defect (record small { loads = loads.SetSection 0 ∷ loads.One (items.Field kinds.Either 9 (number 0)) ∷ [] }) ≡ Some d.FieldSize
 wide = refl
 
 -- a variable of a section that is not there goes before its being a program counter
-other_counter : first_defect (record small { loads = loads.SetSection 0 ∷ loads.One (items.Field kinds.Either (variable letters.P 1) 4) ∷ [] })
+other_counter : first_defect (record small { loads = loads.SetSection 0 ∷ loads.One (items.Field kinds.Either 4 (variable letters.P 1)) ∷ [] })
     ≡ Some d.Position
 other_counter = refl
 

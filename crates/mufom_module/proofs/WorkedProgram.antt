@@ -42,8 +42,8 @@ program = record {
   loads = loads.SetSection 0
       ∷ loads.SetPc 0 (variable letters.R 0)
       ∷ loads.One (items.Literal (0x4E ∷ 0x71 ∷ 0x4E ∷ 0x71 ∷ []))
-      ∷ loads.One (items.Field kinds.Either entry 4)
-      ∷ loads.One (items.Field kinds.Signed (two minus (variable letters.X 0) (variable letters.P 0)) 4)
+      ∷ loads.One (items.Field kinds.Either 4 entry)
+      ∷ loads.One (items.Field kinds.Signed 4 (two minus (variable letters.X 0) (variable letters.P 0)))
       ∷ [];
   start = Some entry;
 }

@@ -40,7 +40,7 @@ any_item test (Repeat count items) = list_any test items
 -- an expression of an item passes the test
 abbrev pub item_any : (Tree → Bool) → Item → Bool
 item_any test (Literal bytes) = false
-item_any test (Field kind value size) = test value
+item_any test (Field kind size value) = test value
 
 -- an expression of a load passes the test
 abbrev pub load_any : (Tree → Bool) → Load → Bool

@@ -64,12 +64,12 @@ lacks_base s = s.absolute && is_none s.base
 -- a literal of more than 65,535 bytes
 abbrev pub is_long_literal : Item → Bool
 is_long_literal (Literal bytes) = is_long bytes
-is_long_literal (Field kind value size) = false
+is_long_literal (Field kind size value) = false
 
 -- a field has 1 to 8 bytes
 abbrev pub has_bad_size : Item → Bool
 has_bad_size (Literal bytes) = false
-has_bad_size (Field kind value size) = (size == 0) || nat_lt 8 size
+has_bad_size (Field kind size value) = (size == 0) || nat_lt 8 size
 
 -- ---- positions
 

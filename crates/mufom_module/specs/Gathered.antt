@@ -158,7 +158,7 @@ marks ix part = filter_map (λ p. mark_by ix p p.row) part
 -- the item that a record is; where no size is given a field is as wide as an address
 abbrev pub item_by : Indexes → ℕ → SpelledRecord → Record → Option Item
 item_by ix maus p (r.ConstantItem run) = Some (Literal (text_in p run))
-item_by ix maus p (r.FieldItem kind value n) = Some (Field kind (positioned ix (tree_in p value)) (unwrap_or n maus))
+item_by ix maus p (r.FieldItem kind value n) = Some (Field kind (unwrap_or n maus) (positioned ix (tree_in p value)))
 item_by ix maus p _ = None
 
 -- the items at the start of these records, up to the first record that is none

@@ -64,7 +64,7 @@ pub record IsMadeReference (r : Reference) : Type 0 where
 -- a literal is of bytes, and the size of a field is one
 abbrev pub IsMadeItem : Item → Type 0
 IsMadeItem (Literal bytes) = AreBytes bytes
-IsMadeItem (Field kind value size) = IsMadeTree value × (size < 256)
+IsMadeItem (Field kind size value) = IsMadeTree value × (size < 256)
 
 -- what a load names and holds
 abbrev pub IsMadeLoad : Load → Type 0

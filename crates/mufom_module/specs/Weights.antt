@@ -113,7 +113,7 @@ marks_weight marks = sum_by mark_weight marks
 -- an item of an LR
 abbrev pub item_weight : Item → ℕ
 item_weight (Literal bytes) = 9 + length bytes
-item_weight (Field kind value size) = 12 + expression_weight value
+item_weight (Field kind size value) = 12 + expression_weight value
 
 -- all items of an LR
 abbrev pub items_weight : List Item → ℕ

@@ -221,12 +221,12 @@ module _ (style : Style) where
   -- an item of an LR
   abbrev pub item : Item → List ℕ
   item (Literal bytes) = counted bytes
-  item (Field kind value size) = field kind value size
+  item (Field kind size value) = field kind value size
 
   -- a literal is an LD, a field an LR of its own
   abbrev pub single : Item → List ℕ
   single (Literal bytes) = CONSTANT ∷ counted bytes
-  single (Field kind value size) = RELOCATE ∷ field kind value size
+  single (Field kind size value) = RELOCATE ∷ field kind value size
 
   -- exactly one literal is repeated as an LD, anything else as an LR of its items
   abbrev pub repeated : List Item → List ℕ

@@ -27,8 +27,8 @@ use Rattle.mufom_prune.specs.Pruned.{new_variable, new_tree, new_item, new_load,
 -- a test that fails at a load fails at each of its expressions
 item_was : (test : Tree → Bool) (item : Item) → item_any test item ≡ false → (t : Tree) → In t (item_trees item) → test t ≡ false
 item_was test (Literal bytes) e t h = absurd h
-item_was test (Field kind value size) e t (inl same) = ap test (sym same) ∙ e
-item_was test (Field kind value size) e t (inr h) = absurd h
+item_was test (Field kind size value) e t (inl same) = ap test (sym same) ∙ e
+item_was test (Field kind size value) e t (inr h) = absurd h
 
 pub load_was : (test : Tree → Bool) (load : Load) → load_any test load ≡ false → (t : Tree) → In t (load_trees load) → test t ≡ false
 load_was test (SetSection section) e t h = absurd h
@@ -42,7 +42,7 @@ module _ (new : NewPositions) where
   item_fails : (test : Tree → Bool) (item : Item) → ((t : Tree) → In t (item_trees item) → test (new_tree new t) ≡ false)
       → item_any test (new_item new item) ≡ false
   item_fails test (Literal bytes) each = refl
-  item_fails test (Field kind t size) each = each t (inl refl)
+  item_fails test (Field kind size t) each = each t (inl refl)
 
   -- a test that fails at each new expression of a load fails at the new load
   pub load_fails : (test : Tree → Bool) (load : Load) → ((t : Tree) → In t (load_trees load) → test (new_tree new t) ≡ false)

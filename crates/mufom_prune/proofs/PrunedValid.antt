@@ -203,11 +203,11 @@ module _ (m : Parts) (keep : List ℕ) (marks : List Bool) (kept : IsKept m keep
 
   long_item : (item : Item) → is_long_literal (new_item (positions_of (remains m marks)) item) ≡ is_long_literal item
   long_item (Literal bytes) = refl
-  long_item (Field kind t size) = refl
+  long_item (Field kind size t) = refl
 
   size_item : (item : Item) → has_bad_size (new_item (positions_of (remains m marks)) item) ≡ has_bad_size item
   size_item (Literal bytes) = refl
-  size_item (Field kind t size) = refl
+  size_item (Field kind size t) = refl
 
   too_heavy : has_defect (without_others m (remains m marks)) kinds.Weight ≡ false
   too_heavy =

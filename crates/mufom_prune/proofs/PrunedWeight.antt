@@ -47,7 +47,7 @@ module _ (new : NewPositions) where
 
   item-new : (item : Item) → item_weight (new_item new item) ≡ item_weight item
   item-new (Literal bytes) = refl
-  item-new (Field kind t size) = ap (λ n. 12 + n) (expression-renamed (new_variable new) t)
+  item-new (Field kind size t) = ap (λ n. 12 + n) (expression-renamed (new_variable new) t)
 
   load-new : (load : Load) → load_weight (new_load new load) ≡ load_weight load
   load-new (SetSection section) = refl

@@ -62,7 +62,7 @@ abbrev at : ℕ → Tree
 at n = variable letters.R n
 
 abbrev field : Tree → Load
-field t = One (Field Either t 4)
+field t = One (Field Either 4 t)
 
 abbrev bytes : Load
 bytes = One (Literal (1 ∷ 2 ∷ 3 ∷ 4 ∷ []))
@@ -87,10 +87,10 @@ plain_pruned = record {
 abbrev ring : Parts
 ring = a_module (section_of a ∷ section_of b ∷ based_at c 64 ∷ section_of (codes "d") ∷ []) (public_of (codes "main") (at 1) ∷ []) []
     (SetSection 0 ∷ SetPc 0 (two plus (variable letters.P 0) (number 1)) ∷ SetPc 3 (at 3) ∷ SetPc 0 (at 0) ∷ Repeat 2
-    (Field Either (at 1) 2 ∷ []) ∷ SetSection 1 ∷ field (at 0) ∷ SetSection 3 ∷ bytes ∷ []) None
+    (Field Either 2 (at 1) ∷ []) ∷ SetSection 1 ∷ field (at 0) ∷ SetSection 3 ∷ bytes ∷ []) None
 
 pub ring_pruned : IsPruned (a_module (section_of a ∷ section_of b ∷ based_at c 64 ∷ []) (public_of (codes "main") (at 1) ∷ []) []
-    (SetSection 0 ∷ SetPc 0 (two plus (variable letters.P 0) (number 1)) ∷ SetPc 0 (at 0) ∷ Repeat 2 (Field Either (at 1) 2 ∷ []) ∷ SetSection
+    (SetSection 0 ∷ SetPc 0 (two plus (variable letters.P 0) (number 1)) ∷ SetPc 0 (at 0) ∷ Repeat 2 (Field Either 2 (at 1) ∷ []) ∷ SetSection
     1 ∷ field (at 0) ∷ []) None) ring (codes "main")
 ring_pruned = record {
   marks = true ∷ true ∷ true ∷ false ∷ true ∷ [];

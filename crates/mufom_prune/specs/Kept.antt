@@ -45,7 +45,7 @@ all_mentions m ts = flat_map (mentions m) ts
 -- the expression of an item
 abbrev pub item_trees : Item → List Tree
 item_trees (Literal bytes) = []
-item_trees (Field kind value size) = value ∷ []
+item_trees (Field kind size value) = value ∷ []
 
 -- the expressions of a load
 abbrev pub load_trees : Load → List Tree

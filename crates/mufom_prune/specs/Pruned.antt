@@ -96,7 +96,7 @@ new_public c p = record { name = p.name; value = new_tree c p.value; notes = p.n
 -- the same of an item
 abbrev pub new_item : NewPositions → Item → Item
 new_item c (Literal bytes) = Literal bytes
-new_item c (Field kind t size) = Field kind (new_tree c t) size
+new_item c (Field kind size t) = Field kind size (new_tree c t)
 
 -- the same of a load
 abbrev pub new_load : NewPositions → Load → Load

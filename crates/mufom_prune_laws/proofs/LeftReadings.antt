@@ -57,7 +57,7 @@ module _ (home home' : Sited) (first : home.first_section ≡ 0) (first' : home'
 
   same_length : (item : Item) → byte_count (new_item (positions_of c) item) ≡ byte_count item
   same_length (Literal bytes) = refl
-  same_length (Field kind t size) = refl
+  same_length (Field kind size t) = refl
 
   base_at : (n : ℕ) → is_marked c.sections n ≡ true → slice_get s'.bases (to n) ≡ slice_get s.bases n
   base_at n h =
@@ -100,7 +100,7 @@ module _ (home home' : Sited) (first : home.first_section ≡ 0) (first' : home'
   reading_stays : (earlier : List Step) (step : Step) → stays_reading (step_reading s earlier step) ≡ stays_step home home' first first' c step
   reading_stays earlier (counter_step site section t) = refl
   reading_stays earlier (item_step site section (Literal bytes)) = refl
-  reading_stays earlier (item_step site section (Field kind t size)) = refl
+  reading_stays earlier (item_step site section (Field kind size t)) = refl
 
   one_reading : (earlier : List Step) → All earlier → (step : Step) → stays_step home home' first first' c step ≡ true
       → Holds home home' first first' c Whole step
@@ -111,7 +111,7 @@ module _ (home home' : Sited) (first : home.first_section ≡ 0) (first' : home'
       ∙ ap (λ (h : Sited). value s h (counter s earlier section) t) (sym holds.0) in
       ap (counter_reading (to section)) set
   one_reading earlier a (item_step site section (Literal bytes)) e holds = ap (λ pc. literal_reading (to section) pc bytes) (same_counter earlier a section e)
-  one_reading earlier a (item_step site section (Field kind t size)) e holds =
+  one_reading earlier a (item_step site section (Field kind size t)) e holds =
       let before = same_counter earlier a section e in
       let set = ap (λ pc. value s' home' pc (new_tree (positions_of c) t)) before ∙ same (counter s earlier section) t holds.1
       ∙ ap (λ (h : Sited). value s h (counter s earlier section) t) (sym holds.0) in

@@ -146,7 +146,7 @@ module _ (home home' : Sited) (first : home.first_section ≡ 0) (first' : home'
   module _ (Whole : Tree → Type 0) where
     abbrev pub HoldsItem : Item → Type 0
     HoldsItem (Literal bytes) = Unit {0}
-    HoldsItem (Field kind t size) = Whole t
+    HoldsItem (Field kind size t) = Whole t
 
     -- the step is one of the module, and its expression is whole
     abbrev pub Holds : Step → Type 0
@@ -167,7 +167,7 @@ module _ (home home' : Sited) (first : home.first_section ≡ 0) (first' : home'
 
     hold-item : (item : Item) → ((t : Tree) → In t (item_trees item) → Whole t) → HoldsItem item
     hold-item (Literal bytes) each = tt
-    hold-item (Field kind t size) each = each t (inl refl)
+    hold-item (Field kind size t) each = each t (inl refl)
 
     hold-items : (current : Option ℕ) (items : List Item) → (is_left c.sections current ≡ true → (item : Item) → In item items → HoldsItem item)
         → AllHold (item_steps home current items)

@@ -49,9 +49,9 @@ const PROGRAM_TEXT: &str =
     105, 116] }, weak: None, notes: List { items: [] } }] } }, debug: List { items: [] \
     }, loads: List { items: [SetSection(0), SetPc { section: 0, value: Postfix { tokens: \
     [Var(R, 0)] } }, One(Literal(Bytes { held: [78, 113, 78, 113] })), One(Field { kind: \
-    Either, value: Postfix { tokens: [Var(R, 0), Number(4), Fun(Plus)] }, size: 4 }), \
-    One(Field { kind: Signed, value: Postfix { tokens: [Var(X, 0), Var(P, 0), \
-    Fun(Minus)] }, size: 4 })] }, start: Some(Postfix { tokens: [Var(R, 0), Number(4), \
+    Either, size: 4, value: Postfix { tokens: [Var(R, 0), Number(4), Fun(Plus)] } }), \
+    One(Field { kind: Signed, size: 4, value: Postfix { tokens: [Var(X, 0), Var(P, 0), \
+    Fun(Minus)] } })] }, start: Some(Postfix { tokens: [Var(R, 0), Number(4), \
     Fun(Plus)] }) }";
 
 // Blocks of each kind, a name, its note and its values.

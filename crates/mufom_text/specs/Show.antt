@@ -147,7 +147,7 @@ bytes_text (b ∷ bytes) = codes "bytes " ++ decimal (length (b ∷ bytes)) ++ c
 
 abbrev pub item_text : Item → Text
 item_text (Literal bytes) = bytes_text bytes
-item_text (Field kind value size) = codes "field " ++ kind_text kind ++ codes " " ++ decimal size ++ codes " = " ++ infix_text value
+item_text (Field kind size value) = codes "field " ++ kind_text kind ++ codes " " ++ decimal size ++ codes " = " ++ infix_text value
 
 -- the line after the items of a repeat, which only a listing has
 abbrev pub repeat_end : TextForm → Text

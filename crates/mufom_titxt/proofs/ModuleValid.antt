@@ -48,7 +48,7 @@ ArePlain n [] = Unit {0}
 ArePlain n (SetSection section ∷ loads) = (section < n) × ArePlain n loads
 ArePlain n (SetPc section value ∷ loads) = ⊥
 ArePlain n (One (Literal bytes) ∷ loads) = (length bytes ≤ 65535) × ArePlain n loads
-ArePlain n (One (Field kind value size) ∷ loads) = ⊥
+ArePlain n (One (Field kind size value) ∷ loads) = ⊥
 ArePlain n (Repeat count items ∷ loads) = ⊥
 
 plain-append : (n : ℕ) (xs ys : List Load) → ArePlain n xs → ArePlain n ys → ArePlain n (xs ++ ys)
@@ -56,7 +56,7 @@ plain-append n [] ys p q = q
 plain-append n (SetSection section ∷ xs) ys p q = (p.0, plain-append n xs ys p.1 q)
 plain-append n (SetPc section value ∷ xs) ys p q = p
 plain-append n (One (Literal bytes) ∷ xs) ys p q = (p.0, plain-append n xs ys p.1 q)
-plain-append n (One (Field kind value size) ∷ xs) ys p q = p
+plain-append n (One (Field kind size value) ∷ xs) ys p q = p
 plain-append n (Repeat count items ∷ xs) ys p q = p
 
 -- a part is no longer than it may be
@@ -83,7 +83,7 @@ placed m (SetSection section ∷ loads) p = two_false (nat_le (length m.sections
     (two_false (nat_le (length m.sections) section) false (not_le (length m.sections) section p.0) refl) (placed m loads p.1)
 placed m (SetPc section value ∷ loads) p = absurd p
 placed m (One (Literal bytes) ∷ loads) p = placed m loads p.1
-placed m (One (Field kind value size) ∷ loads) p = absurd p
+placed m (One (Field kind size value) ∷ loads) p = absurd p
 placed m (Repeat count items ∷ loads) p = absurd p
 
 counters : (n : ℕ) (current : Option ℕ) (loads : List Load) → ArePlain n loads → list_any misplaces_counter (placed_from current loads) ≡ false
@@ -91,7 +91,7 @@ counters n current [] p = refl
 counters n current (SetSection section ∷ loads) p = counters n (Some section) loads p.1
 counters n current (SetPc section value ∷ loads) p = absurd p
 counters n current (One (Literal bytes) ∷ loads) p = counters n current loads p.1
-counters n current (One (Field kind value size) ∷ loads) p = absurd p
+counters n current (One (Field kind size value) ∷ loads) p = absurd p
 counters n current (Repeat count items ∷ loads) p = absurd p
 
 somewhere : (n section : ℕ) (loads : List Load) → ArePlain n loads → list_any loads_nowhere (placed_from (Some section) loads) ≡ false
@@ -99,7 +99,7 @@ somewhere n current [] p = refl
 somewhere n current (SetSection section ∷ loads) p = somewhere n section loads p.1
 somewhere n current (SetPc section value ∷ loads) p = absurd p
 somewhere n current (One (Literal bytes) ∷ loads) p = somewhere n current loads p.1
-somewhere n current (One (Field kind value size) ∷ loads) p = absurd p
+somewhere n current (One (Field kind size value) ∷ loads) p = absurd p
 somewhere n current (Repeat count items ∷ loads) p = absurd p
 
 begun : (n section : ℕ) (runs : List Run) → ArePlain n (loads_from section runs) → list_any loads_nowhere (placed_from None (loads_from section runs)) ≡ false
@@ -112,7 +112,7 @@ short n (SetSection section ∷ loads) p = short n loads p.1
 short n (SetPc section value ∷ loads) p = absurd p
 short n (One (Literal bytes) ∷ loads) p = two_false (is_long bytes) (list_any (any_item is_long_literal) loads) (not_lt 65535 (length bytes) p.0)
     (short n loads p.1)
-short n (One (Field kind value size) ∷ loads) p = absurd p
+short n (One (Field kind size value) ∷ loads) p = absurd p
 short n (Repeat count items ∷ loads) p = absurd p
 
 sized : (n : ℕ) (loads : List Load) → ArePlain n loads → list_any (any_item has_bad_size) loads ≡ false
@@ -120,7 +120,7 @@ sized n [] p = refl
 sized n (SetSection section ∷ loads) p = sized n loads p.1
 sized n (SetPc section value ∷ loads) p = absurd p
 sized n (One (Literal bytes) ∷ loads) p = sized n loads p.1
-sized n (One (Field kind value size) ∷ loads) p = absurd p
+sized n (One (Field kind size value) ∷ loads) p = absurd p
 sized n (Repeat count items ∷ loads) p = absurd p
 
 -- ---- weight

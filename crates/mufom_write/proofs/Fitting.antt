@@ -216,7 +216,7 @@ record IsSoundItem (m : Parts) (item : Item) : Type 0 where
 
 item-fits : (m : Parts) (item : Item) → AreFew m → IsSoundItem m item → IsFittingItem item
 item-fits m (Literal bytes) few sound = (sound.short, sound.made)
-item-fits m (Field kind value size) few sound = let below = sound.made.1 in (tree-fits m value few sound.made.0 sound.inside, omega (arith, below), sound.sized)
+item-fits m (Field kind size value) few sound = let below = sound.made.1 in (tree-fits m value few sound.made.0 sound.inside, omega (arith, below), sound.sized)
 
 items-sound : (m : Parts) (items : List Item) → AllByRecursion IsMadeItem items → list_any is_long_literal items ≡ false → list_any has_bad_size items ≡ false
     → list_any (item_any (names_outside (counts_of m))) items ≡ false → AllByRecursion (IsSoundItem m) items

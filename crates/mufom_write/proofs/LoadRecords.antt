@@ -43,7 +43,7 @@ field_record kind value size = the_record (r.FieldItem kind (span_at 1 (length (
 
 abbrev pub item_record : Item → SpelledRecord
 item_record (Literal bytes) = literal_record bytes
-item_record (Field kind value size) = field_record kind value size
+item_record (Field kind size value) = field_record kind value size
 
 abbrev pub item_records : List Item → List SpelledRecord
 item_records [] = []
@@ -54,7 +54,7 @@ relocate_record = the_record r.Relocate (0xE4 ∷ [])
 
 abbrev pub single_records : Item → List SpelledRecord
 single_records (Literal bytes) = the_record (r.Constant (run_at 1 bytes)) (0xED ∷ w.counted shortest bytes) ∷ []
-single_records (Field kind value size) = relocate_record ∷ field_record kind value size ∷ []
+single_records (Field kind size value) = relocate_record ∷ field_record kind value size ∷ []
 
 abbrev pub repeat_record : ℕ → SpelledRecord
 repeat_record count = the_record (r.RepeatRelocate count) (0xF7 ∷ (w.number shortest count ++ 0xE4 ∷ []))
@@ -64,7 +64,7 @@ repeat_records count [] = repeat_record count ∷ []
 repeat_records count (Literal bytes ∷ []) =
     the_record (r.RepeatConstant count (run_at (1 + length (w.number shortest count) + 1) bytes))
     (0xF7 ∷ (w.number shortest count ++ 0xED ∷ w.counted shortest bytes)) ∷ []
-repeat_records count (Field kind value size ∷ []) = repeat_record count ∷ field_record kind value size ∷ []
+repeat_records count (Field kind size value ∷ []) = repeat_record count ∷ field_record kind value size ∷ []
 repeat_records count (first ∷ second ∷ more) = repeat_record count ∷ item_records (first ∷ second ∷ more)
 
 abbrev pub load_records : Load → List SpelledRecord
@@ -90,7 +90,7 @@ one-the_record p = append-nil p.bytes
 
 item-bytes : (item : Item) → (item_record item).bytes ≡ w.item shortest item
 item-bytes (Literal bytes) = refl
-item-bytes (Field kind value size) = refl
+item-bytes (Field kind size value) = refl
 
 items-bytes : (k : ℕ) (items : List Item) → bytes_of (item_records items) ≡ w.each_from k (λ _. w.item shortest) items
 items-bytes k [] = refl
@@ -98,7 +98,7 @@ items-bytes k (item ∷ items) = let first = item-bytes item in let rest = items
 
 single-bytes : (item : Item) → bytes_of (single_records item) ≡ w.single shortest item
 single-bytes (Literal bytes) = one-the_record (the_record (r.Constant (run_at 1 bytes)) (0xED ∷ w.counted shortest bytes))
-single-bytes (Field kind value size) = ap (λ (l : List ℕ). 0xE4 ∷ l) (one-the_record (field_record kind value size))
+single-bytes (Field kind size value) = ap (λ (l : List ℕ). 0xE4 ∷ l) (one-the_record (field_record kind value size))
 
 after-repeat : (count : ℕ) (rest : List ℕ) → (0xF7 ∷ (w.number shortest count ++ 0xE4 ∷ [])) ++ rest ≡ 0xF7 ∷ (w.number shortest count ++ 0xE4 ∷ rest)
 after-repeat count rest = ap (λ (l : List ℕ). 0xF7 ∷ l) (append_assoc (w.number shortest count) (0xE4 ∷ []) rest)
@@ -108,7 +108,7 @@ repeat-bytes count [] = one-the_record (repeat_record count)
 repeat-bytes count (Literal bytes ∷ []) =
     one-the_record (the_record (r.RepeatConstant count (run_at (1 + length (w.number shortest count) + 1) bytes))
     (0xF7 ∷ (w.number shortest count ++ 0xED ∷ w.counted shortest bytes)))
-repeat-bytes count (Field kind value size ∷ []) =
+repeat-bytes count (Field kind size value ∷ []) =
     after-repeat count (bytes_of (field_record kind value size ∷ []))
     ∙ ap (λ (l : List ℕ). 0xF7 ∷ (w.number shortest count ++ 0xE4 ∷ l)) (one-the_record (field_record kind value size))
 repeat-bytes count (first ∷ second ∷ more) =
@@ -138,7 +138,7 @@ start-bytes (Some value) = one-the_record (the_record (r.Start (span_at 3 (lengt
 
 abbrev pub IsFittingItem : Item → Type 0
 IsFittingItem (Literal bytes) = (is_long bytes ≡ false) × AreBytes bytes
-IsFittingItem (Field kind value size) = IsFittingTree value × (size < 2 ^ 64) × (((size == 0) || nat_lt 8 size) ≡ false)
+IsFittingItem (Field kind size value) = IsFittingTree value × (size < 2 ^ 64) × (((size == 0) || nat_lt 8 size) ≡ false)
 
 abbrev pub IsFittingLoad : Load → Type 0
 IsFittingLoad (SetSection section) = section_index section < 2 ^ 32
@@ -209,7 +209,7 @@ literal-whole bytes next short are =
     subst (λ (m : Mode). IsWholeRecord m (r.ConstantItem (run_at 0 bytes)) (w.counted shortest bytes) next) (sym same)
     (constant_item-whole bytes short are next)
 
-field-first : (kind : FieldKind) (value : Tree) (size : ℕ) (next : Option ℕ) → IsFittingItem (Field kind value size)
+field-first : (kind : FieldKind) (value : Tree) (size : ℕ) (next : Option ℕ) → IsFittingItem (Field kind size value)
     → IsWholeRecord (mode_of true (w.field shortest kind value size))
     (r.FieldItem kind (span_at 1 (length (w.expression shortest value))) (Some size)) (w.field shortest kind value size) next
 field-first Signed value size next fits = field-whole Signed (indexed value) value size (expression-spells value fits.0) fits.1 fits.2 next
@@ -221,7 +221,7 @@ items-laid : (items : List Item) (rest : List SpelledRecord) (after : List ℕ) 
 items-laid [] rest after fit laid = laid.whole true
 items-laid (Literal bytes ∷ items) rest after fit laid =
     (literal-whole bytes (first_of (bytes_of (item_records items ++ rest) ++ after) None) fit.0.0 fit.0.1, items-laid items rest after fit.1 laid)
-items-laid (Field kind value size ∷ items) rest after fit laid =
+items-laid (Field kind size value ∷ items) rest after fit laid =
     (field-first kind value size (first_of (bytes_of (item_records items ++ rest) ++ after) None) fit.0, items-laid items rest after fit.1 laid)
 
 -- ---- loads
@@ -230,9 +230,9 @@ single-laid : (item : Item) (rest : List SpelledRecord) (after : List ℕ) → I
 single-laid (Literal bytes) rest after fits laid =
     plain-first (the_record (r.Constant (run_at 1 bytes)) (0xED ∷ w.counted shortest bytes)) rest after (constant-whole bytes fits.0 fits.1)
     (omega arith) laid.code (laid.whole false)
-single-laid (Field kind value size) rest after fits laid =
+single-laid (Field kind size value) rest after fits laid =
     open-first relocate_record (field_record kind value size ∷ rest) after relocate-whole (omega arith)
-    (items-laid (Field kind value size ∷ []) rest after (fits, tt) laid)
+    (items-laid (Field kind size value ∷ []) rest after (fits, tt) laid)
 
 repeat-laid : (count : ℕ) (items : List Item) (rest : List SpelledRecord) (after : List ℕ) → count < 2 ^ 64 → AllByRecursion IsFittingItem items
     → AreLaid rest after → AreLaid (repeat_records count items ++ rest) after
@@ -241,9 +241,9 @@ repeat-laid count (Literal bytes ∷ []) rest after hc fit laid =
     plain-first (the_record (r.RepeatConstant count (run_at (1 + length (w.number shortest count) + 1) bytes))
     (0xF7 ∷ (w.number shortest count ++ 0xED ∷ w.counted shortest bytes))) rest after
     (repeat_constant-whole count bytes hc fit.0.0 fit.0.1) (omega arith) laid.code (laid.whole false)
-repeat-laid count (Field kind value size ∷ []) rest after hc fit laid =
+repeat-laid count (Field kind size value ∷ []) rest after hc fit laid =
     open-first (repeat_record count) (field_record kind value size ∷ rest) after (repeat_relocate-whole count hc) (omega arith)
-    (items-laid (Field kind value size ∷ []) rest after fit laid)
+    (items-laid (Field kind size value ∷ []) rest after fit laid)
 repeat-laid count (first ∷ second ∷ more) rest after hc fit laid =
     open-first (repeat_record count) (item_records (first ∷ second ∷ more)
     ++ rest) after (repeat_relocate-whole count hc) (omega arith) (items-laid (first ∷ second ∷ more) rest after fit laid)
@@ -269,16 +269,16 @@ loads-laid (load ∷ loads) after fit code = load-laid load (loads_records loads
 items-own : (items : List Item) → list_all (λ p. stands_in data_part p.row) (item_records items) ≡ true
 items-own [] = refl
 items-own (Literal bytes ∷ items) = items-own items
-items-own (Field kind value size ∷ items) = items-own items
+items-own (Field kind size value ∷ items) = items-own items
 
 single-own : (item : Item) → list_all (λ p. stands_in data_part p.row) (single_records item) ≡ true
 single-own (Literal bytes) = refl
-single-own (Field kind value size) = refl
+single-own (Field kind size value) = refl
 
 repeat-own : (count : ℕ) (items : List Item) → list_all (λ p. stands_in data_part p.row) (repeat_records count items) ≡ true
 repeat-own count [] = refl
 repeat-own count (Literal bytes ∷ []) = refl
-repeat-own count (Field kind value size ∷ []) = refl
+repeat-own count (Field kind size value ∷ []) = refl
 repeat-own count (first ∷ second ∷ more) = items-own (first ∷ second ∷ more)
 
 load-own : (load : Load) → list_all (λ p. stands_in data_part p.row) (load_records load) ≡ true

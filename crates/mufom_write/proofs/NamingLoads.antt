@@ -37,16 +37,16 @@ use Rattle.mufom_write.proofs.Known.{DeclareEntries, declare-after, section-know
 items-plain : (items : List Item) → AllByRecursion IsPlain (item_records items)
 items-plain [] = tt
 items-plain (Literal bytes ∷ items) = (record { declares = refl; states = refl }, items-plain items)
-items-plain (Field kind value size ∷ items) = (record { declares = refl; states = refl }, items-plain items)
+items-plain (Field kind size value ∷ items) = (record { declares = refl; states = refl }, items-plain items)
 
 single-plain : (item : Item) → AllByRecursion IsPlain (single_records item)
 single-plain (Literal bytes) = (record { declares = refl; states = refl }, tt)
-single-plain (Field kind value size) = (record { declares = refl; states = refl }, (record { declares = refl; states = refl }, tt))
+single-plain (Field kind size value) = (record { declares = refl; states = refl }, (record { declares = refl; states = refl }, tt))
 
 repeat-plain : (count : ℕ) (items : List Item) → AllByRecursion IsPlain (repeat_records count items)
 repeat-plain count [] = (record { declares = refl; states = refl }, tt)
 repeat-plain count (Literal bytes ∷ []) = (record { declares = refl; states = refl }, tt)
-repeat-plain count (Field kind value size ∷ []) = (record { declares = refl; states = refl }, (record { declares = refl; states = refl }, tt))
+repeat-plain count (Field kind size value ∷ []) = (record { declares = refl; states = refl }, (record { declares = refl; states = refl }, tt))
 repeat-plain count (first ∷ second ∷ more) = (record { declares = refl; states = refl }, items-plain (first ∷ second ∷ more))
 
 load-plain : (load : Load) → AllByRecursion IsPlain (load_records load)
@@ -75,7 +75,7 @@ now-set before p own =
 
 module _ (m : Parts) where
   field-follows : (before : List SpelledRecord) (kind : FieldKind) (value : Tree) (size : ℕ) → DeclareEntries m before
-      → IsFittingItem (Field kind value size) → names_outside (counts_of m) value ≡ false
+      → IsFittingItem (Field kind size value) → names_outside (counts_of m) value ≡ false
       → Follows before (field_record kind value size)
   field-follows before kind value size its fits inside =
       let e = w.expression shortest value in
@@ -92,7 +92,7 @@ module _ (m : Parts) where
     items-follow (before ++ literal_record bytes ∷ []) items (declare-after m before (literal_record bytes ∷ []) its
         (record { declares = refl; states = refl }, tt)) fit.1 inside,
   )
-  items-follow before (Field kind value size ∷ items) its fit inside =
+  items-follow before (Field kind size value ∷ items) its fit inside =
       let parts = or_parts (names_outside (counts_of m) value) (list_any (item_any (names_outside (counts_of m))) items) inside in
       let p = field_record kind value size in (
         field-follows before kind value size its fit.0 parts.0,
@@ -121,8 +121,8 @@ module _ (m : Parts) where
         refl set,
     tt,
   )
-  single-follows before (Field kind value size) its set fits inside =
-      opened-follow before relocate_record (Field kind value size ∷ []) (record { declares = refl; states = refl }) refl set its (fits, tt)
+  single-follows before (Field kind size value) its set fits inside =
+      opened-follow before relocate_record (Field kind size value ∷ []) (record { declares = refl; states = refl }) refl set its (fits, tt)
       (ap (λ (b : Bool). b || false) inside)
 
   repeat-follows : (before : List SpelledRecord) (count : ℕ) (items : List Item) → DeclareEntries m before → sets_section before ≡ true
@@ -134,8 +134,8 @@ module _ (m : Parts) where
       let p = spelled (r.RepeatConstant count (run_at (1 + length (w.number shortest count) + 1) bytes))
       (0xF7 ∷ (w.number shortest count ++ 0xED ∷ w.counted shortest bytes)) in
       (loading-follows before p (record { declares = refl; states = refl }) refl set, tt)
-  repeat-follows before count (Field kind value size ∷ []) its set fit inside =
-      opened-follow before (repeat_record count) (Field kind value size ∷ []) (record { declares = refl; states = refl }) refl set its fit inside
+  repeat-follows before count (Field kind size value ∷ []) its set fit inside =
+      opened-follow before (repeat_record count) (Field kind size value ∷ []) (record { declares = refl; states = refl }) refl set its fit inside
   repeat-follows before count (first ∷ second ∷ more) its set fit inside =
       opened-follow before (repeat_record count) (first ∷ second ∷ more) (record { declares = refl; states = refl }) refl set its fit inside
 

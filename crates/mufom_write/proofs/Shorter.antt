@@ -280,11 +280,11 @@ module _ (style : Style) (number-within : (n : ℕ) → length (style.number n) 
 
   item-within : (n : ℕ) (item : Item) → length (w.item style item) ≤ item_weight item
   item-within n (Literal bytes) = counted-within bytes
-  item-within n (Field kind value size) = field-within kind value size
+  item-within n (Field kind size value) = field-within kind value size
 
   single-within : (item : Item) → length (w.single style item) ≤ 1 + item_weight item
   single-within (Literal bytes) = let its = counted-within bytes in omega (arith, its)
-  single-within (Field kind value size) = let its = field-within kind value size in omega (arith, its)
+  single-within (Field kind size value) = let its = field-within kind value size in omega (arith, its)
 
   repeated-within : (items : List Item) → length (w.repeated style items) ≤ 1 + items_weight items
   repeated-within [] = omega arith

@@ -48,28 +48,28 @@ module _ (m : Parts) (k : ℕ) where
       let first = literal-back bytes in
       let later = items-prefix items rest fit.1 inside in
       λ i. Literal (first i) ∷ later i
-  items-prefix (Field kind value size ∷ items) rest fit inside =
+  items-prefix (Field kind size value ∷ items) rest fit inside =
       let parts = or_parts (names_outside (counts_of m) value) (list_any (item_any (names_outside (counts_of m))) items) inside in
       let first = field-back kind value size fit.0.0 parts.0 in
       let later = items-prefix items rest fit.1 parts.1 in
-      λ i. Field kind (first i) size ∷ later i
+      λ i. Field kind size (first i) ∷ later i
 
   items-silent : (items : List Item) (rest : List SpelledRecord) → loads_of (written_indexes m k) m.maus (item_records items ++ rest)
       ≡ loads_of (written_indexes m k) m.maus rest
   items-silent [] rest = refl
   items-silent (Literal bytes ∷ items) rest = items-silent items rest
-  items-silent (Field kind value size ∷ items) rest = items-silent items rest
+  items-silent (Field kind size value ∷ items) rest = items-silent items rest
 
   -- loads begin with no item
   none-single : (item : Item) (rest : List SpelledRecord) → items_at_prefix (written_indexes m k) m.maus (single_records item ++ rest) ≡ []
   none-single (Literal bytes) rest = refl
-  none-single (Field kind value size) rest = refl
+  none-single (Field kind size value) rest = refl
 
   none-repeat : (count : ℕ) (items : List Item) (rest : List SpelledRecord)
       → items_at_prefix (written_indexes m k) m.maus (repeat_records count items ++ rest) ≡ []
   none-repeat count [] rest = refl
   none-repeat count (Literal bytes ∷ []) rest = refl
-  none-repeat count (Field kind value size ∷ []) rest = refl
+  none-repeat count (Field kind size value ∷ []) rest = refl
   none-repeat count (first ∷ second ∷ more) rest = refl
 
   none-first : (loads : List Load) → items_at_prefix (written_indexes m k) m.maus (loads_records loads) ≡ []
@@ -92,8 +92,8 @@ module _ (m : Parts) (k : ℕ) where
       let n = w.number shortest (length bytes) in
       ap (λ (l : List ℕ). One (Literal l) ∷ loads_of (written_indexes m k) m.maus rest)
       (text-last (0xED ∷ (n ++ bytes)) (0xED ∷ n) bytes (1 + length n) refl (omega arith))
-  single-back (Field kind value size) rest fits inside none =
-      let items = items-alone (Field kind value size ∷ []) rest (fits, tt) (or_none (names_outside (counts_of m) value) inside) none in
+  single-back (Field kind size value) rest fits inside none =
+      let items = items-alone (Field kind size value ∷ []) rest (fits, tt) (or_none (names_outside (counts_of m) value) inside) none in
       ap (λ (l : List Item). map One l ++ loads_of (written_indexes m k) m.maus rest) items
     where
       or_none : (b : Bool) → b ≡ false → (b || false) ≡ false
@@ -112,8 +112,8 @@ module _ (m : Parts) (k : ℕ) where
       ap (λ (l : List ℕ). Repeat count (Literal l ∷ []) ∷ loads_of (written_indexes m k) m.maus rest)
       (text-last (0xF7 ∷ (c ++ 0xED ∷ (n ++ bytes))) (0xF7 ∷ (c ++ 0xED ∷ n)) bytes (1 + length c + 1 + length n)
       (ap (λ (l : List ℕ). 0xF7 ∷ l) (sym (append_assoc c (0xED ∷ n) bytes))) (omega (arith, one)))
-  repeat-back count (Field kind value size ∷ []) rest fit inside none =
-      let items = items-alone (Field kind value size ∷ []) rest fit inside none in
+  repeat-back count (Field kind size value ∷ []) rest fit inside none =
+      let items = items-alone (Field kind size value ∷ []) rest fit inside none in
       ap (λ (l : List Item). Repeat count l ∷ loads_of (written_indexes m k) m.maus rest) items
   repeat-back count (first ∷ second ∷ more) rest fit inside none =
       let items = items-alone (first ∷ second ∷ more) rest fit inside none in

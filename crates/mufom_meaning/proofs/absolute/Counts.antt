@@ -85,8 +85,8 @@ module _ (order : Order) (s : Setting) where
       → length (step_cells order s.modulus (item_reading s site section o item)) ≤ byte_count item
   item_cells_count site section None (Literal bytes) = omega arith
   item_cells_count site section (Some at) (Literal bytes) = let long = length-cells_from at bytes in omega (arith, long)
-  item_cells_count site section None (Field kind t size) = omega arith
-  item_cells_count site section (Some at) (Field kind t size) = by_value (value s site (Some at) t) where
+  item_cells_count site section None (Field kind size t) = omega arith
+  item_cells_count site section (Some at) (Field kind size t) = by_value (value s site (Some at) t) where
     by_value : (v : Option ℕ) → length (field_cells order s.modulus (Some at) kind size v) ≤ size
     by_value None = omega arith
     by_value (Some v) =

@@ -62,7 +62,7 @@ module _ (order : Order) (s : Setting) where
         let own : literal_cells (counter s earlier section) bytes ≡ cells_from p.at p.bytes = ap (λ o. literal_cells o bytes) c
         ∙ ap (cells_from p.at) (literal_same bytes p.bytes e) in
         ap (λ prefix. prefix ++ cells_after (item_step site section (Literal bytes) ∷ earlier) more) own
-    by_item (Field kind t size) e c = absurd cc
+    by_item (Field kind size t) e c = absurd cc
 
   addresses_there : (earlier : List Step) (section : ℕ) (item : Item) (p : IsPlainItem s earlier section item) (x : ℕ)
       → In x (addresses_at s.modulus (counter s earlier section) item)
@@ -117,8 +117,8 @@ module _ (order : Order) (s : Setting) where
 
     -- no field stands in it
     no_field : (earlier : List Step) (site : Sited) (section : ℕ) (kind : FieldKind) (t : Tree) (size : ℕ)
-        → ¬ IsStepAfter ms earlier (item_step site section (Field kind t size))
-    no_field earlier site section kind t size at = let p = (clear_there earlier (item_step site section (Field kind t size)) at.0 at.1).plain.0 in
+        → ¬ IsStepAfter ms earlier (item_step site section (Field kind size t))
+    no_field earlier site section kind t size at = let p = (clear_there earlier (item_step site section (Field kind size t)) at.0 at.1).plain.0 in
         let e = p.is in cc
 
     pub no_counter_divisor : (section : ℕ) → ¬ HasZeroDivisor ms s (sites.Counter section)

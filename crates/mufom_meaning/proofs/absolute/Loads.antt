@@ -23,7 +23,7 @@ abbrev pub IsPlainLoad : ℕ → Load → Type 0
 IsPlainLoad k (SetSection n) = n < k
 IsPlainLoad k (SetPc n t) = (n < k) × ((a : ℕ) × (t ≡ number a))
 IsPlainLoad k (One (Literal bytes)) = length bytes ≤ 65535
-IsPlainLoad k (One (Field kind t size)) = ⊥
+IsPlainLoad k (One (Field kind size t)) = ⊥
 IsPlainLoad k (Repeat count items) = ⊥
 
 chunk_short : (size n : ℕ) (xs p : List ℕ) → In p (chunks_within n size xs) → length p ≤ size
@@ -77,7 +77,7 @@ plain_place m (SetSection n) h = two_false (nat_le (length m.sections) n) false 
 plain_place m (SetPc n t) h = two_false (nat_le (length m.sections) n) (names_outside (counts_of m) t) (not_le (length m.sections) n h.0)
     (ap (names_outside (counts_of m)) h.1.1)
 plain_place m (One (Literal bytes)) h = refl
-plain_place m (One (Field kind t size)) h = absurd h
+plain_place m (One (Field kind size t)) h = absurd h
 plain_place m (Repeat count items) h = absurd h
 
 pub plain_counter : (k : ℕ) (p : Option ℕ × Load) → IsPlainLoad k p.1 → misplaces_counter p ≡ false
@@ -86,21 +86,21 @@ plain_counter k p h = by_load p.0 p.1 h where
   by_load current (SetSection n) h = refl
   by_load current (SetPc n t) h = ap (has_other_counter (Some n)) h.1.1
   by_load current (One (Literal bytes)) h = refl
-  by_load current (One (Field kind t size)) h = absurd h
+  by_load current (One (Field kind size t)) h = absurd h
   by_load current (Repeat count items) h = absurd h
 
 pub plain_short : (k : ℕ) (load : Load) → IsPlainLoad k load → any_item is_long_literal load ≡ false
 plain_short k (SetSection n) h = refl
 plain_short k (SetPc n t) h = refl
 plain_short k (One (Literal bytes)) h = not_lt 65535 (length bytes) h
-plain_short k (One (Field kind t size)) h = absurd h
+plain_short k (One (Field kind size t)) h = absurd h
 plain_short k (Repeat count items) h = absurd h
 
 pub plain_size : (k : ℕ) (load : Load) → IsPlainLoad k load → any_item has_bad_size load ≡ false
 plain_size k (SetSection n) h = refl
 plain_size k (SetPc n t) h = refl
 plain_size k (One (Literal bytes)) h = refl
-plain_size k (One (Field kind t size)) h = absurd h
+plain_size k (One (Field kind size t)) h = absurd h
 plain_size k (Repeat count items) h = absurd h
 
 pub placed-In : (current : Option ℕ) (loads : List Load) (p : Option ℕ × Load) → In p (placed_from current loads) → In p.1 loads

@@ -91,8 +91,8 @@ module _ (ms : List Parts) (home : Sited) (s other : Setting) (h : AreSettings m
   addresses_agree _ _ (fields site site' section section' kind size t t' e n) earlier earlier' p =
       let at : counter s earlier section ≡ counter other earlier' section' = same_counter ms home s other h earlier earlier' p section
       ∙ ap (counter other earlier') e in
-      let m = h.modulus in (λ i. addresses_at (m i) (at i) (Field kind t size)) ∙ same_size (counter other earlier' section') where
-        same_size : (at : Option ℕ) → addresses_at other.modulus at (Field kind t size) ≡ addresses_at other.modulus at (Field kind t' size)
+      let m = h.modulus in (λ i. addresses_at (m i) (at i) (Field kind size t)) ∙ same_size (counter other earlier' section') where
+        same_size : (at : Option ℕ) → addresses_at other.modulus at (Field kind size t) ≡ addresses_at other.modulus at (Field kind size t')
         same_size None = refl
         same_size (Some a) = refl
 
@@ -114,7 +114,7 @@ module _ (ms : List Parts) (home : Sited) (s other : Setting) (h : AreSettings m
 
   field_agrees : (site site' : Sited) (section : ℕ) (kind : FieldKind) (size : ℕ) (t t' : Tree) → MovedTree ms home site t site' t'
       → (earlier earlier' : List Step) → Paired R earlier earlier' → (at : Option ℕ)
-      → item_fact s earlier site section at (Field kind t size) ≡ item_fact other earlier' site' section at (Field kind t' size)
+      → item_fact s earlier site section at (Field kind size t) ≡ item_fact other earlier' site' section at (Field kind size t')
   field_agrees site site' section kind size t t' n earlier earlier' p None = refl
   field_agrees site site' section kind size t t' n earlier earlier' p (Some a) =
       let m = h.modulus in let b = h.bases in let sections = h.sections in let l = loaded_agree earlier earlier' p in
@@ -139,7 +139,7 @@ module _ (ms : List Parts) (home : Sited) (s other : Setting) (h : AreSettings m
       let at : counter s earlier section ≡ counter other earlier' section' = same_counter ms home s other h earlier earlier' p section
       ∙ ap (counter other earlier') e in
       field_agrees site site' section kind size t t' m earlier earlier' p (counter s earlier section)
-      ∙ (λ i. item_fact other earlier' site' (e i) (at i) (Field kind t' size))
+      ∙ (λ i. item_fact other earlier' site' (e i) (at i) (Field kind size t'))
 
   steps_agree : (earlier earlier' : List Step) → Paired R earlier earlier' → (all all' : List Step) → Paired R all all' → steps_fact s earlier all
       ≡ steps_fact other earlier' all'
@@ -198,7 +198,7 @@ group_expressions ms (site ∷ sites) =
 -- The bytes that a link loads are as many as its group's.
 item-joined : (ms : List Parts) (site : Sited) (item : Item) → byte_count (joined_item ms site item) ≡ byte_count item
 item-joined ms site (Literal bytes) = refl
-item-joined ms site (Field kind t size) = refl
+item-joined ms site (Field kind size t) = refl
 
 -- what is made of each entry counts as the entry does
 sum_by-made : {A B : Type 0} (f : B → ℕ) (g : A → ℕ) (make : A → B) → ((x : A) → f (make x) ≡ g x) → (xs : List A) → sum_by f (map make xs) ≡ sum_by g xs

@@ -97,9 +97,9 @@ module _ (s u : Setting) where
 
   items_back : (site : Sited) (item : Item) (site' : Sited) (item' : Item) → ItemsAgree s u site item site' item' → ItemsAgree u s site' item' site item
   items_back site (Literal bytes) site' (Literal bytes') h = sym h
-  items_back site (Field kind t size) site' (Field kind' t' size') h = (sym h.0, sym h.1, trees_back site t site' t' h.2)
-  items_back site (Literal bytes) site' (Field kind t size) h = absurd h
-  items_back site (Field kind t size) site' (Literal bytes) h = absurd h
+  items_back site (Field kind size t) site' (Field kind' size' t') h = (sym h.0, sym h.1, trees_back site t site' t' h.2)
+  items_back site (Literal bytes) site' (Field kind size t) h = absurd h
+  items_back site (Field kind size t) site' (Literal bytes) h = absurd h
 
   steps_back : (earlier : List Step) (step : Step) (earlier' : List Step) (step' : Step) → StepsAgree s u earlier step earlier' step'
       → StepsAgree u s earlier' step' earlier step

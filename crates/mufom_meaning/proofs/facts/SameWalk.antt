@@ -27,9 +27,9 @@ module _ (s u : Setting) where
   -- literals of one length, or fields of one kind and size whose expressions agree
   abbrev pub ItemsAgree : Sited → Item → Sited → Item → Type 0
   ItemsAgree site (Literal bytes) site' (Literal bytes') = length bytes ≡ length bytes'
-  ItemsAgree site (Field kind t size) site' (Field kind' t' size') = (kind ≡ kind') × (size ≡ size') × TreesAgree site t site' t'
-  ItemsAgree site (Literal bytes) site' (Field kind t size) = ⊥
-  ItemsAgree site (Field kind t size) site' (Literal bytes) = ⊥
+  ItemsAgree site (Field kind size t) site' (Field kind' size' t') = (kind ≡ kind') × (size ≡ size') × TreesAgree site t site' t'
+  ItemsAgree site (Literal bytes) site' (Field kind size t) = ⊥
+  ItemsAgree site (Field kind size t) site' (Literal bytes) = ⊥
 
   -- steps at one section, with one counter before them, that do the same after the same was loaded
   abbrev pub StepsAgree : List Step → Step → List Step → Step → Type 0
@@ -61,9 +61,9 @@ pub record Follows (ms ns : List Parts) (s u : Setting) : Type 0 where
 item_lengths : (s u : Setting) (site : Sited) (item : Item) (site' : Sited) (item' : Item) → ItemsAgree s u site item site' item' → byte_count item
     ≡ byte_count item'
 item_lengths s u site (Literal bytes) site' (Literal bytes') same = same
-item_lengths s u site (Field kind t size) site' (Field kind' t' size') same = same.1
-item_lengths s u site (Literal bytes) site' (Field kind t size) same = absurd same
-item_lengths s u site (Field kind t size) site' (Literal bytes) same = absurd same
+item_lengths s u site (Field kind size t) site' (Field kind' size' t') same = same.1
+item_lengths s u site (Literal bytes) site' (Field kind size t) same = absurd same
+item_lengths s u site (Field kind size t) site' (Literal bytes) same = absurd same
 
 module _ (ms ns : List Parts) (s u : Setting) (all : Follows ms ns s u) where
   -- an item that is loaded at a counter has its like, which is loaded there at the same counter
@@ -97,20 +97,20 @@ module _ (ms ns : List Parts) (s u : Setting) (all : Follows ms ns s u) where
     earlier' : List Step
     site' : Sited
     t' : Tree
-    there : IsLoadedAt ns u earlier' site' section at (Field kind t' size)
+    there : IsLoadedAt ns u earlier' site' section at (Field kind size t')
     trees : TreesAgree s u site t site' t'
 
   field_like : (earlier : List Step) (site : Sited) (section at : ℕ) (kind : FieldKind) (t : Tree) (size : ℕ)
-      → IsLoadedAt ms s earlier site section at (Field kind t size) → FieldLike site section at kind t size
-  field_like earlier site section at kind t size h = let like = loaded_like earlier site section at (Field kind t size) h in
+      → IsLoadedAt ms s earlier site section at (Field kind size t) → FieldLike site section at kind t size
+  field_like earlier site section at kind t size h = let like = loaded_like earlier site section at (Field kind size t) h in
       by_item like.earlier' like.site' like.item' like.there like.items where
         by_item : (earlier' : List Step) (site' : Sited) (item' : Item) → IsLoadedAt ns u earlier' site' section at item'
-            → ItemsAgree s u site (Field kind t size) site' item' → FieldLike site section at kind t size
+            → ItemsAgree s u site (Field kind size t) site' item' → FieldLike site section at kind t size
         by_item earlier' site' (Literal bytes) there same = absurd same
-        by_item earlier' site' (Field kind' t' size') there same =
-            let back : IsLoadedAt ns u earlier' site' section at (Field kind t' size) =
-            subst (λ k. IsLoadedAt ns u earlier' site' section at (Field k t' size)) (sym same.0)
-            (subst (λ n. IsLoadedAt ns u earlier' site' section at (Field kind' t' n)) (sym same.1) there) in
+        by_item earlier' site' (Field kind' size' t') there same =
+            let back : IsLoadedAt ns u earlier' site' section at (Field kind size t') =
+            subst (λ k. IsLoadedAt ns u earlier' site' section at (Field k size t')) (sym same.0)
+            (subst (λ n. IsLoadedAt ns u earlier' site' section at (Field kind' n t')) (sym same.1) there) in
             record { earlier' = earlier'; site' = site'; t' = t'; there = back; trees = same.2 }
 
   zero_divisor_like : (place : Site) → HasZeroDivisor ms s place → HasZeroDivisor ns u place

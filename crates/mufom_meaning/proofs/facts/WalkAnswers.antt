@@ -122,7 +122,7 @@ module _ (ms : List Parts) (s : Setting) where
   field_sound : (earlier : List Step) (site : Sited) (section a : ℕ) (item : Item) → IsLoadedAt ms s earlier site section a item → (fact : LocateFact)
       → field_fact s site section a item ≡ Some fact → Walk fact
   field_sound earlier site section a (Literal bytes) there fact e = absurd cc
-  field_sound earlier site section a (Field kind t size) there fact e = by_case (or_else_some _ _ fact e) where
+  field_sound earlier site section a (Field kind size t) there fact e = by_case (or_else_some _ _ fact e) where
     by_value : (v : Option ℕ) → value s site (Some a) t ≡ v → overflow_at s.modulus section a kind size v ≡ Some fact → Walk fact
     by_value None f e = absurd cc
     by_value (Some v) f e = fitting (fits s.modulus kind size v) refl e where
@@ -271,10 +271,10 @@ module _ (ms : List Parts) (s : Setting) where
   zero_complete a b c d (sites.Counter section) h =
       zero_divisor_none h.1 (counter s h.0 section) h.2 (sites.Counter section) (step_none b h.0 (counter_step h.1 section h.2) h.3) h.4
   zero_complete a b c d (sites.Field section at) h =
-      let none = item_none b h.0 h.1 section at (Field h.2 h.3 h.4) h.5 in
+      let none = item_none b h.0 h.1 section at (Field h.2 h.4 h.3) h.5 in
       let field = or_else_none (zero_divisor_at s h.1 (Some at) h.3 (sites.Field section at))
       (overflow_at s.modulus section at h.2 h.4 (value s h.1 (Some at) h.3))
-      (field_none h.0 h.1 section at (Field h.2 h.3 h.4) none) in
+      (field_none h.0 h.1 section at (Field h.2 h.4 h.3) none) in
       zero_divisor_none h.1 (Some at) h.3 (sites.Field section at) field.0 h.6
   zero_complete a b c d sites.Start h = zero_divisor_none h.0.0 None h.0.1 sites.Start (first_some_none (start_fact s) (start_trees ms) c h.0 h.1.0 h.1.1) h.2
   zero_complete a b c d (sites.Debug n) h =
@@ -316,10 +316,10 @@ module _ (ms : List Parts) (s : Setting) where
             let there = get_mapped (λ z. z % s.modulus) (counted_from (byte_count h.5) h.3) x.0 (h.3 + x.0) (get_counted (byte_count h.5) h.3 x.0 less) in
             none_earlier (loaded_addresses s h.0) (addresses_at s.modulus (Some h.3) h.5) twice x.0 h.4 address x.1 (there ∙ ap Some (sym x.2)) at
   walk_none a b c d (overflow section at kind size v) h =
-      let none = item_none b h.0 h.1 section at (Field kind h.2 size) h.3 in
+      let none = item_none b h.0 h.1 section at (Field kind size h.2) h.3 in
       let field = or_else_none (zero_divisor_at s h.1 (Some at) h.2 (sites.Field section at))
       (overflow_at s.modulus section at kind size (value s h.1 (Some at) h.2))
-      (field_none h.0 h.1 section at (Field kind h.2 size) none) in
+      (field_none h.0 h.1 section at (Field kind size h.2) none) in
       let fit = ap (overflow_at s.modulus section at kind size) (sym h.4) ∙ field.1 in
       h.5 (fitting (fits s.modulus kind size v) refl fit) where
         fitting : (t : Bool) → fits s.modulus kind size v ≡ t → (if t then None else Some (overflow section at kind size v)) ≡ None

@@ -70,9 +70,9 @@ module _ (order : Order) (ms : List Parts) (s : Setting) (clear : (address : ℕ
       → In cell (step_cells order s.modulus (item_reading s site section o item)) → IsOf o item cell
   item_cell site section None (Literal bytes) cell h = absurd h
   item_cell site section (Some at) (Literal bytes) cell h = let there = cell_there at bytes cell h in (at, there.0, refl, there.1, there.2)
-  item_cell site section None (Field kind t size) cell h = absurd h
-  item_cell site section (Some at) (Field kind t size) cell h = by_value (value s site (Some at) t) h where
-    by_value : (v : Option ℕ) → In cell (field_cells order s.modulus (Some at) kind size v) → IsOf (Some at) (Field kind t size) cell
+  item_cell site section None (Field kind size t) cell h = absurd h
+  item_cell site section (Some at) (Field kind size t) cell h = by_value (value s site (Some at) t) h where
+    by_value : (v : Option ℕ) → In cell (field_cells order s.modulus (Some at) kind size v) → IsOf (Some at) (Field kind size t) cell
     by_value None h = absurd h
     by_value (Some v) h =
         let there = cell_there at (field_bytes order s.modulus kind size v) cell h in
@@ -83,8 +83,8 @@ module _ (order : Order) (ms : List Parts) (s : Setting) (clear : (address : ℕ
   item_own : (site : Sited) (section : ℕ) (o : Option ℕ) (item : Item) → HaveOwnAddresses (step_cells order s.modulus (item_reading s site section o item))
   item_own site section None (Literal bytes) = tt
   item_own site section (Some at) (Literal bytes) = row_own at bytes
-  item_own site section None (Field kind t size) = tt
-  item_own site section (Some at) (Field kind t size) = by_value (value s site (Some at) t) where
+  item_own site section None (Field kind size t) = tt
+  item_own site section (Some at) (Field kind size t) = by_value (value s site (Some at) t) where
     by_value : (v : Option ℕ) → HaveOwnAddresses (field_cells order s.modulus (Some at) kind size v)
     by_value None = tt
     by_value (Some v) = row_own at (field_bytes order s.modulus kind size v)

@@ -25,7 +25,7 @@ use Rattle.mufom_meaning.proofs.rows.Built.{a_module, relocatable, public_of, st
 
 -- a module that asks for a common and loads its address
 abbrev asking : ℕ → Parts
-asking size = a_module (relocatable (codes "t") 4 ∷ []) [] (weak (codes "c") size 0 ∷ []) (SetSection 0 ∷ One (Field Either (variable X 0) 4) ∷ [])
+asking size = a_module (relocatable (codes "t") 4 ∷ []) [] (weak (codes "c") size 0 ∷ []) (SetSection 0 ∷ One (Field Either 4 (variable X 0)) ∷ [])
 
 -- two modules that ask for one common, in different sizes
 abbrev both : List Parts
@@ -57,7 +57,7 @@ both_fine = refl
 -- A link keeps both references, and is placed alike.
 abbrev asking_linked : Parts
 asking_linked = a_module (relocatable (codes "t") 4 ∷ relocatable (codes "t") 4 ∷ []) [] (weak (codes "c") 4 0 ∷ weak (codes "c") 6 0 ∷ [])
-    (SetSection 0 ∷ One (Field Either (variable X 0) 4) ∷ SetSection 1 ∷ One (Field Either (variable X 1) 4) ∷ [])
+    (SetSection 0 ∷ One (Field Either 4 (variable X 0)) ∷ SetSection 1 ∷ One (Field Either 4 (variable X 1)) ∷ [])
 
 asking_is_joined : IsJoined asking_linked both (codes "a")
 asking_is_joined = record {
@@ -123,7 +123,7 @@ other_is_undefined = refl
 
 abbrev default_beside : List Parts
 default_beside = asking 4 ∷ a_module (relocatable (codes "t") 4 ∷ []) [] (weak (codes "c") 0 9 ∷ [])
-    (SetSection 0 ∷ One (Field Either (variable X 0) 4) ∷ []) ∷ []
+    (SetSection 0 ∷ One (Field Either 4 (variable X 0)) ∷ []) ∷ []
 
 default_not_used : image_of default_beside (with_commons 64) ≡ common_image
 unfolding readings counter value_within

@@ -97,7 +97,7 @@ defaults = with_default 1 ∷ with_default 2 ∷ []
 
 abbrev merged : Parts
 merged = a_module (relocatable (codes "t") 1 ∷ relocatable (codes "t") 1 ∷ []) [] (weak (codes "x") 0 1 ∷ [])
-    (SetSection 0 ∷ One (Field Unsigned (variable X 0) 1) ∷ SetSection 1 ∷ One (Field Unsigned (variable X 0) 1) ∷ [])
+    (SetSection 0 ∷ One (Field Unsigned 1 (variable X 0)) ∷ SetSection 1 ∷ One (Field Unsigned 1 (variable X 0)) ∷ [])
 
 merged_is_not_joined : ¬ IsJoined merged defaults (codes "a")
 merged_is_not_joined j = absurd (let e : length (weak (codes "x") 0 1 ∷ []) ≡ length (weak (codes "x") 0 1 ∷ weak (codes "x") 0 2 ∷ []) =
@@ -127,11 +127,11 @@ narrow_does_not_stand stands =
 
 -- Program counters are not moved.
 abbrev counting : Parts
-counting = a_module (relocatable (codes "t") 4 ∷ []) [] [] (SetSection 0 ∷ One (Field Either (variable P 0) 4) ∷ [])
+counting = a_module (relocatable (codes "t") 4 ∷ []) [] [] (SetSection 0 ∷ One (Field Either 4 (variable P 0)) ∷ [])
 
 abbrev unmoved_counter : Parts
 unmoved_counter = a_module (relocatable (codes "t") 4 ∷ relocatable (codes "t") 4 ∷ []) [] []
-    (SetSection 0 ∷ One (Field Either (variable P 0) 4) ∷ SetSection 1 ∷ One (Field Either (variable P 0) 4) ∷ [])
+    (SetSection 0 ∷ One (Field Either 4 (variable P 0)) ∷ SetSection 1 ∷ One (Field Either 4 (variable P 0)) ∷ [])
 
 unmoved_counter_is_not_joined : ¬ IsJoined unmoved_counter (counting ∷ counting ∷ []) (codes "a")
 unmoved_counter_is_not_joined j = absurd (let e = j.loads in cc)

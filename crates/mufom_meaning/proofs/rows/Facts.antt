@@ -66,7 +66,7 @@ nowhere = refl
 
 -- What a signed field of one byte holds.
 abbrev signed_byte : ℕ → List Parts
-signed_byte n = a_module (absolute_at 0 1 ∷ []) [] [] (SetSection 0 ∷ One (Field Signed (number n) 1) ∷ []) ∷ []
+signed_byte n = a_module (absolute_at 0 1 ∷ []) [] [] (SetSection 0 ∷ One (Field Signed 1 (number n)) ∷ []) ∷ []
 
 holds_127 : image_of (signed_byte 127) (plan_of []) ≡ (0, 127) ∷ []
 unfolding readings counter value_within
@@ -94,7 +94,7 @@ overflows_minus_129 = refl
 
 -- Addresses of one unit and of eight.
 abbrev one_unit : List Parts
-one_unit = record (a_module (absolute_at 252 4 ∷ []) [] [] (SetSection 0 ∷ Repeat 4 (Field Unsigned (variable P 0) 1 ∷ []) ∷ [])) { maus = 1 } ∷ []
+one_unit = record (a_module (absolute_at 252 4 ∷ []) [] [] (SetSection 0 ∷ Repeat 4 (Field Unsigned 1 (variable P 0) ∷ []) ∷ [])) { maus = 1 } ∷ []
 
 one_unit_image : image_of one_unit (plan_of []) ≡ (252, 252) ∷ (253, 253) ∷ (254, 254) ∷ (255, 255) ∷ []
 unfolding readings counter value_within
@@ -106,7 +106,7 @@ one_unit_fits = refl
 
 abbrev eight_units : ℕ → List Parts
 eight_units size =
-    record (a_module (absolute_at 18446744073709551612 size ∷ []) [] [] (SetSection 0 ∷ One (Field Signed (variable R 0) 4) ∷ [])) { maus = 8 } ∷ []
+    record (a_module (absolute_at 18446744073709551612 size ∷ []) [] [] (SetSection 0 ∷ One (Field Signed 4 (variable R 0)) ∷ [])) { maus = 8 } ∷ []
 
 eight_units_image : image_of (eight_units 4) (plan_of [])
     ≡ (18446744073709551612, 255) ∷ (18446744073709551613, 255) ∷ (18446744073709551614, 255) ∷ (18446744073709551615, 252) ∷ []
@@ -123,7 +123,7 @@ eight_units_misfit = refl
 
 -- The value of a repeated field is the counter at each copy.
 abbrev repeated_counter : List Parts
-repeated_counter = a_module (absolute_at 16 6 ∷ []) [] [] (SetSection 0 ∷ Repeat 3 (Field Either (variable P 0) 2 ∷ []) ∷ []) ∷ []
+repeated_counter = a_module (absolute_at 16 6 ∷ []) [] [] (SetSection 0 ∷ Repeat 3 (Field Either 2 (variable P 0) ∷ []) ∷ []) ∷ []
 
 repeated_image : image_of repeated_counter (plan_of []) ≡ (16, 0) ∷ (17, 16) ∷ (18, 0) ∷ (19, 18) ∷ (20, 0) ∷ (21, 20) ∷ []
 unfolding readings counter value_within

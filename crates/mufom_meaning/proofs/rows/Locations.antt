@@ -89,8 +89,8 @@ text_of size = record { name = codes ".text"; absolute = false; purpose = Some p
 
 abbrev program : Parts
 program = record (a_module (text_of 12 ∷ []) (public_of (codes "main") (two plus (variable R 0) (number 4)) ∷ []) (strong (codes "exit") ∷ [])
-    (SetSection 0 ∷ SetPc 0 (variable R 0) ∷ One (Literal (0x4E ∷ 0x71 ∷ 0x4E ∷ 0x71 ∷ [])) ∷ One (Field Either (two plus (variable R 0) (number 4)) 4)
-    ∷ One (Field Signed (two minus (variable X 0) (variable P 0)) 4) ∷ [])) { name = codes "prog"; start = Some (two plus (variable R 0) (number 4)) }
+    (SetSection 0 ∷ SetPc 0 (variable R 0) ∷ One (Literal (0x4E ∷ 0x71 ∷ 0x4E ∷ 0x71 ∷ [])) ∷ One (Field Either 4 (two plus (variable R 0) (number 4)))
+    ∷ One (Field Signed 4 (two minus (variable X 0) (variable P 0))) ∷ [])) { name = codes "prog"; start = Some (two plus (variable R 0) (number 4)) }
 
 abbrev library : Parts
 library = record (a_module (record (text_of 2) { align = 1 } ∷ []) (public_of (codes "exit") (variable R 0) ∷ []) []
@@ -124,7 +124,7 @@ both_are_located = record {
 
 -- Sums wrap at the end of the address space.
 wrapped : image_of (a_module (absolute_at 4 4 ∷ []) [] [] (SetSection 0 ∷ One
-    (Field Either (two plus (number 4294967292) (variable R 0)) 4) ∷ []) ∷ []) no_regions
+    (Field Either 4 (two plus (number 4294967292) (variable R 0))) ∷ []) ∷ []) no_regions
     ≡ (4, 0) ∷ (5, 0) ∷ (6, 0) ∷ (7, 0) ∷ []
 unfolding readings counter value_within
 wrapped = refl

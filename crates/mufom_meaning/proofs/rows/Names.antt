@@ -22,11 +22,11 @@ use Rattle.mufom_meaning.proofs.rows.Built.{a_module, relocatable, public_of, st
 -- Two modules that need each other.
 abbrev pub crossed_a : Parts
 crossed_a = a_module (relocatable (codes "t") 4 ∷ []) (public_of (codes "f") (variable R 0) ∷ []) (strong (codes "g") ∷ [])
-    (SetSection 0 ∷ One (Field Either (variable X 0) 4) ∷ [])
+    (SetSection 0 ∷ One (Field Either 4 (variable X 0)) ∷ [])
 
 abbrev pub crossed_b : Parts
 crossed_b = a_module (relocatable (codes "t") 4 ∷ []) (public_of (codes "g") (two plus (variable R 0) (number 1)) ∷ []) (strong (codes "f") ∷ [])
-    (SetSection 0 ∷ One (Field Either (two plus (variable X 0) (number 2)) 4) ∷ [])
+    (SetSection 0 ∷ One (Field Either 4 (two plus (variable X 0) (number 2))) ∷ [])
 
 abbrev pub low_plan : Plan
 low_plan = plan_of (region_at 256 256 (codes "t" ∷ []) ∷ [])
@@ -52,7 +52,7 @@ crossed_publics : flat_map (λ site. map (joined_public (crossed_a ∷ crossed_b
 crossed_publics = refl
 
 crossed_loads : flat_map (λ site. map (joined_load (crossed_a ∷ crossed_b ∷ []) site) site.parts.loads) (sited (crossed_a ∷ crossed_b ∷ []))
-    ≡ SetSection 0 ∷ One (Field Either (variable I 1) 4) ∷ SetSection 1 ∷ One (Field Either (two plus (variable I 0) (number 2)) 4) ∷ []
+    ≡ SetSection 0 ∷ One (Field Either 4 (variable I 1)) ∷ SetSection 1 ∷ One (Field Either 4 (two plus (variable I 0) (number 2))) ∷ []
 crossed_loads = refl
 
 crossed_references : kept_references (crossed_a ∷ crossed_b ∷ []) ≡ []
@@ -98,7 +98,7 @@ led_in = refl
 
 -- Weak references keep their own defaults, until a public has the name.
 abbrev pub with_default : ℕ → Parts
-with_default n = a_module (relocatable (codes "t") 1 ∷ []) [] (weak (codes "x") 0 n ∷ []) (SetSection 0 ∷ One (Field Unsigned (variable X 0) 1) ∷ [])
+with_default n = a_module (relocatable (codes "t") 1 ∷ []) [] (weak (codes "x") 0 n ∷ []) (SetSection 0 ∷ One (Field Unsigned 1 (variable X 0)) ∷ [])
 
 abbrev pub at_zero : Plan
 at_zero = plan_of (region_at 0 256 (codes "t" ∷ []) ∷ [])
@@ -127,7 +127,7 @@ references_gone = refl
 abbrev pub crossed_link : Parts
 crossed_link = a_module (relocatable (codes "t") 4 ∷ relocatable (codes "t") 4 ∷ [])
     (public_of (codes "f") (variable R 0) ∷ public_of (codes "g") (two plus (variable R 1) (number 1)) ∷ []) []
-    (SetSection 0 ∷ One (Field Either (variable I 1) 4) ∷ SetSection 1 ∷ One (Field Either (two plus (variable I 0) (number 2)) 4) ∷ [])
+    (SetSection 0 ∷ One (Field Either 4 (variable I 1)) ∷ SetSection 1 ∷ One (Field Either 4 (two plus (variable I 0) (number 2))) ∷ [])
 
 crossed_is_joined : IsJoined crossed_link (crossed_a ∷ crossed_b ∷ []) (codes "a")
 crossed_is_joined = record {

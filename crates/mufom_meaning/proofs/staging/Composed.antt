@@ -209,12 +209,12 @@ module _ (M : Parts) (ms : List Parts) (name : List ℕ) (j : IsJoined M ms name
 
   item_here : (site : Sited) (item : Item) → joined_item linked site item ≡ joined_item flat site item
   item_here site (Literal bytes) = refl
-  item_here site (Field kind t size) = ap (λ u. Field kind u size) (tree_here site t)
+  item_here site (Field kind size t) = ap (λ u. Field kind size u) (tree_here site t)
 
   item_there : (site : Sited) → IsOfGroup ms site → (item : Item) → joined_item linked home (joined_item ms site item)
       ≡ joined_item flat (shifted home site) item
   item_there site within (Literal bytes) = refl
-  item_there site within (Field kind t size) = ap (λ u. Field kind u size) (tree_there site within t)
+  item_there site within (Field kind size t) = ap (λ u. Field kind size u) (tree_there site within t)
 
   items_here : (site : Sited) (items : List Item) → map (joined_item linked site) items ≡ map (joined_item flat site) items
   items_here site [] = refl

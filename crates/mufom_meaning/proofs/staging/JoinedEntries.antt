@@ -62,11 +62,11 @@ module _ (ms : List Parts) (site : Sited) where
 
   pub long-item : (item : Item) → is_long_literal (joined_item ms site item) ≡ is_long_literal item
   long-item (Literal bytes) = refl
-  long-item (Field kind t size) = refl
+  long-item (Field kind size t) = refl
 
   pub size-item : (item : Item) → has_bad_size (joined_item ms site item) ≡ has_bad_size item
   size-item (Literal bytes) = refl
-  size-item (Field kind t size) = refl
+  size-item (Field kind size t) = refl
 
   pub items-load : (test : Item → Bool) → ((item : Item) → test (joined_item ms site item) ≡ test item) → (load : Load)
       → any_item test (joined_load ms site load) ≡ any_item test load

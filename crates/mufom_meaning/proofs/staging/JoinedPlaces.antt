@@ -172,7 +172,7 @@ module _ (M : Parts) (ms : List Parts) (site : Sited) (fits : Fits M ms site) wh
   module _ (test other : Tree → Bool) (each : (t : Tree) → test t ≡ false → other (joined_tree ms site t) ≡ false) where
     item-fails : (item : Item) → item_any test item ≡ false → item_any other (joined_item ms site item) ≡ false
     item-fails (Literal bytes) e = refl
-    item-fails (Field kind t size) e = each t e
+    item-fails (Field kind size t) e = each t e
 
     load-fails : (load : Load) → load_any test load ≡ false → load_any other (joined_load ms site load) ≡ false
     load-fails (SetSection section) e = refl

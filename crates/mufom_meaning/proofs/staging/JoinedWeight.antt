@@ -52,7 +52,7 @@ module _ (ms : List Parts) where
 
   item-joined : (site : Sited) (item : Item) → item_weight (joined_item ms site item) ≡ item_weight item
   item-joined site (Literal bytes) = refl
-  item-joined site (Field kind t size) = ap (λ n. 12 + n) (expression-renamed (joined_variable ms site) t)
+  item-joined site (Field kind size t) = ap (λ n. 12 + n) (expression-renamed (joined_variable ms site) t)
 
   load-joined : (site : Sited) (load : Load) → load_weight (joined_load ms site load) ≡ load_weight load
   load-joined site (SetSection section) = refl

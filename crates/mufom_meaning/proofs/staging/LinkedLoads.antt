@@ -74,7 +74,7 @@ module _ (ms : List Parts) (home : Sited) where
   paired_items site within (Some n) [] = tt
   paired_items site within (Some n) (Literal bytes ∷ items) =
       (literals home (shifted home site) _ _ bytes (shifted_section site n), paired_items site within (Some n) items)
-  paired_items site within (Some n) (Field kind t size ∷ items) = (
+  paired_items site within (Some n) (Field kind size t ∷ items) = (
     fields home (shifted home site) _ _ kind size (joined_tree ms site t) t (shifted_section site n) (joins site t within),
     paired_items site within (Some n) items,
   )

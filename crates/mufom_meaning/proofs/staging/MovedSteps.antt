@@ -18,13 +18,13 @@ pub data MovedStep (ms : List Parts) (home : Sited) : Step → Step → Type 0 w
   literals : (site site' : Sited) (section section' : ℕ) (bytes : List ℕ) → section ≡ section'
       → MovedStep ms home (item_step site section (Literal bytes)) (item_step site' section' (Literal bytes))
   fields : (site site' : Sited) (section section' : ℕ) (kind : FieldKind) (size : ℕ) (t t' : Tree) → section ≡ section' → MovedTree ms home site t site' t'
-      → MovedStep ms home (item_step site section (Field kind t size)) (item_step site' section' (Field kind t' size))
+      → MovedStep ms home (item_step site section (Field kind size t)) (item_step site' section' (Field kind size t'))
 
 module _ (ms : List Parts) (home : Sited) where
   pub stays_step : (step : Step) → MovedStep ms home step step
   stays_step (counter_step site section t) = counters site site section section t t refl (stays site t)
   stays_step (item_step site section (Literal bytes)) = literals site site section section bytes refl
-  stays_step (item_step site section (Field kind t size)) = fields site site section section kind size t t refl (stays site t)
+  stays_step (item_step site section (Field kind size t)) = fields site site section section kind size t t refl (stays site t)
 
 module _ (ms : List Parts) (home : Sited) (s other : Setting) (h : AreSettings ms home s other) where
   abbrev R : Step → Step → Type 0

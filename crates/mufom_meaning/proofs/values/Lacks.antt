@@ -33,7 +33,7 @@ HasBase s section = slice_get s.bases section ≡ None → ⊥
 abbrev pub IsWellStep : Setting → Step → Type 0
 IsWellStep s (counter_step site section t) = HasBase s section × IsWellNamed s site t
 IsWellStep s (item_step site section (Literal bytes)) = HasBase s section
-IsWellStep s (item_step site section (Field kind t size)) = HasBase s section × IsWellNamed s site t
+IsWellStep s (item_step site section (Field kind size t)) = HasBase s section × IsWellNamed s site t
 
 -- what the modules of a list without a defect have, where the facts of names do not stand
 pub record HasAllNamed (ms : List Parts) (s : Setting) : Type 0 where

@@ -245,7 +245,7 @@ module _ (s : Setting) (site : Sited) (named : (t : Tree) → IsInside site.part
   item_well : (section : ℕ) → section < length site.parts.sections → (item : Item) → item_any (names_outside (counts_of site.parts)) item ≡ false
       → IsWellStep s (item_step site (site.first_section + section) item)
   item_well section less (Literal bytes) e = based section less
-  item_well section less (Field kind t size) e = (based section less, named t (inside site.parts t e))
+  item_well section less (Field kind size t) e = (based section less, named t (inside site.parts t e))
 
   items_well : (current : Option ℕ) → IsCurrent current → (items : List Item) → list_any (item_any (names_outside (counts_of site.parts))) items ≡ false
       → (step : Step) → In step (item_steps site current items) → IsWellStep s step

@@ -84,8 +84,8 @@ module _ (ms : List Parts) (s : Setting) (h : HaveValues ms s) where
       (h.expressions (Some (before, section)) site t (inl at))
   step_valued before (item_step site section (Literal bytes)) at =
       some_of (counter s before section) (h.counters before (item_step site section (Literal bytes)) at)
-  step_valued before (item_step site section (Field kind t size)) at = (
-    some_of (counter s before section) (h.counters before (item_step site section (Field kind t size)) at),
+  step_valued before (item_step site section (Field kind size t)) at = (
+    some_of (counter s before section) (h.counters before (item_step site section (Field kind size t)) at),
     some_of (value s site (counter s before section) t) (h.expressions (Some (before, section)) site t (inr (kind, size, at))),
   )
 

@@ -21,7 +21,7 @@ use Rattle.mufom_loads.specs.Lengths.{byte_count}
 step_based : (s : Setting) (step : Step) → IsWellStep s step → HasBase s (section_of step)
 step_based s (counter_step site section t) w = w.0
 step_based s (item_step site section (Literal bytes)) w = w
-step_based s (item_step site section (Field kind t size)) w = w.0
+step_based s (item_step site section (Field kind size t)) w = w.0
 
 -- an expression without a counter, or one at a step
 module _ (ms : List Parts) (s : Setting) (h : HasAllNamed ms s) (flat : s.publics ≡ flat_publics ms) where
@@ -41,7 +41,7 @@ module _ (ms : List Parts) (s : Setting) (h : HasAllNamed ms s) (flat : s.public
       let w = h.loads (counter_step site c.1 t) (step-In ms c.0 (counter_step site c.1 t) p.0 p.1) in
       step_meets ms s h c.0 c.1 site t w.1 w.0 (counter_step site c.1 t ∷ p.0) p.1 e
   none_meets (Some c) site t (inr p) e =
-      let item = Field p.0 t p.1 in
+      let item = Field p.0 p.1 t in
       let w = h.loads (item_step site c.1 item) (step-In ms c.0 (item_step site c.1 item) p.2.0 p.2.1) in
       step_meets ms s h c.0 c.1 site t w.1 w.0 (item_step site c.1 item ∷ p.2.0) p.2.1 e
 
@@ -93,13 +93,13 @@ module _ (ms : List Parts) (s : Setting) (h : HasAllNamed ms s) (flat : s.public
     plain_clear site t (inr (inr p)) d = clear (sites.Debug p.0) ((site, t), p.1, d)
 
     field_clear : (earlier : List Step) (section : ℕ) (site : Sited) (kind : FieldKind) (t : Tree) (size : ℕ)
-        → IsStepAfter ms earlier (item_step site section (Field kind t size))
+        → IsStepAfter ms earlier (item_step site section (Field kind size t))
         → has_zero_divisor s site (counter s earlier section) t ≡ true → ⊥
     field_clear earlier section site kind t size at d = by_counter (counter s earlier section) refl d where
       by_counter : (o : Option ℕ) → counter s earlier section ≡ o → has_zero_divisor s site o t ≡ true → ⊥
       by_counter None e d =
-          let w = h.loads (item_step site section (Field kind t size)) (step-In ms earlier (item_step site section (Field kind t size)) at.0 at.1) in
-          counter_there_is earlier (item_step site section (Field kind t size) ∷ at.0) at.1 section w.0 e
+          let w = h.loads (item_step site section (Field kind size t)) (step-In ms earlier (item_step site section (Field kind size t)) at.0 at.1) in
+          counter_there_is earlier (item_step site section (Field kind size t) ∷ at.0) at.1 section w.0 e
       by_counter (Some pc) e d = clear (sites.Field section pc) (earlier, site, kind, t, size, (at, e), d)
 
     expression_valued : (c : CounterPlace) (site : Sited) (t : Tree) → IsExpressionAt ms c site t → value s site (counter_there s c) t ≢ None
@@ -116,11 +116,11 @@ module _ (ms : List Parts) (s : Setting) (h : HasAllNamed ms s) (flat : s.public
           by_why based (inr (inl m)) = mentioned_clear site t m
           by_why based (inr (inr d)) = clear (sites.Counter c.1) (c.0, site, t, p, d)
     expression_valued (Some c) site t (inr p) e =
-        let item = Field p.0 t p.1 in
+        let item = Field p.0 p.1 t in
         let w = h.loads (item_step site c.1 item) (step-In ms c.0 (item_step site c.1 item) p.2.0 p.2.1) in
         by_why w.0 (why ms s h site (counter s c.0 c.1) t w.1 e) where
           by_why : HasBase s c.1 → Why ms s h site (counter s c.0 c.1) t → ⊥
-          by_why based (inl n) = counter_there_is c.0 (item_step site c.1 (Field p.0 t p.1) ∷ p.2.0) p.2.1 c.1 based n.2
+          by_why based (inl n) = counter_there_is c.0 (item_step site c.1 (Field p.0 p.1 t) ∷ p.2.0) p.2.1 c.1 based n.2
           by_why based (inr (inl m)) = mentioned_clear site t m
           by_why based (inr (inr d)) = field_clear c.0 c.1 site p.0 t p.1 p.2 d
 

@@ -125,7 +125,7 @@ row_stays before more maus s (r.SetPc i value) bytes known =
 row_stays before more maus s (r.FieldItem kind value size) bytes known =
     let p = as_record (r.FieldItem kind value size) bytes in
     let tree = tree_stays before more (tree_in p value) (tree_known before p value refl refl known) in
-    (λ k. with_item s.loads s.awaiting (Field kind (tree k) (unwrap_or size maus)))
+    (λ k. with_item s.loads s.awaiting (Field kind (unwrap_or size maus) (tree k)))
 row_stays before more maus s row bytes known = refl
 
 data_loads : (maus : ℕ) (ix : Indexes) (before records after : List SpelledRecord) (s : Loads) → indexes_in (before ++ (records ++ after)) ≡ ix

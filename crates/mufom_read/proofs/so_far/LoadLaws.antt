@@ -74,10 +74,10 @@ module _ (ix : Indexes) (p : SpelledRecord) where
   -- a field has its expression as its value
   pub field-made : (maus : ℕ) (kind : FieldKind) (span : Span) (size : Option ℕ) (v : Tree) (n : ℕ) → p.row ≡ r.FieldItem kind span size → Some v
       ≡ option_map (positioned ix) (tree_of_record p) → n ≡ unwrap_or size maus
-      → item_by ix maus p p.row ≡ Some (Field kind v n)
+      → item_by ix maus p p.row ≡ Some (Field kind n v)
   field-made maus kind span size v n is value count =
       let same : v ≡ positioned ix (tree_in p span) = ap (λ (o : Option Tree). unwrap_or o v) (value ∙ field-valued kind span size is) in
-      ap (item_by ix maus p) is ∙ (λ k. Some (Field kind (sym same k) (sym count k)))
+      ap (item_by ix maus p) is ∙ (λ k. Some (Field kind (sym count k) (sym same k)))
 
 -- an item is a record of the data part
 pub item-own : (row : Record) → is_item row ≡ true → stands_in data_part row ≡ true

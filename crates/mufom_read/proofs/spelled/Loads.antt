@@ -148,7 +148,7 @@ own_row : (ix : Indexes) (maus : ℕ) (items : Bool) (before : List SpelledRecor
     → Known ix maus items before p records → p.row ≡ row → stands_in data_part row ≡ true
     → any_of (d.has_other_counter (counter_allowed before row)) (option_map (tree_in p) (expression_of row)) ≡ false
 own_row ix maus items before p records (r.FieldItem kind value n) its is own =
-    let item = Field kind (positioned ix (tree_in p value)) (unwrap_or n maus) in
+    let item = Field kind (unwrap_or n maus) (positioned ix (tree_in p value)) in
     let here = item_here ix maus items before p records item its (ap is_item is) (ap (item_by ix maus p) is) in
     tree_back ix (current_section before) (tree_in p value) its.listed
     (its_tree ix maus items before p records (r.FieldItem kind value n) value its is refl refl) here.0
@@ -171,7 +171,7 @@ next_row : (ix : Indexes) (maus : ℕ) (items : Bool) (before : List SpelledReco
     → Known ix maus items before p records → p.row ≡ row → opens_items row ≡ true
     → NoItemMisplaced (placed_section ix (current_section (before ++ p ∷ []))) (items_at_prefix ix maus records)
 next_row ix maus items before p records (r.FieldItem kind value n) its is opens =
-    let item = Field kind (positioned ix (tree_in p value)) (unwrap_or n maus) in
+    let item = Field kind (unwrap_or n maus) (positioned ix (tree_in p value)) in
     subst (λ (o : Option ℕ). NoItemMisplaced (placed_section ix o) (items_at_prefix ix maus records)) (sym (same_section before p (ap set_by is)))
     (item_here ix maus items before p records item its (ap is_item is) (ap (item_by ix maus p) is)).1
 next_row ix maus items before p records (r.ConstantItem run) its is opens =
