@@ -12,7 +12,7 @@ use Rattle.mufom_loads.specs.declared.load.Load.TheVariants.{SetSection, SetPc, 
 use Rattle.mufom_debug.specs.declared.item.BlockHead.{BlockHead}
 use Rattle.mufom_debug.specs.declared.item.BlockHead.TheVariants as heads
 use Rattle.mufom_debug.specs.Marks.{DebugMark, block_begin, block_end, name_mark, note_mark, value_mark}
-use Rattle.mufom_link.specs.declared.site.Site.{Site}
+use Rattle.mufom_link.specs.declared.renumbering.Renumbering.{Renumbering}
 
 -- what sections, debug names and variables of a module become
 pub record Renaming : Type 0 where
@@ -75,9 +75,9 @@ abbrev pub renaming : ℕ → ℕ → ℕ → List (Letter × ℕ) → Renaming
 renaming s p d targets = record { section = moved s; debug_name = moved d; variable = moved_variable s p targets }
 
 -- what a variable of the module becomes
-abbrev pub site_variable : Site → Letter → ℕ → Letter × ℕ
+abbrev pub site_variable : Renumbering → Letter → ℕ → Letter × ℕ
 site_variable site = moved_variable site.first_section site.first_public site.targets.now
 
 -- what the entries of the module become
-abbrev pub renaming_of : Site → Renaming
+abbrev pub renaming_of : Renumbering → Renaming
 renaming_of site = renaming site.first_section site.first_public site.first_name site.targets.now

@@ -4,14 +4,14 @@ ghost use Rattle.std.specs.Prelude.{◌≡◌, ◌<◌, ◌^◌, map, option_map
 ghost use Rattle.mufom_debug.specs.Marks.{marks_of, marks_of_item, names_after_all};
 ghost use Rattle.mufom_link.specs.Renaming.{renaming_of, renamed_tree, renamed_head, renamed_mark};
 
-use crate::site::Site;
+use crate::renumbering::Renumbering;
 use mufom_debug::{Block, BlockHead, Boxed, DebugItem};
 use mufom_expr::Postfix;
 use mufom_numbers::{Bytes, List, NoMemory};
 use std::alloc::Global;
 use std::mem;
 
-fn renamed_head(site: &Site<'_>, head: BlockHead) -> BlockHead
+fn renamed_head(site: &Renumbering<'_>, head: BlockHead) -> BlockHead
     ensures { result ≡ renamed_head (renaming_of site.now) head }
 {
     match head {
@@ -47,7 +47,7 @@ fn renamed_head(site: &Site<'_>, head: BlockHead) -> BlockHead
     }
 }
 
-fn renamed_end(site: &Site<'_>, end: Option<Postfix>) -> Option<Postfix>
+fn renamed_end(site: &Renumbering<'_>, end: Option<Postfix>) -> Option<Postfix>
     ensures { result ≡ option_map (renamed_tree (renaming_of site.now)) end }
 {
     match end {
@@ -57,7 +57,7 @@ fn renamed_end(site: &Site<'_>, end: Option<Postfix>) -> Option<Postfix>
 }
 
 #[cycle(renaming)]
-fn renamed_item(alloc: Global, site: &Site<'_>, item: DebugItem) -> Result<DebugItem, NoMemory>
+fn renamed_item(alloc: Global, site: &Renumbering<'_>, item: DebugItem) -> Result<DebugItem, NoMemory>
     ensures { IfOk result (λ other. marks_of_item other ≡ map (renamed_mark (renaming_of site.now)) (marks_of_item item)) }
 {
     match item {
@@ -92,7 +92,7 @@ fn renamed_item(alloc: Global, site: &Site<'_>, item: DebugItem) -> Result<Debug
 #[cycle(renaming)]
 pub(crate) fn renamed_items(
     alloc: Global,
-    site: &Site<'_>,
+    site: &Renumbering<'_>,
     items: List<DebugItem>,
 ) -> Result<List<DebugItem>, NoMemory>
     ensures { IfOk result (λ others. marks_of others ≡ map (renamed_mark (renaming_of site.now)) (marks_of items)) }

@@ -6,7 +6,7 @@ ghost use Rattle.mufom_link.specs.Joining.{IsAppended, IsEmpty};
 
 use crate::debug_renaming::{names_after, renamed_items};
 use crate::renaming::{rename_loads, rename_publics, take_start};
-use crate::site::Site;
+use crate::renumbering::Renumbering;
 use mufom_debug::DebugItem;
 use mufom_expr::{Letter, Postfix};
 use mufom_loads::Load;
@@ -99,7 +99,7 @@ impl Joined {
             start,
             ..
         } = entry.into_parts();
-        let site = Site {
+        let site = Renumbering {
             first_section: self.sections.len() as u32,
             first_public: self.publics.len() as u32,
             first_name: self.debug_names,

@@ -17,8 +17,8 @@ mod linking;
 mod references;
 mod refusal;
 mod renaming;
+mod renumbering;
 mod resolved;
-mod site;
 
 pub use conditions::may_be_linked;
 pub use linking::{link, link_owned};

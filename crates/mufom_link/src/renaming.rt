@@ -4,7 +4,7 @@ ghost use Rattle.std.specs.Prelude.{◌≡◌, map};
 ghost use Rattle.mufom_link.specs.Joining.{start_after};
 ghost use Rattle.mufom_link.specs.Renaming.{renaming_of, renamed_tree, renamed_public, renamed_item, renamed_load};
 
-use crate::site::Site;
+use crate::renumbering::Renumbering;
 use mufom_expr::{Postfix, Token};
 use mufom_loads::{Item, Load};
 use mufom_names::Public;
@@ -12,20 +12,20 @@ use mufom_numbers::List;
 use std::alloc::Global;
 use std::mem;
 
-fn rename(site: &Site<'_>, value: &mut Postfix)
+fn rename(site: &Renumbering<'_>, value: &mut Postfix)
     ensures { value.new ≡ renamed_tree (renaming_of site.now) value.old }
 {
     let own = mem::replace(value, Postfix::single(Token::Number(0)));
     *value = own.renamed(site);
 }
 
-fn rename_public(site: &Site<'_>, public: &mut Public)
+fn rename_public(site: &Renumbering<'_>, public: &mut Public)
     ensures { public.new ≡ renamed_public (renaming_of site.now) public.old }
 {
     rename(site, &mut public.value);
 }
 
-pub(crate) fn rename_publics(site: &Site<'_>, mut publics: Vec<Public>) -> Vec<Public>
+pub(crate) fn rename_publics(site: &Renumbering<'_>, mut publics: Vec<Public>) -> Vec<Public>
     ensures { result.items ≡ map (renamed_public (renaming_of site.now)) publics.items }
 {
     for public in publics.iter_mut() {
@@ -34,7 +34,7 @@ pub(crate) fn rename_publics(site: &Site<'_>, mut publics: Vec<Public>) -> Vec<P
     publics
 }
 
-fn rename_item(site: &Site<'_>, item: &mut Item)
+fn rename_item(site: &Renumbering<'_>, item: &mut Item)
     ensures { item.new ≡ renamed_item (renaming_of site.now) item.old }
 {
     match item {
@@ -43,7 +43,7 @@ fn rename_item(site: &Site<'_>, item: &mut Item)
     }
 }
 
-fn rename_items(site: &Site<'_>, mut items: Vec<Item>) -> Vec<Item>
+fn rename_items(site: &Renumbering<'_>, mut items: Vec<Item>) -> Vec<Item>
     ensures { result.items ≡ map (renamed_item (renaming_of site.now)) items.items }
 {
     for item in items.iter_mut() {
@@ -53,14 +53,14 @@ fn rename_items(site: &Site<'_>, mut items: Vec<Item>) -> Vec<Item>
 }
 
 // The items of a repeat.
-fn rename_repeated(alloc: Global, site: &Site<'_>, items: &mut List<Item>)
+fn rename_repeated(alloc: Global, site: &Renumbering<'_>, items: &mut List<Item>)
     ensures { items.new ≡ map (renamed_item (renaming_of site.now)) items.old }
 {
     let own = mem::replace(items, List::new(alloc));
     *items = List::from_vec(rename_items(site, own.into_vec()));
 }
 
-fn rename_load(alloc: Global, site: &Site<'_>, load: &mut Load)
+fn rename_load(alloc: Global, site: &Renumbering<'_>, load: &mut Load)
     ensures { load.new ≡ renamed_load (renaming_of site.now) load.old }
 {
     match load {
@@ -74,7 +74,7 @@ fn rename_load(alloc: Global, site: &Site<'_>, load: &mut Load)
     }
 }
 
-pub(crate) fn rename_loads(alloc: Global, site: &Site<'_>, mut loads: Vec<Load>) -> Vec<Load>
+pub(crate) fn rename_loads(alloc: Global, site: &Renumbering<'_>, mut loads: Vec<Load>) -> Vec<Load>
     ensures { result.items ≡ map (renamed_load (renaming_of site.now)) loads.items }
 {
     for load in loads.iter_mut() {
@@ -84,7 +84,7 @@ pub(crate) fn rename_loads(alloc: Global, site: &Site<'_>, mut loads: Vec<Load>)
 }
 
 // Takes the start of the module over, where it has one.
-pub(crate) fn take_start(site: &Site<'_>, start: Option<Postfix>, whole: &mut Option<Postfix>)
+pub(crate) fn take_start(site: &Renumbering<'_>, start: Option<Postfix>, whole: &mut Option<Postfix>)
     ensures { whole.new ≡ start_after (renaming_of site.now) start whole.old }
 {
     if let Some(start) = start {

@@ -15,7 +15,7 @@ use Rattle.mufom_plan.specs.declared.plan.Region.{Region}
 use Rattle.mufom_plan.specs.Names.{listed_names}
 use Rattle.mufom_place.specs.declared.refusal.PlaceRefusal.{PlaceRefusal}
 use Rattle.mufom_place.specs.declared.refusal.PlaceRefusal.TheVariants.{Unplaced, Misfit, Overlap, NoMemory}
-use Rattle.mufom_place.specs.declared.site.Site.{Site as PlaceSite}
+use Rattle.mufom_place.specs.declared.placing.AssignedBase.{AssignedBase}
 use Rattle.mufom_place.specs.Bases.{is_listed, site_of}
 use Rattle.mufom_place.specs.Facts.{EndsPast, IsAt, IsMisfit, IsOverlap, IsUnplaced, Stands}
 use Rattle.mufom_meaning.specs.declared.located.LocatedParts.{LocatedParts}
@@ -105,13 +105,13 @@ module _ (count : ℕ) (some : 1 ≤ count) (few : count ≤ 65536) where
       let listed : true ≡ false = sym (ap (λ (section : Section). is_listed (listed_names plan.regions) section.name) code.same) ∙ f.unlisted in cc
 
   -- a section is where the region puts it
-  record IsPlaced (n : ℕ) (section : Section) (site : PlaceSite) : Type 0 where
+  record IsPlaced (n : ℕ) (section : Section) (site : AssignedBase) : Type 0 where
     within : n < count
     size : section.size ≡ 16
     base : site.base ≡ base_at n
     region : site.region ≡ Some 0
 
-  placed : (n : ℕ) (section : Section) (site : PlaceSite) → IsAt plan (flat_sections ms) [] n section site → IsPlaced n section site
+  placed : (n : ℕ) (section : Section) (site : AssignedBase) → IsAt plan (flat_sections ms) [] n section site → IsPlaced n section site
   placed n section site at = from (subst (λ (all : List Section). IsAt plan all [] n section site) (sections_of count count 0) at) where
     from : IsAt plan (replicate count code_section) [] n section site → IsPlaced n section site
     from at =
@@ -121,8 +121,8 @@ module _ (count : ℕ) (some : 1 ≤ count) (few : count ≤ 65536) where
         record {
           within = code.within;
           size = ap (λ (x : Section). x.size) code.same;
-          base = ap (λ (x : PlaceSite). x.base) there;
-          region = ap (λ (x : PlaceSite). x.region) there;
+          base = ap (λ (x : AssignedBase). x.base) there;
+          region = ap (λ (x : AssignedBase). x.region) there;
         }
 
   -- the region ends where the last section does

@@ -5,8 +5,8 @@ use Rattle.std.proofs.lemmas.List.{length-replicate}
 use Rattle.std.specs.Prelude.{◌==◌, slice_get, filter, if◌then◌else◌, codes}
 use Rattle.std.specs.List.{enumerate_from}
 use Rattle.mufom_sections.specs.declared.section.Section.{Section}
-use Rattle.mufom_place.specs.declared.site.Placing.{Placing}
-use Rattle.mufom_place.specs.declared.site.Site.{Site}
+use Rattle.mufom_place.specs.declared.placing.Placing.{Placing}
+use Rattle.mufom_place.specs.declared.placing.AssignedBase.{AssignedBase}
 use Rattle.mufom_place.specs.Bases.{Numbered, aligned_up, goes_to, waiting, packed, last_of, placing_of, placings, site_with, site_of, bases}
 use Rattle.mufom_meaning.specs.Flat.{flat_sections}
 use Rattle.mufom_meaning.specs.Placed.{planned_bases}
@@ -94,7 +94,7 @@ placing-there (suc more) n k low high = by_case (n == k) refl (placing-there mor
       ap (last_of None) (later differ (omega (arith, high)))
 
 -- where the section of a module is placed
-abbrev pub place_at : ℕ → Site
+abbrev pub place_at : ℕ → AssignedBase
 place_at n = record { base = base_at n; region = Some 0 }
 
 pub placed-at : (count more n : ℕ) → n < more → site_of (made_plan count) (replicate more code_section) [] (n, code_section) ≡ place_at n
@@ -119,7 +119,7 @@ bases-there count more n less =
     (enumerate_from 0 all)) n) (append-nil (replicate more code_section))
     ∙ numbered-map (λ (t : Numbered). (site_of (made_plan count) (replicate more code_section) [] t).base) more 0 n less
     ∙ ap (λ (m : ℕ). Some (site_of (made_plan count) (replicate more code_section) [] (m, code_section)).base) first
-    ∙ ap (λ (site : Site). Some site.base) (placed-at count more n less)
+    ∙ ap (λ (site : AssignedBase). Some site.base) (placed-at count more n less)
 
 -- the section of the module with this number is placed there
 pub planned-there : (count n : ℕ) → n < count → slice_get (planned_bases (made_modules count) (made_plan count)).sections n ≡ Some (base_at n)

@@ -9,7 +9,7 @@ use Rattle.std.specs.Ordering.{ordering_then}
 use Rattle.std.proofs.lemmas.List.{get_or-map, length-map, take_all, take_more}
 use Rattle.std.proofs.lemmas.List.FromFn.{get_or-enumerate_from, length-enumerate_from}
 use Rattle.std.proofs.lemmas.List.Sorted.{IsPermutation-map}
-use Rattle.mufom_place.specs.declared.site.Extent.{Extent}
+use Rattle.mufom_place.specs.declared.placing.Extent.{Extent}
 use Rattle.mufom_place.proofs.ExtentOrder.{extent_cmp, same_section, sorted-in_order}
 use Rattle.mufom_map.specs.Keys.{ArePositions, Key, key_of}
 use Rattle.mufom_map.specs.MapText.{by_key, put_in}

@@ -4,7 +4,7 @@ use Rattle.std.proofs.lemmas.Bool.Decides.{nat_tests}
 use Rattle.std.specs.List.{enumerate_from}
 use Rattle.mufom_sections.specs.declared.section.Section.{Section}
 use Rattle.mufom_plan.specs.declared.plan.Plan.{Plan}
-use Rattle.mufom_place.specs.declared.site.Extent.{Extent}
+use Rattle.mufom_place.specs.declared.placing.Extent.{Extent}
 use Rattle.mufom_place.specs.Facts.{in_order, is_before, put_in_order}
 use Rattle.mufom_map.specs.MapText.{by_key, extent_of, put_in}
 use Rattle.mufom_map.specs.Mapped.{MappedSection, mapped_section}

@@ -5,7 +5,7 @@ use Rattle.std.specs.Prelude.{sum}
 use Rattle.std.specs.List.{enumerate_from}
 use Rattle.std.proofs.lemmas.List.Sums.{sum_by-cons}
 use Rattle.mufom_sections.specs.declared.section.Section.{Section}
-use Rattle.mufom_place.specs.declared.site.Extent.{Extent}
+use Rattle.mufom_place.specs.declared.placing.Extent.{Extent}
 use Rattle.mufom_map.specs.Points.{above}
 use Rattle.mufom_map.specs.Room.{shared, used_between}
 use Rattle.mufom_map.specs.Shown.{base_of, end_of, section_extent}

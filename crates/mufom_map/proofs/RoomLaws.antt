@@ -1,6 +1,6 @@
 -- What sections share with the addresses between two others.
 use Rattle.std.proofs.Common.{◌≡◌, ◌+◌, ◌≤◌, ℕ, List, [], ◌∷◌, refl, arith}
-use Rattle.mufom_place.specs.declared.site.Extent.{Extent}
+use Rattle.mufom_place.specs.declared.placing.Extent.{Extent}
 use Rattle.mufom_map.specs.Room.{shared, used_between}
 
 shared-split : (from between to : ℕ) (s : Extent) → from ≤ between → between ≤ to → shared from to s ≡ shared from between s + shared between to s

@@ -11,7 +11,7 @@ use Rattle.mufom_sections.specs.declared.section.Section.{Section}
 use Rattle.mufom_module.specs.declared.module.Parts.{Parts}
 use Rattle.mufom_plan.specs.declared.plan.Plan.{Plan}
 use Rattle.mufom_plan.specs.Commons.{has_common}
-use Rattle.mufom_place.specs.declared.site.Site.{Site}
+use Rattle.mufom_place.specs.declared.placing.AssignedBase.{AssignedBase}
 use Rattle.mufom_place.specs.Bases.{bases, numbered, site_of}
 use Rattle.mufom_meaning.specs.Flat.{common_names, commons, distinct, flat_sections}
 use Rattle.mufom_meaning.specs.Location.{placed_section, placed_sections}
@@ -27,7 +27,7 @@ module _ (origins : List Origin) (plan : Plan) (own asked : List Section) (regio
   abbrev all : List Section
   all = own ++ asked
 
-  abbrev site : ℕ × Section → Site
+  abbrev site : ℕ × Section → AssignedBase
   site = site_of plan own asked
 
   abbrev AreRegions : Type 0

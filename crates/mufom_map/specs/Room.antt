@@ -2,7 +2,7 @@
 -- its number and its size.
 use Rattle.std.specs.Prelude.{ℕ, zero, suc, ◌+◌, ◌-◌, ◌*◌, ◌/◌, ◌==◌, max, min, List, [], ◌∷◌, ◌++◌, if◌then◌else◌}
 use Rattle.mufom_plan.specs.declared.plan.Region.{Region}
-use Rattle.mufom_place.specs.declared.site.Extent.{Extent}
+use Rattle.mufom_place.specs.declared.placing.Extent.{Extent}
 
 -- how many addresses of a section are from one address up to, and not including, another
 abbrev pub shared : ℕ → ℕ → Extent → ℕ

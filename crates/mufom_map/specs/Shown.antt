@@ -2,7 +2,7 @@
 use Rattle.std.specs.Prelude.{ℕ, ◌+◌, List, map, false, Option, None, unwrap_or, slice_index_or}
 use Rattle.std.specs.List.{enumerate_from}
 use Rattle.mufom_sections.specs.declared.section.Section.{Section}
-use Rattle.mufom_place.specs.declared.site.Extent.{Extent}
+use Rattle.mufom_place.specs.declared.placing.Extent.{Extent}
 use Rattle.mufom_origins.specs.declared.origins.Origin.{Origin}
 use Rattle.mufom_map.specs.Mapped.{MappedSection, module_in}
 

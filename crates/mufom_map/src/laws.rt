@@ -3,7 +3,7 @@
 ghost use Rattle.std.specs.Prelude.{map, ◌≡◌, ◌≤◌, ◌+◌, ◌&&◌, ℕ, List, nat_le, nat_lt, if◌then◌else◌};
 ghost use Rattle.mufom_plan.specs.declared.plan.Plan.{Plan};
 ghost use Rattle.mufom_plan.specs.declared.plan.Region.{Region};
-ghost use Rattle.mufom_place.specs.declared.site.Extent.{Extent};
+ghost use Rattle.mufom_place.specs.declared.placing.Extent.{Extent};
 ghost use Rattle.mufom_place.specs.Facts.{in_order};
 ghost use Rattle.mufom_meaning.specs.declared.located.LocatedParts.{LocatedParts};
 ghost use Rattle.mufom_origins.specs.Origins.{FileModule};

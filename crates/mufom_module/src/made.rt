@@ -271,8 +271,9 @@ fn frame(parts: &Parts)
     let _units = parts.maus;
 }
 
-/// Tells of all parts what they have by their types.
-pub(crate) fn attest(parts: &Parts)
+/// The bounds that the types of all parts give, as a clause: a byte is below 256, and so on. The walk has no
+/// effect when the program runs.
+pub(crate) fn type_bounds(parts: &Parts)
     ensures { IsMade parts.now }
 {
     frame(parts);

@@ -6,7 +6,7 @@ ghost use Rattle.mufom_module.specs.Written.{weight};
 ghost use Rattle.mufom_module.specs.Defects.{IsValid};
 ghost use Rattle.mufom_module.specs.Made.{IsMade};
 
-use crate::made::attest;
+use crate::made::type_bounds;
 use crate::weight::module_weight;
 use mufom_debug::DebugItem;
 use mufom_expr::Postfix;
@@ -154,7 +154,7 @@ impl Module {
         ensures same { result ≡ parts }
         ensures made { IsMade result }
     {
-        attest(&parts);
+        type_bounds(&parts);
         Module { parts }
     }
 

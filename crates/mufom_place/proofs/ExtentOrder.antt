@@ -9,7 +9,7 @@ use Rattle.std.proofs.lemmas.List.Sorted.{Contains-permutation, IsPermutation-sy
 use Rattle.std.proofs.lemmas.Map.Keys.{IsDistinct-IsPermutation, apart_from_distinct}
 use Rattle.std.proofs.lemmas.Option.{slice_get-get_or, get_or_from_slice_get}
 use Rattle.mufom_sections.specs.declared.section.Section.{Section}
-use Rattle.mufom_place.specs.declared.site.Extent.{Extent}
+use Rattle.mufom_place.specs.declared.placing.Extent.{Extent}
 use Rattle.mufom_place.specs.Facts.{extents, is_before, put_in_order, in_order}
 
 -- an element stands in a list

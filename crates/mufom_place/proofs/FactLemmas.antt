@@ -9,8 +9,8 @@ use Rattle.mufom_plan.specs.declared.plan.Plan.{Plan}
 use Rattle.mufom_plan.specs.Names.{listed_names}
 use Rattle.mufom_place.specs.declared.refusal.PlaceRefusal.{PlaceRefusal}
 use Rattle.mufom_place.specs.declared.refusal.PlaceRefusal.TheVariants.{Unplaced, Misfit, Overlap, NoMemory}
-use Rattle.mufom_place.specs.declared.site.Site.{Site}
-use Rattle.mufom_place.specs.declared.site.Extent.{Extent}
+use Rattle.mufom_place.specs.declared.placing.AssignedBase.{AssignedBase}
+use Rattle.mufom_place.specs.declared.placing.Extent.{Extent}
 use Rattle.mufom_place.specs.Bases.{Numbered, numbered, has_no_base, is_listed, site_of, bases}
 use Rattle.mufom_place.specs.Facts.{first_some, ◌or_else◌, is_unplaced, unplaced_at, is_past, is_past_region, is_misfit, misfit_at, extents, in_order}
 use Rattle.mufom_place.specs.Facts.{first_overlap, place_refusal, IsUnplaced, EndsPast, IsMisfit, Covers, IsOverlap, Stands}
@@ -127,11 +127,11 @@ module _ (plan : Plan) (sections commons : List Section) where
   past_back : (r end : ℕ) → EndsPast plan.regions r end → is_past plan.regions (Some r) end ≡ true
   past_back r end h = ap (λ found. is_past_region found end) h.found ∙ of_less (h.region.base + h.region.size) end h.past
 
-  abbrev Out : ℕ → Site → ℕ → Type 0
+  abbrev Out : ℕ → AssignedBase → ℕ → Type 0
   Out modulus site size = (modulus ≤ site.base) ⊎ ((modulus < site.base + size)
       ⊎ ((r : ℕ) × (site.region ≡ Some r) × EndsPast plan.regions r (site.base + size)))
 
-  out_sound : (modulus : ℕ) (site : Site) (size : ℕ) → is_misfit modulus plan.regions site size ≡ true → Out modulus site size
+  out_sound : (modulus : ℕ) (site : AssignedBase) (size : ℕ) → is_misfit modulus plan.regions site size ≡ true → Out modulus site size
   out_sound modulus site size e = first (either (nat_le modulus site.base
       || nat_lt modulus (site.base + size)) (is_past plan.regions site.region (site.base + size)) e) where
         second : (nat_le modulus site.base ≡ true) ⊎ (nat_lt modulus (site.base + size) ≡ true) → Out modulus site size
@@ -143,7 +143,7 @@ module _ (plan : Plan) (sections commons : List Section) where
         first (inl h) = second (either (nat_le modulus site.base) (nat_lt modulus (site.base + size)) h)
         first (inr h) = inr (inr (past_sound site.region (site.base + size) h))
 
-  out_back : (modulus : ℕ) (site : Site) (size : ℕ) → Out modulus site size → is_misfit modulus plan.regions site size ≡ false → ⊥
+  out_back : (modulus : ℕ) (site : AssignedBase) (size : ℕ) → Out modulus site size → is_misfit modulus plan.regions site size ≡ false → ⊥
   out_back modulus site size h e =
       let outer = either_false (nat_le modulus site.base || nat_lt modulus (site.base + size)) (is_past plan.regions site.region (site.base + size)) e in
       let inner = either_false (nat_le modulus site.base) (nat_lt modulus (site.base + size)) outer.0 in
@@ -182,7 +182,7 @@ module _ (plan : Plan) (sections commons : List Section) where
       let test = chosen_none (is_misfit modulus plan.regions (site_of plan sections commons (n, h.section)) h.section.size)
       (Misfit n (site_of plan sections commons (n, h.section)).region) none in
       let here : is_misfit modulus plan.regions h.site h.section.size ≡ false =
-      ap (λ (site : Site). is_misfit modulus plan.regions site h.section.size) h.at.placed ∙ test in
+      ap (λ (site : AssignedBase). is_misfit modulus plan.regions site h.section.size) h.at.placed ∙ test in
       out_back modulus h.site h.section.size (subst (λ (r : Option ℕ). (modulus ≤ h.site.base)
       ⊎ ((modulus < h.site.base + h.section.size) ⊎ ((k : ℕ) × (r ≡ Some k) × EndsPast plan.regions k (h.site.base + h.section.size))))
       h.in_region h.out) here
@@ -405,7 +405,7 @@ module _ (plan : Plan) (sections commons : List Section) where
         extent_at k address c =
             let above = c.above in let below = c.below in
             let there = base_there k c.section c.at.found in
-            let site : c.site.base ≡ (site_of plan sections commons (k, c.section)).base = ap (λ (s : Site). s.base) c.at.placed in
+            let site : c.site.base ≡ (site_of plan sections commons (k, c.section)).base = ap (λ (s : AssignedBase). s.base) c.at.placed in
             let x = extents_there 0 (sections ++ commons) placed k c.section (site_of plan sections commons (k, c.section)).base c.at.found there
             (omega (arith, above, below)) in
             let base = x.1 in let size = x.3 in let none : 0 + k ≡ k = omega arith in

@@ -8,8 +8,8 @@ use Rattle.mufom_sections.specs.declared.section.Section.{Section}
 use Rattle.mufom_plan.specs.declared.plan.Region.{Region}
 use Rattle.mufom_plan.specs.Names.{listed_names}
 use Rattle.mufom_plan.specs.declared.plan.Plan.{Plan}
-use Rattle.mufom_place.specs.declared.site.Placing.{Placing}
-use Rattle.mufom_place.specs.declared.site.Waiting.{Waiting}
+use Rattle.mufom_place.specs.declared.placing.Placing.{Placing}
+use Rattle.mufom_place.specs.declared.placing.Waiting.{Waiting}
 use Rattle.mufom_place.specs.Bases.{aligned_up, commons_in, numbered, packed, placings, site_by}
 use Rattle.mufom_place.specs.Packing.{end_of, placings_from}
 use Rattle.mufom_place.specs.Facts.{◌or_else◌, extents, first_overlap, first_some, in_order, last_sections, misfit_by, place_refusal, sections_before}

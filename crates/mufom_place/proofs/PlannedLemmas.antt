@@ -3,7 +3,7 @@ use Rattle.std.proofs.Common.{◌≡◌, ◌≢◌, ℕ, ◌<◌, List, [], ◌�
 use Rattle.std.proofs.Common.{rules, get_or-set_same, get_or-set_other}
 use Rattle.std.specs.Prelude.{◌==◌, if◌then◌else◌}
 use Rattle.std.proofs.Math.ListN.{set}
-use Rattle.mufom_place.specs.declared.site.Placing.{Placing}
+use Rattle.mufom_place.specs.declared.placing.Placing.{Placing}
 use Rattle.mufom_place.specs.Bases.{last_of, placing_of}
 
 same_number : (m n : ℕ) → (m == n) ≡ true → m ≡ n

@@ -4,7 +4,7 @@ use Rattle.std.proofs.Common.{◌∙◌, arith, replicate}
 use Rattle.std.specs.Prelude.{filter, sum_by}
 use Rattle.std.proofs.Math.ListN.{set}
 use Rattle.std.proofs.lemmas.List.{append-nil}
-use Rattle.mufom_place.specs.declared.site.Waiting.{Waiting}
+use Rattle.mufom_place.specs.declared.placing.Waiting.{Waiting}
 use Rattle.mufom_place.specs.Bases.{Numbered, has_no_base, goes_to, stands_for, waiting, waiting_among}
 use Rattle.mufom_place.proofs.EntryLaws.{StandsAlone}
 

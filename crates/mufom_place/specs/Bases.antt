@@ -11,9 +11,9 @@ use Rattle.mufom_sections.specs.declared.section.Section.{Section}
 use Rattle.mufom_plan.specs.declared.plan.Region.{Region}
 use Rattle.mufom_plan.specs.declared.plan.Plan.{Plan}
 use Rattle.mufom_plan.specs.Names.{has_name, listed_names}
-use Rattle.mufom_place.specs.declared.site.Waiting.{Waiting}
-use Rattle.mufom_place.specs.declared.site.Placing.{Placing}
-use Rattle.mufom_place.specs.declared.site.Site.{Site}
+use Rattle.mufom_place.specs.declared.placing.Waiting.{Waiting}
+use Rattle.mufom_place.specs.declared.placing.Placing.{Placing}
+use Rattle.mufom_place.specs.declared.placing.AssignedBase.{AssignedBase}
 
 -- the least multiple of the alignment that is not below the address
 abbrev pub aligned_up : ℕ → ℕ → ℕ
@@ -86,17 +86,17 @@ placing_of [] n = None
 placing_of (p ∷ more) n = last_of (if p.section == n then Some p else None) (placing_of more n)
 
 -- a section is at its own base, or where a region puts it, or at 0 where no region does
-abbrev pub site_with : Option ℕ → Option Placing → Site
+abbrev pub site_with : Option ℕ → Option Placing → AssignedBase
 site_with (Some base) placing = record { base = base; region = None }
 site_with None (Some placing) = record { base = placing.base; region = Some placing.region }
 site_with None None = record { base = 0; region = None }
 
 -- where a section or a common stands, by what regions give
-abbrev pub site_by : List Placing → Numbered → Site
+abbrev pub site_by : List Placing → Numbered → AssignedBase
 site_by given s = site_with s.1.base (placing_of given s.0)
 
 -- where it stands by the plan
-abbrev pub site_of : Plan → List Section → List Section → Numbered → Site
+abbrev pub site_of : Plan → List Section → List Section → Numbered → AssignedBase
 site_of plan sections commons s = site_by (placings plan sections commons) s
 
 -- the bases of the sections and after them those of the commons, one for each

@@ -9,9 +9,9 @@ use Rattle.mufom_plan.specs.declared.plan.Plan.{Plan}
 use Rattle.mufom_plan.specs.Names.{listed_names}
 use Rattle.mufom_place.specs.declared.refusal.PlaceRefusal.{PlaceRefusal}
 use Rattle.mufom_place.specs.declared.refusal.PlaceRefusal.TheVariants.{Unplaced, Misfit, Overlap, NoMemory}
-use Rattle.mufom_place.specs.declared.site.Placing.{Placing}
-use Rattle.mufom_place.specs.declared.site.Site.{Site}
-use Rattle.mufom_place.specs.declared.site.Extent.{Extent}
+use Rattle.mufom_place.specs.declared.placing.Placing.{Placing}
+use Rattle.mufom_place.specs.declared.placing.AssignedBase.{AssignedBase}
+use Rattle.mufom_place.specs.declared.placing.Extent.{Extent}
 use Rattle.mufom_place.specs.Bases.{Numbered, numbered, has_no_base, is_listed, placings, site_by, site_of, bases}
 
 -- an address has 8, 16, 24 and so on to 64 bits
@@ -68,10 +68,10 @@ is_past regions None end = false
 is_past regions (Some n) end = is_past_region (slice_get regions n) end
 
 -- a section lies or ends past the address space, or ends past the region that it is placed in
-abbrev pub is_misfit : ℕ → List Region → Site → ℕ → Bool
+abbrev pub is_misfit : ℕ → List Region → AssignedBase → ℕ → Bool
 is_misfit modulus regions site size = nat_le modulus site.base || nat_lt modulus (site.base + size) || is_past regions site.region (site.base + size)
 
-abbrev pub misfit_with : ℕ → List Region → ℕ → ℕ → Site → Option PlaceRefusal
+abbrev pub misfit_with : ℕ → List Region → ℕ → ℕ → AssignedBase → Option PlaceRefusal
 misfit_with modulus regions n size site = if is_misfit modulus regions site size then Some (Misfit n site.region) else None
 
 abbrev pub misfit_by : ℕ → List Region → List Placing → Numbered → Option PlaceRefusal
@@ -115,7 +115,7 @@ place_refusal width plan sections commons =
 -- The same as relations, which state nothing of an order.
 
 -- the section or common at a position is at a site
-pub record IsAt (plan : Plan) (sections commons : List Section) (n : ℕ) (section : Section) (site : Site) : Type 0 where
+pub record IsAt (plan : Plan) (sections commons : List Section) (n : ℕ) (section : Section) (site : AssignedBase) : Type 0 where
   pub found : slice_get (sections ++ commons) n ≡ Some section
   pub placed : site ≡ site_of plan sections commons (n, section)
 
@@ -136,7 +136,7 @@ pub record EndsPast (regions : List Region) (n end : ℕ) : Type 0 where
 -- is none for a section with a base of its own.
 pub record IsMisfit (modulus : ℕ) (plan : Plan) (sections commons : List Section) (n : ℕ) (region : Option ℕ) : Type 0 where
   pub section : Section
-  pub site : Site
+  pub site : AssignedBase
   pub at : IsAt plan sections commons n section site
   pub in_region : region ≡ site.region
   pub out : (modulus ≤ site.base) ⊎ ((modulus < site.base + section.size) ⊎ ((r : ℕ) × (region ≡ Some r) × EndsPast plan.regions r (site.base + section.size)))
@@ -144,7 +144,7 @@ pub record IsMisfit (modulus : ℕ) (plan : Plan) (sections commons : List Secti
 -- an address lies in the section or common at a position
 pub record Covers (plan : Plan) (sections commons : List Section) (n address : ℕ) : Type 0 where
   pub section : Section
-  pub site : Site
+  pub site : AssignedBase
   pub at : IsAt plan sections commons n section site
   pub above : site.base ≤ address
   pub below : address < site.base + section.size

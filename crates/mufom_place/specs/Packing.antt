@@ -3,8 +3,8 @@ use Rattle.std.specs.Prelude.{ℕ, ◌+◌, ◌^◌, ◌<◌, ◌≤◌, List, [
 use Rattle.std.specs.List.{flat_map}
 use Rattle.mufom_numbers.specs.declared.limits.TheConstants.{MOST_ALIGNMENT}
 use Rattle.mufom_plan.specs.declared.plan.Region.{Region}
-use Rattle.mufom_place.specs.declared.site.Waiting.{Waiting}
-use Rattle.mufom_place.specs.declared.site.Placing.{Placing}
+use Rattle.mufom_place.specs.declared.placing.Waiting.{Waiting}
+use Rattle.mufom_place.specs.declared.placing.Placing.{Placing}
 use Rattle.mufom_place.specs.Bases.{aligned_up, packed, commons_in}
 
 -- a section that waits has an alignment of at least 1 and at most 2^31

@@ -5,7 +5,7 @@ ghost use Rattle.mufom_plan.specs.Names.{listed_names};
 ghost use Rattle.mufom_place.specs.Bases.{aligned_up as least_multiple, commons_in, packed, placing_of};
 ghost use Rattle.mufom_place.specs.Packing.{IsAlignedWaiting, IsLow, end_of, placings_from};
 
-use crate::site::{Placing, Waiting};
+use crate::placing::{Placing, Waiting};
 use mufom_numbers::{List, NoMemory};
 use mufom_plan::{Plan, Region};
 use std::alloc::Global;

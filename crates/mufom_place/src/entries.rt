@@ -9,7 +9,7 @@ ghost use Rattle.mufom_place.specs.Facts.{IsAnswer, first_some, unplaced_at};
 ghost use Rattle.mufom_place.specs.Entries.{entry_for};
 
 use crate::PlaceRefusal;
-use crate::site::Waiting;
+use crate::placing::Waiting;
 use mufom_names::HashSeed;
 use mufom_numbers::{Bytes, List, NoMemory};
 use mufom_plan::{NameList, Plan};

@@ -6,26 +6,26 @@ ghost use Rattle.mufom_place.specs.Facts.{IsAnswer, first_some, is_past as ends_
 
 use crate::PlaceRefusal;
 use crate::bases::planned;
-use crate::site::{Placing, Site};
+use crate::placing::{AssignedBase, Placing};
 use mufom_numbers::List;
 use mufom_plan::Region;
 use mufom_sections::Section;
 use std::alloc::Global;
 
 /// Where a section stands, by its own base and by what a region gives it.
-pub(crate) fn site(base: Option<u64>, placing: Option<Placing>) -> Site
+pub(crate) fn site(base: Option<u64>, placing: Option<Placing>) -> AssignedBase
     ensures { result ≡ site_with base placing }
 {
     match (base, placing) {
-        (Some(base), _) => Site {
+        (Some(base), _) => AssignedBase {
             base: base as u128,
             region: None,
         },
-        (None, Some(placing)) => Site {
+        (None, Some(placing)) => AssignedBase {
             base: placing.base,
             region: Some(placing.region),
         },
-        (None, None) => Site {
+        (None, None) => AssignedBase {
             base: 0,
             region: None,
         },
@@ -49,7 +49,7 @@ fn is_past(regions: &[Region], region: Option<u32>, end: u128) -> bool
 fn fitting_base(
     place: u32,
     size: u64,
-    site: Site,
+    site: AssignedBase,
     regions: &[Region],
     width: u32,
 ) -> Result<u64, PlaceRefusal>

@@ -12,12 +12,12 @@ mod fit;
 mod laws;
 mod overlap;
 mod placement;
+mod placing;
 mod refusal;
 mod regions;
-mod site;
 
 pub use laws::place_refusals_are_facts;
 pub use placement::place;
+pub use placing::Placing;
 pub use refusal::PlaceRefusal;
 pub use regions::{all_placings, section_regions};
-pub use site::Placing;

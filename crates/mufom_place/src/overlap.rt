@@ -5,7 +5,7 @@ ghost use Rattle.mufom_place.specs.Bases.{numbered};
 ghost use Rattle.mufom_place.specs.Facts.{extents as extents_of, first_overlap as overlap_of, in_order};
 
 use crate::PlaceRefusal;
-use crate::site::Extent;
+use crate::placing::Extent;
 use mufom_numbers::NoMemory;
 use mufom_sections::Section;
 use std::alloc::Global;

@@ -13,7 +13,7 @@ use crate::bases::placings;
 use crate::entries::{index_of_entries, waiting_commons, waiting_sections};
 use crate::fit::bases;
 use crate::overlap::overlap;
-use crate::site::Placing;
+use crate::placing::Placing;
 use mufom_numbers::List;
 use mufom_plan::Plan;
 use mufom_sections::Section;

@@ -10,7 +10,7 @@ use crate::PlaceRefusal;
 use crate::bases::planned;
 use crate::fit::site;
 use crate::placement::regional;
-use crate::site::Placing;
+use crate::placing::Placing;
 use mufom_numbers::{List, NoMemory};
 use mufom_plan::Plan;
 use mufom_sections::Section;

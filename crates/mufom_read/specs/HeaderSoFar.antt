@@ -10,7 +10,7 @@ use Rattle.mufom_module.specs.declared.module.Order.TheVariants.{Least, Most}
 use Rattle.mufom_module.specs.SpelledRecords.{SpelledRecord, text_in}
 use Rattle.mufom_module.specs.Gathered.{first_answer}
 use Rattle.mufom_read.specs.declared.header.Names.{Names}
-use Rattle.mufom_read.specs.declared.header.Layout.{Layout}
+use Rattle.mufom_read.specs.declared.header.Addressing.{Addressing}
 use Rattle.mufom_read.specs.declared.header.Header.{Header}
 
 -- the processor and the name of the module, at these parts of the record
@@ -28,11 +28,11 @@ order_of None = Most
 order_of (Some letter) = if LETTER_L == letter then Least else Most
 
 -- The units of an address and the order of bytes. No address has more than 8 units.
-abbrev pub layout_from : ℕ → Option ℕ → Layout
+abbrev pub layout_from : ℕ → Option ℕ → Addressing
 layout_from maus letter = record { maus = min maus 8; order = order_of letter }
 
 -- those that AD gives
-abbrev pub layout_by : Record → Option Layout
+abbrev pub layout_by : Record → Option Addressing
 layout_by (r.Descriptor bits maus letter) = Some (layout_from maus letter)
 layout_by _ = None
 
@@ -41,10 +41,10 @@ abbrev pub names_in : List SpelledRecord → Option Names
 names_in records = slice_get (filter_map (λ p. names_by p p.row) records) 0
 
 -- the layout that the first AD of records gives
-abbrev pub layout_in : List SpelledRecord → Option Layout
+abbrev pub layout_in : List SpelledRecord → Option Addressing
 layout_in records = first_answer layout_by records
 
-abbrev pub header_with : Option Names → Option Layout → Header
+abbrev pub header_with : Option Names → Option Addressing → Header
 header_with names layout = record { names = names; layout = layout }
 
 -- the header with what one more record states; what an earlier one states stays

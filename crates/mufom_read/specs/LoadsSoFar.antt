@@ -12,7 +12,7 @@ use Rattle.mufom_module.specs.Gathered.{item_by, loads_by}
 use Rattle.mufom_read.specs.declared.loads.Loads.{Loads}
 use Rattle.mufom_read.specs.declared.loads.OpenLoad.{OpenLoad}
 use Rattle.mufom_read.specs.declared.loads.OpenLoad.TheVariants as open_load
-use Rattle.mufom_read.specs.declared.header.Layout.{Layout}
+use Rattle.mufom_read.specs.declared.header.Addressing.{Addressing}
 use Rattle.mufom_read.specs.HeaderSoFar.{layout_in}
 use Rattle.mufom_read.specs.Kept.{tables_of, indexes_by}
 
@@ -67,7 +67,7 @@ with_load ix maus s p = with_made ix s p (item_by ix maus p p.row)
 
 -- the units of an address that these records give
 abbrev pub units_in : List SpelledRecord → Option ℕ
-units_in records = option_map (λ (l : Layout). l.maus) (layout_in records)
+units_in records = option_map (λ (l : Addressing). l.maus) (layout_in records)
 
 -- Before a descriptor no load is read, and any units do.
 abbrev pub units_or : Option ℕ → ℕ

@@ -4,21 +4,21 @@ ghost use Rattle.std.specs.Prelude.{◌≡◌, ℕ, Bool, List, Some, IfOk};
 ghost use Rattle.mufom_module.specs.declared.module.Parts as module_parts;
 ghost use Rattle.mufom_module.specs.Grammar.{SpellsModule};
 ghost use Rattle.mufom_read.specs.declared.header.Names as its_names;
-ghost use Rattle.mufom_read.specs.declared.header.Layout as its_layout;
+ghost use Rattle.mufom_read.specs.declared.header.Addressing as its_layout;
 ghost use Rattle.mufom_read.specs.HeaderSoFar.{header_with};
 ghost use Rattle.mufom_read.specs.Prefixes.{Step};
 ghost use Rattle.mufom_read.specs.Built.{IsStatedByKept, IsWhole};
 
 use crate::contents::Contents;
-use crate::header::{Header, Layout, Names};
+use crate::header::{Addressing, Header, Names};
 use crate::prefix::Prefix;
 use mufom_module::{Module, Parts};
 use mufom_names::NameTable;
 use mufom_numbers::{Bytes, List, NoMemory};
 
 // What the header states, which was read as a whole.
-fn whole_header(header: Header) -> (Names, Layout)
-    requires { (names : its_names.Names) × (layout : its_layout.Layout) × (header ≡ header_with (Some names) (Some layout)) }
+fn whole_header(header: Header) -> (Names, Addressing)
+    requires { (names : its_names.Names) × (layout : its_layout.Addressing) × (header ≡ header_with (Some names) (Some layout)) }
     ensures { header ≡ header_with (Some result.0) (Some result.1) }
 {
     let Header { names, layout } = header;

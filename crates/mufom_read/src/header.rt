@@ -32,7 +32,7 @@ pub(crate) struct Names {
 
 /// What the descriptor states of addresses.
 #[derive(Clone, Copy, Debug, PartialEq, Eq)]
-pub(crate) struct Layout {
+pub(crate) struct Addressing {
     /// The units of an address.
     pub maus: u8,
     pub order: Order,
@@ -42,7 +42,7 @@ pub(crate) struct Layout {
 #[derive(Debug, Drop)]
 pub(crate) struct Header {
     pub names: Option<Names>,
-    pub layout: Option<Layout>,
+    pub layout: Option<Addressing>,
 }
 
 // The order of bytes that a letter gives.
@@ -62,10 +62,10 @@ fn order_of(letter: Option<u8>) -> Order
 }
 
 // The units of an address, of which there are no more than 8, and the order of bytes.
-fn layout_of(maus: u64, letter: Option<u8>) -> Layout
+fn layout_of(maus: u64, letter: Option<u8>) -> Addressing
     ensures { result ≡ layout_from maus letter }
 {
-    Layout {
+    Addressing {
         maus: maus.min(MOST_UNITS) as u8,
         order: order_of(letter),
     }
@@ -115,7 +115,7 @@ impl Header {
     }
 
     // Keeps the layout, unless there is one.
-    fn keep_layout(&mut self, layout: Layout)
+    fn keep_layout(&mut self, layout: Addressing)
         ensures { self.new ≡ header_with self.old.names (option_or self.old.layout (Some layout)) }
     {
         if self.layout.is_none() {

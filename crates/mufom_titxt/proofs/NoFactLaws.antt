@@ -16,7 +16,7 @@ use Rattle.mufom_module.specs.declared.module.Order.TheVariants.{Most}
 use Rattle.mufom_module.specs.declared.module.Parts.{Parts}
 use Rattle.mufom_place.specs.declared.refusal.PlaceRefusal.{PlaceRefusal}
 use Rattle.mufom_place.specs.declared.refusal.PlaceRefusal.TheVariants.{Unplaced, Misfit, Overlap, NoMemory}
-use Rattle.mufom_place.specs.declared.site.Site.{Site as PlaceSite}
+use Rattle.mufom_place.specs.declared.placing.AssignedBase.{AssignedBase}
 use Rattle.mufom_place.specs.Facts.{Covers, IsAt, IsMisfit, IsUnplaced, IsOverlap, EndsPast, Stands}
 use Rattle.mufom_place.specs.Bases.{site_of}
 use Rattle.mufom_meaning.specs.declared.located.Run.{Run}
@@ -151,14 +151,14 @@ module _ (maus : ℕ) (runs : List Run) (h : HaveModule (8 * maus) runs) where
       let none : Some r.run.address ≡ None = sym (ap (λ (section : Section). section.base) r.same) ∙ f.without in cc
 
   -- a section or common is that of a run, at its address
-  record IsPlaced (n : ℕ) (section : Section) (site : PlaceSite) : Type 0 where
+  record IsPlaced (n : ℕ) (section : Section) (site : AssignedBase) : Type 0 where
     run : Run
     found : slice_get runs n ≡ Some run
     size : section.size ≡ length run.bytes
     base : site.base ≡ run.address
     free : site.region ≡ None
 
-  placed : (n : ℕ) (section : Section) (site : PlaceSite) → IsAt no_regions (flat_sections ms) [] n section site → IsPlaced n section site
+  placed : (n : ℕ) (section : Section) (site : AssignedBase) → IsAt no_regions (flat_sections ms) [] n section site → IsPlaced n section site
   placed n section site at =
       let found : slice_get (map run_section runs ++ []) n ≡ Some section =
       ap (λ (all : List Section). slice_get all n) (sym (append-nil (map run_section runs ++ []))) ∙ at.found in
@@ -169,8 +169,8 @@ module _ (maus : ℕ) (runs : List Run) (h : HaveModule (8 * maus) runs) where
         run = r.run;
         found = r.found;
         size = ap (λ (x : Section). x.size) r.same;
-        base = ap (λ (x : PlaceSite). x.base) there;
-        free = ap (λ (x : PlaceSite). x.region) there;
+        base = ap (λ (x : AssignedBase). x.base) there;
+        free = ap (λ (x : AssignedBase). x.region) there;
       }
 
   not_misfit : (n : ℕ) (region : Option ℕ) → ¬ IsMisfit (2 ^ width ms) no_regions (flat_sections ms) [] n region

@@ -23,6 +23,6 @@ mod sections;
 mod write;
 
 pub use measure::layout;
-pub use places::Layout;
+pub use places::FileLayout;
 pub use raw::{raw_length, write_raw};
 pub use write::{WriteStop, write_module};

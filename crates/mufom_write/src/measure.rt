@@ -7,7 +7,7 @@ ghost use Rattle.mufom_module.specs.Defects.{IsValid};
 
 use crate::output::Counter;
 use crate::parts::{module_begin, offset_records, part};
-use crate::places::Layout;
+use crate::places::FileLayout;
 use mufom_module::{Module, Parts};
 
 // The length of the records before the parts.
@@ -33,7 +33,7 @@ fn part_length(parts: &Parts, number: usize) -> u64
 }
 
 /// Where the parts begin, one after another, and the length of the whole form.
-pub(crate) fn layout_of(parts: &Parts) -> Layout
+pub(crate) fn layout_of(parts: &Parts) -> FileLayout
     requires { IsValid parts.now }
     ensures offsets { result.offsets ≡ form.offsets shortest parts.now }
     ensures length { result.length ≡ length (form.written parts.now) }
@@ -47,14 +47,14 @@ pub(crate) fn layout_of(parts: &Parts) -> Layout
         at += length;
     }
     offsets[7] = at;
-    Layout {
+    FileLayout {
         offsets,
         length: at + 1,
     }
 }
 
 /// The offsets of the parts in the written form, and its length. Does not allocate.
-pub fn layout(module: &Module) -> Layout
+pub fn layout(module: &Module) -> FileLayout
     ensures offsets { result.offsets ≡ form.offsets shortest «module».now }
     ensures length { result.length ≡ length (form.written «module».now) }
 {

@@ -2,7 +2,7 @@
 
 /// Where the parts of a module's written form begin, and how long it is, in bytes.
 #[derive(Clone, Copy, Debug, PartialEq, Eq)]
-pub struct Layout {
+pub struct FileLayout {
     /// Where the extension, environment, section, external, debug, data and trailer parts begin, 0
     /// for one with nothing to state, and where they end; each from the begin of the form.
     pub offsets: [u64; 8],

@@ -4,7 +4,7 @@ use Rattle.std.specs.Prelude.{slice_get, option_map}
 use Rattle.std.proofs.lemmas.Option.{slice_get-map}
 use Rattle.mufom_sections.specs.declared.section.Section.{Section}
 use Rattle.mufom_plan.specs.declared.plan.Plan.{Plan}
-use Rattle.mufom_place.specs.declared.site.Site.{Site}
+use Rattle.mufom_place.specs.declared.placing.AssignedBase.{AssignedBase}
 use Rattle.mufom_place.specs.declared.refusal.PlaceRefusal.{PlaceRefusal}
 use Rattle.mufom_place.specs.declared.refusal.PlaceRefusal.TheVariants.{Unplaced, Misfit, Overlap, NoMemory}
 use Rattle.mufom_place.specs.Bases.{numbered, bases, site_of, site_with, placing_of, placings}
@@ -91,9 +91,9 @@ module _ (plan : Plan) (sections asked : List Section) where
     not_misfit n region h =
         let p = placing_there n h.section (ap (λ all. slice_get all n) (sym (append-nil placed)) ∙ h.at.found) in
         let site = h.at.placed ∙ again n h.section p in
-        let base : h.site.base ≡ (site_of plan sections asked (n, p.first)).base = ap (λ (x : Site). x.base) site in
+        let base : h.site.base ≡ (site_of plan sections asked (n, p.first)).base = ap (λ (x : AssignedBase). x.base) site in
         let size : h.section.size ≡ p.first.size = ap (λ (x : Section). x.size) p.same in
-        let nowhere : region ≡ None = h.in_region ∙ ap (λ (x : Site). x.region) site in
+        let nowhere : region ≡ None = h.in_region ∙ ap (λ (x : AssignedBase). x.region) site in
         by_out p base size nowhere h.out where
           by_out : (p : IsPlacing n h.section) → h.site.base ≡ (site_of plan sections asked (n, p.first)).base → h.section.size ≡ p.first.size → region ≡ None
               → (2 ^ width ≤ h.site.base) ⊎ ((2 ^ width < h.site.base + h.section.size)
@@ -107,7 +107,7 @@ module _ (plan : Plan) (sections asked : List Section) where
     covers_there n address h =
         let p = placing_there n h.section (ap (λ all. slice_get all n) (sym (append-nil placed)) ∙ h.at.found) in
         let site = h.at.placed ∙ again n h.section p in
-        let base : h.site.base ≡ (site_of plan sections asked (n, p.first)).base = ap (λ (x : Site). x.base) site in
+        let base : h.site.base ≡ (site_of plan sections asked (n, p.first)).base = ap (λ (x : AssignedBase). x.base) site in
         let size : h.section.size ≡ p.first.size = ap (λ (x : Section). x.size) p.same in
         record {
           section = p.first;

@@ -14,7 +14,7 @@ use Rattle.mufom_module.specs.RecordParts.{extension_part, environment_part, sec
 use Rattle.mufom_module.specs.Grammar.{SpellsModule, header_of, indexes_of, parts_of, offsets_in, StandAt}
 use Rattle.mufom_read.specs.declared.prefix.Prefix.{Prefix}
 use Rattle.mufom_read.specs.declared.header.Names.{Names}
-use Rattle.mufom_read.specs.declared.header.Layout.{Layout}
+use Rattle.mufom_read.specs.declared.header.Addressing.{Addressing}
 use Rattle.mufom_read.specs.declared.header.Header.{Header}
 use Rattle.mufom_read.specs.Prefixes.{Step, records_of, offset_records_of, offsets_of}
 use Rattle.mufom_read.specs.Faults.{is_bad_descriptor}
@@ -98,7 +98,7 @@ stated_of reads_debug f prefix bytes is s =
     let counted = units_of s.describes.0 s.describes.1 s.describes.2 (subst (λ (row : Record). is_bad_descriptor row ≡ false) s.describes.3 s.no_bad) in
     let before = ((header_of s.f ++ s.f.sections) ++ s.f.externals) ++ s.f.debug in
     let after = (((s.f.offsets ++ s.f.sections) ++ s.f.externals) ++ s.f.debug) in
-    let given : units_in before ≡ Some maus = ap (option_map (λ (l : Layout). l.maus))
+    let given : units_in before ≡ Some maus = ap (option_map (λ (l : Addressing). l.maus))
     (layout-first s.f.begin s.f.descriptor after s.begins s.describes counted.1) in
     let loads : closed (loads_so_far (records_of prefix)) ≡ loads_of (indexes_of s.f) maus s.f.loads =
     ap (λ (ps : List SpelledRecord). closed (loads_so_far ps)) s.records
@@ -136,7 +136,7 @@ whole-stated reads_debug f prefix bytes is =
 -- ---- all parts
 
 -- parts that are as the code keeps them are those of the module
-pub the-parts : (f : Prefix) (m p : Parts) (names : Names) (layout : Layout) → IsStatedByKept f m → f.contents.header
+pub the-parts : (f : Prefix) (m p : Parts) (names : Names) (layout : Addressing) → IsStatedByKept f m → f.contents.header
     ≡ record { names = Some names; layout = Some layout }
     → p.processor ≡ names.processor → p.name ≡ names.name → p.maus ≡ layout.maus → p.order ≡ layout.order → p.ext ≡ f.extension.items → p.env
     ≡ f.environment.items
@@ -147,11 +147,11 @@ the-parts f m p names layout stated header processor name maus order ext env sec
     let its_names : Some names ≡ Some (record { processor = m.processor; name = m.name }) = sym (ap (λ (h : Header). h.names) header) ∙ stated.names in
     let its_layout : Some layout ≡ Some (record { maus = m.maus; order = m.order }) = sym (ap (λ (h : Header). h.layout) header) ∙ stated.layout in
     let same_names : names ≡ record { processor = m.processor; name = m.name } = ap (λ (o : Option Names). unwrap_or o names) its_names in
-    let same_layout : layout ≡ record { maus = m.maus; order = m.order } = ap (λ (o : Option Layout). unwrap_or o layout) its_layout in
+    let same_layout : layout ≡ record { maus = m.maus; order = m.order } = ap (λ (o : Option Addressing). unwrap_or o layout) its_layout in
     let same_processor = processor ∙ ap (λ (n : Names). n.processor) same_names in
     let same_name = name ∙ ap (λ (n : Names). n.name) same_names in
-    let same_maus = maus ∙ ap (λ (l : Layout). l.maus) same_layout in
-    let same_order = order ∙ ap (λ (l : Layout). l.order) same_layout in
+    let same_maus = maus ∙ ap (λ (l : Addressing). l.maus) same_layout in
+    let same_order = order ∙ ap (λ (l : Addressing). l.order) same_layout in
     let same_ext = ext ∙ sym stated.extension in
     let same_env = env ∙ sym stated.environment in
     let same_sections = sections ∙ sym stated.sections in

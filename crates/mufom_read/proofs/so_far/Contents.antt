@@ -14,7 +14,7 @@ use Rattle.mufom_module.specs.Gathered.{references_of, mark_by, start_by, starts
 use Rattle.mufom_module.specs.Grammar.{states_again, names_unknown, FollowFrom}
 use Rattle.mufom_read.specs.declared.tables.Tables.{Tables}
 use Rattle.mufom_read.specs.declared.header.Header.{Header}
-use Rattle.mufom_read.specs.declared.header.Layout.{Layout}
+use Rattle.mufom_read.specs.declared.header.Addressing.{Addressing}
 use Rattle.mufom_read.specs.declared.loads.Loads.{Loads}
 use Rattle.mufom_read.specs.declared.debug.Debugs.{Debugs}
 use Rattle.mufom_read.specs.declared.contents.Contents.{Contents}
@@ -239,9 +239,9 @@ module _ (c : Contents) (t : Tables) (all : List OffsetRecord) (start : ℕ) (p 
   }
 
   pub loads-taken : (new : Loads) (maus : ℕ) → stands_in data_part p.row ≡ true → maus
-      ≡ units_or (option_map (λ (l : Layout). l.maus) c.header.layout) → new ≡ with_load (indexes_by t) maus c.loads p → new ≡ loads_so_far (records_in more)
+      ≡ units_or (option_map (λ (l : Addressing). l.maus) c.header.layout) → new ≡ with_load (indexes_by t) maus c.loads p → new ≡ loads_so_far (records_in more)
   loads-taken new maus own units same =
-      let its : maus ≡ units_or (units_in ps) = units ∙ ap (λ (o : Option Layout). units_or (option_map (λ (l : Layout). l.maus) o)) before.contents.layout in
+      let its : maus ≡ units_or (units_in ps) = units ∙ ap (λ (o : Option Addressing). units_or (option_map (λ (l : Addressing). l.maus) o)) before.contents.layout in
       same ∙ (λ j. with_load (indexes_by (before.tables j)) (its j) (before.contents.loads j) p)
       ∙ sym (ap (λ (b : Bool). cond b (with_load (indexes_by (tables_of ps)) (units_or (units_in ps)) (loads_so_far ps) p) (loads_so_far ps)) own)
       ∙ sym (ap loads_so_far with_one ∙ loads-more ps p)

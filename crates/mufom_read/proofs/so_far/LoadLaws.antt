@@ -15,7 +15,7 @@ use Rattle.mufom_loads.specs.declared.load.Item.TheVariants.{Field}
 use Rattle.mufom_module.specs.SpelledRecords.{SpelledRecord, expression_of, tree_in, tree_of_record, positioned}
 use Rattle.mufom_module.specs.RecordParts.{data_part, stands_in}
 use Rattle.mufom_module.specs.Gathered.{item_by}
-use Rattle.mufom_read.specs.declared.header.Layout.{Layout}
+use Rattle.mufom_read.specs.declared.header.Addressing.{Addressing}
 use Rattle.mufom_read.specs.declared.loads.Loads.{Loads}
 use Rattle.mufom_read.specs.HeaderSoFar.{layout_by, layout_in}
 use Rattle.mufom_read.specs.LoadsSoFar.{no_loads, is_item, units_in, loads_after, loads_from, loads_so_far}
@@ -38,9 +38,9 @@ answer-more ask ps p = ap (λ xs. slice_get xs 0) (filter_map-append ask ps (p �
 
 -- units that are known stay
 pub units-stay : (ps : List SpelledRecord) (p : SpelledRecord) (maus : ℕ) → units_in ps ≡ Some maus → units_in (ps ++ p ∷ []) ≡ Some maus
-units-stay ps p maus given = ap (option_map (λ (l : Layout). l.maus)) (answer-more (λ q. layout_by q.row) ps p) ∙ stays (layout_in ps) given where
-  stays : (o : Option Layout) → option_map (λ (l : Layout). l.maus) o ≡ Some maus
-      → option_map (λ (l : Layout). l.maus) (option_or o (layout_by p.row)) ≡ Some maus
+units-stay ps p maus given = ap (option_map (λ (l : Addressing). l.maus)) (answer-more (λ q. layout_by q.row) ps p) ∙ stays (layout_in ps) given where
+  stays : (o : Option Addressing) → option_map (λ (l : Addressing). l.maus) o ≡ Some maus
+      → option_map (λ (l : Addressing). l.maus) (option_or o (layout_by p.row)) ≡ Some maus
   stays (Some l) h = h
   stays None h = absurd cc
 

@@ -1,6 +1,6 @@
 use Rattle.std.proofs.Common.{List, ◌++◌, sym, ap, ◌∙◌, append_assoc}
 use Rattle.std.specs.List.{flat_map}
-use Rattle.mufom_place.specs.declared.site.Waiting.{Waiting}
+use Rattle.mufom_place.specs.declared.placing.Waiting.{Waiting}
 use Rattle.mufom_place.specs.Bases.{packed}
 use Rattle.mufom_place.specs.Packing.{end_of}
 use Rattle.mufom_place.proofs.PackingLemmas.{packed-append}

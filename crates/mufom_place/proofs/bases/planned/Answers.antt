@@ -1,6 +1,6 @@
 use Rattle.std.proofs.Common.{◌≢◌, ◌<◌, None, get_or, length, take, vec_len, sym, ap, ◌∙◌, arith}
 use Rattle.std.proofs.lemmas.List.{take_more}
-use Rattle.mufom_place.specs.declared.site.Placing.{Placing}
+use Rattle.mufom_place.specs.declared.placing.Placing.{Placing}
 use Rattle.mufom_place.specs.Bases.{placing_of}
 use Rattle.mufom_place.proofs.PlannedLemmas.{planned-next, planned-passed}
 use Rattle.mufom_place.proofs.bases.planned.Goals as goal

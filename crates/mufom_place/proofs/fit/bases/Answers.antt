@@ -1,7 +1,7 @@
 use Rattle.std.proofs.Common.{◌≡◌, ◌<◌, ◌+◌, ◌^◌, ◌∷◌, ◌++◌, [], drop, length, map, None, sym, ap, ◌∙◌, append_assoc, arith}
 use Rattle.std.proofs.lemmas.List.{append-nil, get_or_default}
 use Rattle.std.proofs.lemmas.Result.{err_from_is_err_and}
-use Rattle.mufom_place.specs.declared.site.Site.{Site}
+use Rattle.mufom_place.specs.declared.placing.AssignedBase.{AssignedBase}
 use Rattle.mufom_place.specs.Bases.{Numbered, numbered, site_by, site_with}
 use Rattle.mufom_place.specs.Facts.{first_some, misfit_by, misfit_with}
 use Rattle.mufom_place.proofs.Steps.{drop-numbered, drop-numbered-all, first_some-next, first_some-found}
@@ -46,7 +46,7 @@ loop-place-preserved c =
     ∙ c.in_ok-planned.ensures.value place c.loop-place-test.true) in
     let none : misfit_by modulus regions given (place, section) ≡ misfit_with modulus regions place section.size c.site-site.result =
     λ i. misfit_with modulus regions place section.size (sym at i) in
-    let base = ap (λ (s : Site). s.base) (sym at) ∙ sym c.in_ok-fitting_base.ensures.base in
+    let base = ap (λ (s : AssignedBase). s.base) (sym at) ∙ sym c.in_ok-fitting_base.ensures.base in
     record {
       based = c.loop-place.invariant.based
           ∙ ap (λ rest. c.loop-place.bases ++ map base_at rest) next

@@ -19,10 +19,9 @@ pub struct Placing {
     pub base: u128,
 }
 
-/// Where a section stands: its base, and the region that it is placed in, if it has no base of its
-/// own.
+/// The base of a section, and the region that gives it, if the section has no base of its own.
 #[derive(Clone, Copy, Debug, PartialEq, Eq)]
-pub struct Site {
+pub struct AssignedBase {
     pub base: u128,
     pub region: Option<u32>,
 }

@@ -3,7 +3,7 @@ use Rattle.std.specs.Prelude.{All}
 use Rattle.mufom_debug.specs.declared.item.DebugItem.{DebugItem}
 use Rattle.mufom_debug.specs.Marks.{marks_of}
 use Rattle.mufom_module.specs.Made.{IsMadeSection, IsMadePublic, IsMadeReference, IsMadeMark, IsMadeLoad}
-use Rattle.mufom_module.proofs.made.attest.Goals as goal
+use Rattle.mufom_module.proofs.made.type_bounds.Goals as goal
 
 pub returns : goal.returns
 returns c = record {

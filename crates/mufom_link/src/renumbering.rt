@@ -9,14 +9,14 @@ use mufom_expr::{Letter, VarMap};
 /// name, and the variables that stand for its references. Numbers are added modulo 2^32, which
 /// changes none that a valid module has.
 #[derive(Clone, Copy)]
-pub(crate) struct Site<'a> {
+pub(crate) struct Renumbering<'a> {
     pub first_section: u32,
     pub first_public: u32,
     pub first_name: u32,
     pub targets: &'a [(Letter, u32)],
 }
 
-impl<'a> Site<'a> {
+impl<'a> Renumbering<'a> {
     // The number in the link of a section of this module.
     pub(crate) fn section(&self, section: u32) -> u32
         ensures { result ≡ moved self.now.first_section section }
@@ -42,7 +42,7 @@ impl<'a> Site<'a> {
     }
 }
 
-impl<'a> VarMap for Site<'a> {
+impl<'a> VarMap for Renumbering<'a> {
     ghost use Rattle.mufom_link.specs.Renaming.{site_variable};
 
     ghost meaning = { site_variable };
