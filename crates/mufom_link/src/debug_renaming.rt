@@ -57,7 +57,11 @@ fn renamed_end(site: &Renumbering<'_>, end: Option<Postfix>) -> Option<Postfix>
 }
 
 #[cycle(renaming)]
-fn renamed_item(alloc: Global, site: &Renumbering<'_>, item: DebugItem) -> Result<DebugItem, NoMemory>
+fn renamed_item(
+    alloc: Global,
+    site: &Renumbering<'_>,
+    item: DebugItem,
+) -> Result<DebugItem, NoMemory>
     ensures { IfOk result (λ other. marks_of_item other ≡ map (renamed_mark (renaming_of site.now)) (marks_of_item item)) }
 {
     match item {

@@ -84,7 +84,11 @@ pub(crate) fn rename_loads(alloc: Global, site: &Renumbering<'_>, mut loads: Vec
 }
 
 // Takes the start of the module over, where it has one.
-pub(crate) fn take_start(site: &Renumbering<'_>, start: Option<Postfix>, whole: &mut Option<Postfix>)
+pub(crate) fn take_start(
+    site: &Renumbering<'_>,
+    start: Option<Postfix>,
+    whole: &mut Option<Postfix>,
+)
     ensures { whole.new ≡ start_after (renaming_of site.now) start whole.old }
 {
     if let Some(start) = start {
