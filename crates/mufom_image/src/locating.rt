@@ -25,7 +25,7 @@ use mufom_module::Module;
 use mufom_plan::Plan;
 use std::alloc::Global;
 
-// The module with the bases of its sections, after which the bases of its commons stand.
+// The module with the bases of its sections, followed by the bases of its commons.
 fn placed_module<'a>(
     module: &'a Module,
     resolutions: &'a [Resolution],
@@ -43,7 +43,7 @@ fn placed_module<'a>(
     }
 }
 
-// The parts of the location of a module whose references stand for these.
+// The parts of the location of a module whose references resolve to these.
 fn located(
     alloc: Global,
     module: &Module,
