@@ -38,10 +38,10 @@ split_whole p xs e = slice_split_none p xs (All-from_get_or (λ x. p x ≡ false
 
 -- what is no line feed
 fed_not : (text : List ℕ) (k : ℕ) → (Passes (is_byte 10) text k → ⊥) → (get_or text k 0 == 10) ≡ false
-fed_not text k none = by_test (get_or text k 0 == 10) none where
-  by_test : (t : Bool) → ((t ≡ true) → ⊥) → t ≡ false
-  by_test true no = absurd (no refl)
-  by_test false no = refl
+fed_not text k none = by_test (get_or text k 0 == 10) refl where
+  by_test : (t : Bool) → (get_or text k 0 == 10) ≡ t → t ≡ false
+  by_test true same = absurd (none same)
+  by_test false same = refl
 
 -- the first line feed, as a search finds it
 pub feed_at : (text : List ℕ) (n : ℕ) → NoneBefore (Passes (is_byte 10) text) 0 (length text) n → Passes (is_byte 10) text n

@@ -45,7 +45,7 @@ module _ (high low a b : ℕ) (after : List ℕ) (is_high : hex_digit high ≡ S
       ∙ ap (λ words. (high ∷ low ∷ []) ∷ words) (words_space after)
 
   byte : byte_of (high ∷ low ∷ []) ≡ Some (a * 16 + b)
-  byte = rw (is_high, is_low) refl
+  byte = rw (is_high, is_low) (ap (λ n. Some n) (omega arith))
 
   -- are the first byte of a line
   pub spaced_first : bytes_of (words_of line) ≡ option_map (λ bytes. (a * 16 + b) ∷ bytes) (bytes_of (words_of after))

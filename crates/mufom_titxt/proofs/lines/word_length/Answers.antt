@@ -3,10 +3,10 @@ use Rattle.std.specs.Prelude.{◌==◌}
 use Rattle.std.proofs.lemmas.List.Sums.{position_or_len_is}
 use Rattle.mufom_titxt.proofs.lines.word_length.Goals as goal
 
-pub returns-then-byte-clause-count : goal.returns-then-byte-clause-count
-returns-then-byte-clause-count c =
+pub returns-then-byte-eq32-clause-count : goal.returns-then-byte-eq32-clause-count
+returns-then-byte-eq32-clause-count c =
     sym (position_or_len_is (λ b. b == 32) c.args.text.now c.loop-count.count 0 (omega arith) c.loop-count.invariant
-    (λ less. eq-eqb _ _ c.if-byte.true))
+    (λ less. eq-eqb _ _ c.if-byte-eq32.true))
 
 pub returns-clause-count : goal.returns-clause-count
 returns-clause-count c =
