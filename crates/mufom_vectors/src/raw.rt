@@ -97,6 +97,13 @@ static ASKED: [&str; 3] = ["help", "--help", "-h"];
 fn texts_are_printed(rt: HostRuntime) {
     all_come_to(&rt, rt.alloc(), &RUNS);
     for line in &ASKED {
-        all_come_to(&rt, rt.alloc(), &[(&[], "", line, 0, command_list())]);
+        let case = Case {
+            files: &[],
+            first: "",
+            line,
+            status: 0,
+            text: command_list(),
+        };
+        all_come_to(&rt, rt.alloc(), &[case]);
     }
 }

@@ -37,6 +37,7 @@ pub(crate) enum Held {
 pub(crate) type File = (&'static str, Held);
 
 /// A run of the program over files, as a row of a table.
+#[derive(Clone, Copy)]
 pub(crate) struct Case {
     pub(crate) files: &'static [File],
     /// The arguments of a run that first makes the file `c` of them; empty if there is none.
