@@ -2,23 +2,23 @@
 
 ghost use Rattle.mufom_groups.specs.Laws.{GroupsMakeNoDifference, LinkFactsStand, LinkedIsFlat, LinksAreSingle, LinksStandForFlat};
 
-/// Commands that differ in their brackets at most give the same module, of whatever modules, and to
-/// a link fact both or neither.
+/// Commands that differ at most in their brackets link any modules into the same module; if one of them
+/// has a link fact, so has the other.
 pub fn groups_make_no_difference()
     ensures { GroupsMakeNoDifference }
 {}
 
-/// The list that is linked at last is the flat list, exactly if it has no link fact.
+/// The list that is linked last is the flat list if and only if the flat list has no link fact.
 pub fn linked_is_flat()
     ensures { LinkedIsFlat }
 {}
 
-/// A link fact of a list that is linked before is one of the flat list too.
+/// A link fact of a list that is linked before is also one of the flat list.
 pub fn link_facts_stand()
     ensures { LinkFactsStand }
 {}
 
-/// The modules of a command give at most one module, or one link fact.
+/// The modules of a command have at most one result: one module, or one link fact.
 pub fn links_are_single()
     ensures { LinksAreSingle }
 {}

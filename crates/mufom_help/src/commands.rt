@@ -21,7 +21,7 @@ To print the image, what is at which address, or the source line at one:
 To write the image as raw bytes or as TI-TXT:
   bin [--no-debug] [--plan PLAN] [--keep NAME] [--fill BYTE] -o OUT FILES
   txt [--no-debug] [--plan PLAN] [--keep NAME] -o OUT FILES
-To make modules, of a TI-TXT text or to try the program:
+To make modules, from a TI-TXT file or for a self-test:
   fromtxt [--maus N] -o OUT FILE
   make COUNT
 For help:
@@ -284,11 +284,11 @@ Example:
 ";
 
 /// The text of `help fromtxt`.
-pub const FROM_TXT: &str = "fromtxt: makes a module of a TI-TXT text
+pub const FROM_TXT: &str = "fromtxt: makes a module from a TI-TXT file
 
 Usage: mufom fromtxt [--maus N] -o OUT FILE
 
-Reads a TI-TXT text and writes a module to OUT that loads its bytes at its
+Reads a TI-TXT file and writes a module to OUT that loads its bytes at its
 addresses: an absolute section for each row of neighbouring addresses, and
 nothing else. The module can be linked, located and dumped like any other.
 
@@ -339,7 +339,7 @@ Example:
 ";
 
 /// The text of `help make`.
-pub const MAKE: &str = "make: links and locates generated modules, to try out a machine
+pub const MAKE: &str = "make: links and locates generated modules, as a self-test
 
 Usage: mufom make COUNT
 

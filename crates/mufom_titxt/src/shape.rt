@@ -7,7 +7,7 @@ ghost use Rattle.mufom_titxt.specs.Scans.{shape_of, alone_shape, bytes_from};
 use crate::lines::next_word;
 use arrayvec::ArrayVec;
 
-/// What a line states, but for its bytes.
+/// What a line states, except for its bytes.
 #[derive(Clone, Copy, Debug)]
 pub enum Shape {
     Blank,

@@ -1,6 +1,6 @@
 //! What a public symbol needs is kept, and all else is left out.
 
-use crate::runs::{File, Held, Run, all_come_to, makes};
+use crate::runs::{Case, File, Held, all_come_to, makes};
 
 /// Three sections of four bytes. `main` is in the first, which names the third; the second names `q`, which
 /// nothing defines.
@@ -22,68 +22,80 @@ const FILES: &[File] = &[
     ("n", Held::Names(b"\xE8\x20\x01z\xE2\xC9\x20\x07")),
 ];
 
-static RUNS: [Run; 10] = [
-    (FILES, "", "dump --plan p --keep main a", 0, IMAGE),
-    (FILES, "", "dump --plan p --keep=main [ a ] + n", 0, IMAGE),
-    (
-        FILES,
-        "link -o c a",
-        "dump --plan p --keep main c",
-        0,
-        IMAGE,
-    ),
-    (
-        FILES,
-        "locate --plan p --keep main -o c a",
-        "dump c",
-        0,
-        IMAGE,
-    ),
+static RUNS: [Case; 10] = [
+    Case {
+        files: FILES,
+        first: "",
+        line: "dump --plan p --keep main a",
+        status: 0,
+        text: IMAGE,
+    },
+    Case {
+        files: FILES,
+        first: "",
+        line: "dump --plan p --keep=main [ a ] + n",
+        status: 0,
+        text: IMAGE,
+    },
+    Case {
+        files: FILES,
+        first: "link -o c a",
+        line: "dump --plan p --keep main c",
+        status: 0,
+        text: IMAGE,
+    },
+    Case {
+        files: FILES,
+        first: "locate --plan p --keep main -o c a",
+        line: "dump c",
+        status: 0,
+        text: IMAGE,
+    },
     // All is located where no name is given.
-    (
-        FILES,
-        "",
-        "dump --plan p a",
-        1,
-        "refused: locate: Undefined \"q\"\n",
-    ),
+    Case {
+        files: FILES,
+        first: "",
+        line: "dump --plan p a",
+        status: 1,
+        text: "refused: locate: Undefined \"q\"\n",
+    },
     // A name that no public of the list has, an empty one, and one of a member that nothing needs.
-    (
-        FILES,
-        "",
-        "dump --plan p --keep q a",
-        1,
-        "refused: keep: Unknown \"q\"\n",
-    ),
-    (
-        FILES,
-        "",
-        "dump --keep= a",
-        1,
-        "refused: keep: Unknown \"\"\n",
-    ),
-    (
-        FILES,
-        "",
-        "dump --plan p --keep z a + n",
-        1,
-        "refused: keep: Unknown \"z\"\n",
-    ),
+    Case {
+        files: FILES,
+        first: "",
+        line: "dump --plan p --keep q a",
+        status: 1,
+        text: "refused: keep: Unknown \"q\"\n",
+    },
+    Case {
+        files: FILES,
+        first: "",
+        line: "dump --keep= a",
+        status: 1,
+        text: "refused: keep: Unknown \"\"\n",
+    },
+    Case {
+        files: FILES,
+        first: "",
+        line: "dump --plan p --keep z a + n",
+        status: 1,
+        text: "refused: keep: Unknown \"z\"\n",
+    },
     // It is looked for after the link and before the location.
-    (
-        FILES,
-        "",
-        "dump --keep z a a",
-        1,
-        "refused: link: Duplicate \"main\"\n",
-    ),
-    (
-        FILES,
-        "",
-        "dump --keep main a",
-        1,
-        "refused: locate: Unplaced section 0\n",
-    ),
+    Case {
+        files: FILES,
+        first: "",
+        line: "dump --keep z a a",
+        status: 1,
+        text: "refused: link: Duplicate \"main\"\n",
+    },
+    Case {
+        files: FILES,
+        first: "",
+        line: "dump --keep main a",
+        status: 1,
+        text: "refused: locate: Unplaced section 0\n",
+    },
 ];
 
 #[test]
