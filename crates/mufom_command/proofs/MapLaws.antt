@@ -1,37 +1,36 @@
--- The flat list with its files, and the map of lists that mean the same.
-use Rattle.std.proofs.Common.{◌≡◌, ℕ, zero, suc, List, [], ◌∷◌, ◌++◌, length, map, take, drop, option_to_list, None, refl, sym, ap, subst, ◌∙◌, unwrap_or}
+-- The flat list with its files, and the maps of lists that mean the same, and of what is kept of them.
+use Rattle.std.proofs.Common.{◌≡◌, ℕ, zero, suc, List, [], ◌∷◌, ◌++◌, length, map, take, drop, option_to_list, Option, None, refl, sym, ap, ◌∙◌, inl, inr}
 use Rattle.std.specs.Prelude.{slice_get}
 use Rattle.std.proofs.lemmas.List.{drop-map, map-append}
 use Rattle.mufom_module.specs.declared.module.Parts.{Parts}
-use Rattle.mufom_module.specs.Defects.{IsValid}
 use Rattle.mufom_plan.specs.declared.plan.Plan.{Plan}
 use Rattle.mufom_meaning.specs.declared.located.LocatedParts.{LocatedParts}
 use Rattle.mufom_meaning.specs.Flat.{flat_sections}
 use Rattle.mufom_meaning.specs.Placed.{placed_commons, planned_bases}
 use Rattle.mufom_meaning.specs.Readings.{Readings, readings}
 use Rattle.mufom_meaning.specs.Selection.{members_at}
-use Rattle.mufom_meaning.specs.Staging.{AreValid}
 use Rattle.mufom_meaning.specs.StagingLaws.{MeansTheSame}
 use Rattle.mufom_meaning.proofs.Placed.{same_placed_commons}
-use Rattle.mufom_meaning.proofs.facts.AllAnswers.{answers_are_facts}
-use Rattle.mufom_meaning.proofs.facts.LinkFacts.{link_facts_grow}
 use Rattle.mufom_meaning.proofs.locations.SelectionSingle.{selection_is_single}
 use Rattle.mufom_words.specs.declared.command.Command.{Command}
 use Rattle.mufom_words.specs.Sound.{HasTree, numbers_from}
 use Rattle.mufom_words.specs.Tree.{Forest, leaves, tree_of}
-use Rattle.mufom_groups.specs.Linked.{IsFlatList, linked, linked_module, members, roots}
-use Rattle.mufom_groups.specs.Work.{gives, IsSingle, one_with}
-use Rattle.mufom_groups.proofs.GroupsAlike.{linked-flat}
+use Rattle.mufom_groups.specs.Linked.{IsFlatList, members, roots}
+use Rattle.mufom_groups.specs.Work.{IsSingle, one_with}
 use Rattle.mufom_groups.proofs.Singles.{flat_list-single}
 use Rattle.mufom_groups.proofs.Works.{one_with-single}
 use Rattle.mufom_origins.specs.declared.origins.Origin.{Origin}
 use Rattle.mufom_origins.specs.Origins.{FileModule, modules_of, numbered, origin_of, origins_of}
 use Rattle.mufom_origins.specs.Places.{at_positions, with_chosen}
 use Rattle.mufom_origins.proofs.FlatLaws.{chosen-map, members-chosen, modules-numbered}
-use Rattle.mufom_map.specs.Mapped.{Mapped, mapped, mapped_by}
+use Rattle.mufom_map.specs.Mapped.{mapped_by}
+use Rattle.mufom_prune.specs.Pruned.{Remains}
+use Rattle.mufom_command.specs.declared.maps.TracedModule.{TracedModule}
+use Rattle.mufom_command.specs.Commands.{Kept, kept_origins, mapped_kept}
 use Rattle.mufom_command.specs.FlatFiles.{AreFlatFiles, files_with}
+use Rattle.mufom_command.specs.MapInputs.{IsKeptPart}
 use Rattle.mufom_command.specs.Stop.{Stop}
-use Rattle.mufom_command.proofs.LocatingLaws.{flat-linkable, flat-valid, link-means, named-first}
+use Rattle.mufom_command.proofs.LocatingLaws.{AreAlike}
 
 -- ---- the flat list with its files
 
@@ -99,14 +98,21 @@ same-map ms leaves same origins plan r =
     let asked = same_placed_commons ms leaves sections (ap (λ (x : Readings). x.commons) all) plan in
     λ i. mapped_by origins plan (sections i) (asked i) r
 
--- the map that is shown of the link of a command's modules is that of their flat list with its files
-module _ (c : Command) (ms : List Parts) (valid : AreValid ms) (unnamed : c.name ≡ None) (M : Parts) (sound : IsValid M) (plan : Plan) (r : LocatedParts) where
-  pub link-shows : (own : List FileModule) → AreFlatFiles (tree_of c.marks) ms own → linked_module c ms (gives M)
-      → mapped_by (origins_of own) plan (flat_sections (M ∷ [])) (placed_commons (M ∷ []) plan) r ≡ mapped own plan r
-  link-shows own are (flat, is, joined) =
-      let is_flat = ((linked-flat answers_are_facts link_facts_grow (tree_of c.marks) ms flat).0 is).0 in
-      let means = link-means M flat sound (flat-valid c ms valid flat is) (named-first c ms valid unnamed M sound plan flat joined)
-      (flat-linkable c ms valid flat is) in
-      let same = flat-modules (tree_of c.marks) ms own flat are is_flat in
-      same-map (M ∷ []) flat means (origins_of own) plan r
-      ∙ ap (λ (xs : List Parts). mapped_by (origins_of own) plan (flat_sections xs) (placed_commons xs plan) r) (sym same)
+-- of all of a list a map shows the list
+shown-whole : (origins : List Origin) (plan : Plan) (kept : Kept) (r : LocatedParts) → kept.rest ≡ None
+    → mapped_kept origins plan kept r ≡ mapped_by origins plan (flat_sections kept.modules) (placed_commons kept.modules plan) r
+shown-whole origins plan kept r none =
+    ap (λ (rest : Option Remains). mapped_by (kept_origins rest origins) plan (flat_sections kept.modules) (placed_commons kept.modules plan) r) none
+
+-- what a map shows of what is kept of a link is what it shows of what is kept of the list
+pub alike-shown : (origins : List Origin) (plan : Plan) (own kept : Kept) → AreAlike own kept → (r : LocatedParts)
+    → mapped_kept origins plan own r ≡ mapped_kept origins plan kept r
+alike-shown origins plan own kept (inl same) r = ap (λ (k : Kept). mapped_kept origins plan k r) same
+alike-shown origins plan own kept (inr (none, no_rest, means)) r =
+    shown-whole origins plan own r none ∙ same-map own.modules kept.modules means origins plan r ∙ sym (shown-whole origins plan kept r no_rest)
+
+-- what is shown of a module that is kept of a whole one is what a map shows of that
+pub part-shown : (keep : Option (List ℕ)) (whole part : TracedModule) (is : IsKeptPart keep whole part) (plan : Plan) (r : LocatedParts)
+    → mapped_by part.origins plan (flat_sections (part.object ∷ [])) (placed_commons (part.object ∷ []) plan) r ≡ mapped_kept whole.origins plan is.kept r
+part-shown keep whole part is plan r = λ i.
+    mapped_by (is.origins i) plan (flat_sections (sym is.modules i)) (placed_commons (sym is.modules i) plan) r
