@@ -1,60 +1,40 @@
 -- The flat list with its files, and the maps of lists that mean the same, and of what is kept of them.
-use Rattle.std.proofs.Common.{◌≡◌, ℕ, zero, suc, List, [], ◌∷◌, ◌++◌, length, map, take, drop, option_to_list, Option, None, refl, sym, ap, ◌∙◌, inl, inr}
+use Rattle.std.proofs.Common.{◌≡◌, ℕ, zero, suc, List, [], ◌∷◌, ◌++◌, length, take, drop, option_to_list, Option, None, Some, true, refl, sym, ap, ◌∙◌, inl, inr}
 use Rattle.std.specs.Prelude.{slice_get}
-use Rattle.std.proofs.lemmas.List.{drop-map, map-append}
 use Rattle.mufom_module.specs.declared.module.Parts.{Parts}
 use Rattle.mufom_plan.specs.declared.plan.Plan.{Plan}
 use Rattle.mufom_meaning.specs.declared.located.LocatedParts.{LocatedParts}
-use Rattle.mufom_meaning.specs.Flat.{flat_sections}
+use Rattle.mufom_meaning.specs.Flat.{flat_sections, public_names}
 use Rattle.mufom_meaning.specs.Placed.{placed_commons, planned_bases}
 use Rattle.mufom_meaning.specs.Readings.{Readings, readings}
-use Rattle.mufom_meaning.specs.Selection.{members_at}
+use Rattle.mufom_meaning.specs.Selection.{IsSelected}
 use Rattle.mufom_meaning.specs.StagingLaws.{MeansTheSame}
 use Rattle.mufom_meaning.proofs.Placed.{same_placed_commons}
 use Rattle.mufom_meaning.proofs.locations.SelectionSingle.{selection_is_single}
 use Rattle.mufom_words.specs.declared.command.Command.{Command}
 use Rattle.mufom_words.specs.Sound.{HasTree, numbers_from}
 use Rattle.mufom_words.specs.Tree.{Forest, leaves, tree_of}
-use Rattle.mufom_groups.specs.Linked.{IsFlatList, members, roots}
+use Rattle.mufom_groups.specs.Linked.{members, roots}
 use Rattle.mufom_groups.specs.Work.{IsSingle, one_with}
-use Rattle.mufom_groups.proofs.Singles.{flat_list-single}
 use Rattle.mufom_groups.proofs.Works.{one_with-single}
 use Rattle.mufom_origins.specs.declared.origins.Origin.{Origin}
-use Rattle.mufom_origins.specs.Origins.{FileModule, modules_of, numbered, origin_of, origins_of}
+use Rattle.mufom_origins.specs.Origins.{FileModule, numbered, origin_of, origins_left, origins_of}
 use Rattle.mufom_origins.specs.Places.{at_positions, with_chosen}
-use Rattle.mufom_origins.proofs.FlatLaws.{chosen-map, members-chosen, modules-numbered}
+use Rattle.mufom_origins.proofs.FlatLaws.{chosen-map}
 use Rattle.mufom_map.specs.Mapped.{mapped_by}
-use Rattle.mufom_prune.specs.Pruned.{Remains}
+use Rattle.mufom_plan.specs.Names.{has_name}
+use Rattle.mufom_prune.specs.declared.pruning.Pruned.{Pruned}
+use Rattle.mufom_prune.specs.Marked.{IsPrunedWithMarks}
+use Rattle.mufom_prune.specs.Pruned.{Remains, remains}
 use Rattle.mufom_command.specs.declared.maps.TracedModule.{TracedModule}
-use Rattle.mufom_command.specs.Commands.{Kept, kept_origins, mapped_kept}
+use Rattle.mufom_command.specs.Commands.{Kept, kept_origins, mapped_kept, rest_of}
 use Rattle.mufom_command.specs.FlatFiles.{AreFlatFiles, files_with}
-use Rattle.mufom_command.specs.MapInputs.{IsKeptPart}
+use Rattle.mufom_command.specs.MapInputs.{AreOriginsOf, IsKeptPart}
 use Rattle.mufom_command.specs.Stop.{Stop}
+use Rattle.mufom_command.proofs.KeptLaws.{rest-own}
 use Rattle.mufom_command.proofs.LocatingLaws.{AreAlike}
 
--- ---- the flat list with its files
-
-positions-of : (files : List FileModule) (positions : List ℕ) → modules_of (at_positions files positions) ≡ members_at (modules_of files) positions
-positions-of files positions = chosen-map (λ (f : FileModule). f.1) 0 positions files ∙ members-chosen (modules_of files) positions
-
--- without the files it is the flat list
-pub modules-with : (tree : Forest) (ms : List Parts) (chosen : List ℕ)
-    → modules_of (files_with tree ms chosen) ≡ roots tree ms ++ members_at (members tree ms) chosen
-modules-with tree ms chosen =
-    let all = modules-numbered 0 ms in
-    let first = positions-of (numbered ms) (leaves tree) ∙ ap (λ (xs : List Parts). members_at xs (leaves tree)) all in
-    let rest = positions-of (drop (length (leaves tree)) (numbered ms)) chosen
-    ∙ ap (λ (xs : List Parts). members_at xs chosen) (sym (drop-map (λ (f : FileModule). f.1) (length (leaves tree)) (numbered ms))
-    ∙ ap (drop (length (leaves tree))) all) in
-    map-append (λ (f : FileModule). f.1) (at_positions (numbered ms) (leaves tree)) (at_positions (drop (length (leaves tree)) (numbered ms)) chosen)
-    ∙ (λ i. first i ++ rest i)
-
-pub flat-modules : (tree : Forest) (ms : List Parts) (own : List FileModule) (flat : List Parts) → AreFlatFiles tree ms own → IsFlatList tree ms flat
-    → modules_of own ≡ flat
-flat-modules tree ms own flat (chosen, selected, is) is_flat =
-    flat_list-single tree ms (modules_of own) flat (chosen, selected, ap modules_of is ∙ modules-with tree ms chosen) is_flat
-
--- there is one
+-- there is one flat list with its files
 pub flat-files-single : (tree : Forest) (ms : List Parts) → IsSingle {S = Stop} (one_with (AreFlatFiles tree ms))
 flat-files-single tree ms = one_with-single (AreFlatFiles tree ms) (λ a b is_a is_b.
     is_a.2 ∙ ap (files_with tree ms) (selection_is_single (roots tree ms) (members tree ms) is_a.0 is_b.0 is_a.1 is_b.1) ∙ sym is_b.2)
@@ -116,3 +96,26 @@ pub part-shown : (keep : Option (List ℕ)) (whole part : TracedModule) (is : Is
     → mapped_by part.origins plan (flat_sections (part.object ∷ [])) (placed_commons (part.object ∷ []) plan) r ≡ mapped_kept whole.origins plan is.kept r
 part-shown keep whole part is plan r = λ i.
     mapped_by (is.origins i) plan (flat_sections (sym is.modules i)) (placed_commons (sym is.modules i) plan) r
+
+-- what is left of a module for a name, with the origins of what is left, is what is kept of it
+pub part-is : (name : List ℕ) (whole : TracedModule) (left : Pruned) (origins : List Origin) → IsPrunedWithMarks left whole.object name
+    → has_name (public_names (whole.object ∷ [])) name ≡ true → origins ≡ origins_left left.sections.items left.publics.items whole.origins
+    → IsKeptPart (Some name) whole (record { origins = origins; object = left.«module» })
+part-is name whole left origins is known same =
+    let c = remains whole.object is.pruned.marks in
+    record {
+      kept = rest_of whole.object c;
+      keeps = rest-own name left.«module» whole.object is.pruned known;
+      modules = ap (λ (m : Parts). m ∷ []) (sym is.pruned.is);
+      origins = same ∙ (λ i. origins_left (is.sections i) (is.publics i) whole.origins);
+    }
+
+-- the origins of the members and roots that are linked are those of the flat list
+pub flat-origins : (c : Command) → HasTree c → (ms : List Parts) (chosen : List ℕ) (count : ℕ) (all origins : List Origin)
+    → IsSelected (roots (tree_of c.marks) ms) (members (tree_of c.marks) ms) chosen → count ≡ length (leaves (tree_of c.marks))
+    → all ≡ origins_of (numbered ms) → origins ≡ with_chosen count chosen all → AreOriginsOf c ms origins
+flat-origins c tree ms chosen count all origins selected counted numbers same = record {
+  flat = files_with (tree_of c.marks) ms chosen;
+  files = (chosen, selected, refl);
+  are = same ∙ (λ i. with_chosen (counted i) chosen (numbers i)) ∙ origins-with c tree ms chosen;
+}

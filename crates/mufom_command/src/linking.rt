@@ -22,7 +22,8 @@ ghost use Rattle.mufom_command.specs.Making.{IsMadeAlone};
 ghost use Rattle.mufom_command.specs.Run.{call_of, inputs_of};
 ghost use Rattle.mufom_command.specs.RunParts.{Does};
 ghost use Rattle.mufom_command.specs.Stop.{link_fact};
-ghost use Rattle.mufom_command.specs.WorkEnds.{outcome_of_link, outcome_of_locate, outcome_of_prune, own_location, AreLinkable, EndsAt, LocatesTo, location_of};
+ghost use Rattle.mufom_command.specs.WorkEnds.{outcome_of_link, outcome_of_locate, outcome_of_prune, own_location};
+ghost use Rattle.mufom_command.specs.WorkEnds.{AreLinkable, EndsAt, LocatesTo, location_of};
 
 use crate::inputs::{Inputs, read_inputs};
 use crate::outcome::{Outcome, Refusal};

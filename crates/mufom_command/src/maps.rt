@@ -13,7 +13,7 @@ ghost use Rattle.mufom_words.specs.Tree.{leaves, tree_of};
 ghost use Rattle.mufom_groups.specs.Groups.{most_weight};
 ghost use Rattle.mufom_groups.specs.Linked.{linked_module, members, roots};
 ghost use Rattle.mufom_groups.specs.Work.{gives, with_stops};
-ghost use Rattle.mufom_origins.specs.Origins.{numbered, origins_of};
+ghost use Rattle.mufom_origins.specs.Origins.{numbered, origins_left, origins_of};
 ghost use Rattle.mufom_origins.specs.Places.{with_chosen};
 ghost use Rattle.mufom_map.specs.MapText.{map_text};
 ghost use Rattle.mufom_command.specs.Commands.{mapping};
@@ -35,7 +35,7 @@ use mufom_module::Module;
 use mufom_numbers::{List, NoMemory};
 use mufom_origins::Origins;
 use mufom_plan::Plan;
-use mufom_prune::prune_with_marks;
+use mufom_prune::{Pruned, prune_with_marks};
 use mufom_text::PrintStop;
 use mufom_words::Command;
 use std::alloc::Global;
@@ -101,34 +101,42 @@ fn flat_origins(
     }
 }
 
+// The origins of what is left of a module, whose own these are.
+fn left_origins(alloc: Global, origins: &Origins, left: &Pruned) -> Result<Origins, Outcome>
+    ensures ok { IfOk result (λ few. few ≡ origins_left left.now.sections.items left.now.publics.items origins.now) }
+    ensures err { IfErr result (λ stop. stop ≡ Outcome.NoMemory) }
+{
+    match origins.left(alloc, left.sections.as_slice(), left.publics.as_slice()) {
+        Ok(few) => Ok(few),
+        Err(NoMemory) => Err(Outcome::NoMemory),
+    }
+}
+
 // What remains of a module for the public symbol of a name, with the origins of what remains; or the
 // outcome of the run.
-fn pruned_part(alloc: Global, whole: TracedModule, name: &[u8]) -> Result<TracedModule, Outcome>
-    requires names { AreDistinct (names_of whole.object.names.publics) }
-    requires light { weight whole.object < most_weight + 2 ^ 16 }
-    ensures ok { IfOk result (IsKeptPart (Some name.now) whole) }
+fn pruned_part(alloc: Global, whole: &TracedModule, name: &[u8]) -> Result<TracedModule, Outcome>
+    requires names { AreDistinct (names_of whole.now.object.names.publics) }
+    requires light { weight whole.now.object < most_weight + 2 ^ 16 }
+    ensures ok { IfOk result (IsKeptPart (Some name.now) whole.now) }
     ensures names { IfOk result (λ part. AreDistinct (names_of part.object.names.publics)) }
     ensures light { IfOk result (λ part. weight part.object < most_weight + 2 ^ 16) }
-    ensures stops { IfErr result (EndsAt (own_kept (Some name.now) whole.object)) }
+    ensures stops { IfErr result (EndsAt (own_kept (Some name.now) whole.now.object)) }
 {
     let left = match prune_with_marks(alloc, &whole.object, name) {
         Ok(left) => left,
         Err(refusal) => return Err(outcome_of_prune(refusal)),
     };
-    match whole
-        .origins
-        .left(alloc, left.sections.as_slice(), left.publics.as_slice())
-    {
+    match left_origins(alloc, &whole.origins, &left) {
         Ok(origins) => Ok(TracedModule {
             origins,
             object: left.module,
         }),
-        Err(NoMemory) => Err(Outcome::NoMemory),
+        Err(stop) => Err(stop),
     }
 }
 
-// The module, or what remains of it where the command names a public symbol to keep; or the outcome of the
-// run.
+// The module, or what remains of it where the command names a public symbol to keep; or the outcome of
+// the run.
 fn kept_part(alloc: Global, command: &Command, whole: TracedModule) -> Result<TracedModule, Outcome>
     requires names { AreDistinct (names_of whole.object.names.publics) }
     requires light { weight whole.object < most_weight + 2 ^ 16 }
@@ -138,7 +146,7 @@ fn kept_part(alloc: Global, command: &Command, whole: TracedModule) -> Result<Tr
     ensures stops { IfErr result (EndsAt (own_kept command.now.keep whole.object)) }
 {
     match &command.keep {
-        Some(name) => pruned_part(alloc, whole, name.as_slice()),
+        Some(name) => pruned_part(alloc, &whole, name.as_slice()),
         None => Ok(whole),
     }
 }
