@@ -53,8 +53,12 @@ module _ (output : Command → LocatedParts → Work Stop Output) (c : Command) 
   fact-end : (kept : Kept) (f : LocateFact) → kept_of c.keep list (gives kept) → locate_answer kept.modules plan ≡ Some f
       → locating output c plan list (stops (locate_fact (maus_of kept.modules) f))
   fact-end kept f is_kept some =
-      inr (kept, is_kept, inl (subst (λ (o : Option LocateFact). located_unless o plan kept.modules (stops (locate_fact (maus_of kept.modules) f)))
-      (sym some) refl))
+      inr (
+        kept,
+        is_kept,
+        inl (subst (λ (o : Option LocateFact). located_unless o plan kept.modules (stops (locate_fact (maus_of kept.modules) f)))
+            (sym some) refl),
+      )
 
 -- ---- a run
 
