@@ -1,21 +1,24 @@
 -- The flat list with its files, and the maps of lists that mean the same, and of what is kept of them.
-use Rattle.std.proofs.Common.{◌≡◌, ℕ, zero, suc, List, [], ◌∷◌, ◌++◌, length, take, drop, option_to_list, Option, None, Some, true, refl, sym, ap, ◌∙◌, inl, inr}
+use Rattle.std.proofs.Common.{◌≡◌, ℕ, zero, suc, List, [], ◌∷◌, ◌++◌, length, take, drop, option_to_list, Option, None, Some, true, refl, sym, ap, subst, ◌∙◌, inl, inr}
 use Rattle.std.specs.Prelude.{slice_get}
 use Rattle.mufom_module.specs.declared.module.Parts.{Parts}
+use Rattle.mufom_module.specs.Defects.{IsValid}
 use Rattle.mufom_plan.specs.declared.plan.Plan.{Plan}
+use Rattle.mufom_image.specs.Placements.{IsSoundPlan}
 use Rattle.mufom_meaning.specs.declared.located.LocatedParts.{LocatedParts}
 use Rattle.mufom_meaning.specs.Flat.{flat_sections, public_names}
 use Rattle.mufom_meaning.specs.Placed.{placed_commons, planned_bases}
 use Rattle.mufom_meaning.specs.Readings.{Readings, readings}
 use Rattle.mufom_meaning.specs.Selection.{IsSelected}
+use Rattle.mufom_meaning.specs.Staging.{AreValid}
 use Rattle.mufom_meaning.specs.StagingLaws.{MeansTheSame}
 use Rattle.mufom_meaning.proofs.Placed.{same_placed_commons}
 use Rattle.mufom_meaning.proofs.locations.SelectionSingle.{selection_is_single}
 use Rattle.mufom_words.specs.declared.command.Command.{Command}
 use Rattle.mufom_words.specs.Sound.{HasTree, numbers_from}
 use Rattle.mufom_words.specs.Tree.{Forest, leaves, tree_of}
-use Rattle.mufom_groups.specs.Linked.{members, roots}
-use Rattle.mufom_groups.specs.Work.{IsSingle, one_with}
+use Rattle.mufom_groups.specs.Linked.{linked_module, members, roots}
+use Rattle.mufom_groups.specs.Work.{gives, stops, IsSingle, one_with}
 use Rattle.mufom_groups.proofs.Works.{one_with-single}
 use Rattle.mufom_origins.specs.declared.origins.Origin.{Origin}
 use Rattle.mufom_origins.specs.Origins.{FileModule, numbered, origin_of, origins_left, origins_of}
@@ -27,12 +30,14 @@ use Rattle.mufom_prune.specs.declared.pruning.Pruned.{Pruned}
 use Rattle.mufom_prune.specs.Marked.{IsPrunedWithMarks}
 use Rattle.mufom_prune.specs.Pruned.{Remains, remains}
 use Rattle.mufom_command.specs.declared.maps.TracedModule.{TracedModule}
-use Rattle.mufom_command.specs.Commands.{Kept, kept_origins, mapped_kept, rest_of}
+use Rattle.mufom_command.specs.Commands.{Kept, kept_origins, located, mapped_kept, rest_of}
 use Rattle.mufom_command.specs.FlatFiles.{AreFlatFiles, files_with}
-use Rattle.mufom_command.specs.MapInputs.{AreOriginsOf, IsKeptPart}
+use Rattle.mufom_command.specs.MapInputs.{AreMapped, AreOriginsOf, IsKeptPart}
 use Rattle.mufom_command.specs.Stop.{Stop}
 use Rattle.mufom_command.proofs.KeptLaws.{rest-own}
-use Rattle.mufom_command.proofs.LocatingLaws.{AreAlike}
+use Rattle.mufom_command.specs.WorkEnds.{location_of}
+use Rattle.mufom_command.proofs.LocatingLaws.{AreAlike, alike-located, link-unlocated, named-first, own-is}
+use Rattle.mufom_command.proofs.MadeLaws.{location-of}
 
 -- there is one flat list with its files
 pub flat-files-single : (tree : Forest) (ms : List Parts) → IsSingle {S = Stop} (one_with (AreFlatFiles tree ms))
@@ -119,3 +124,35 @@ flat-origins c tree ms chosen count all origins selected counted numbers same = 
   files = (chosen, selected, refl);
   are = same ∙ (λ i. with_chosen (counted i) chosen (numbers i)) ∙ origins-with c tree ms chosen;
 }
+
+-- ---- what is located of the modules of a command
+
+module _ (c : Command) (ms : List Parts) (valid : AreValid ms) (unnamed : c.name ≡ None) (plan : Plan) (whole part : TracedModule)
+    (sound : IsValid whole.object) (links : linked_module c ms (gives whole.object)) (is : IsKeptPart c.keep whole part) where
+  -- the map of what is kept of their link is that of what is kept of the flat list
+  pub part-mapped : AreOriginsOf c ms whole.origins → IsSoundPlan plan → (r : LocatedParts) → located plan (part.object ∷ []) (gives r)
+      → AreMapped c plan ms (record { origins = part.origins; object = part.object; plan = plan; located = r })
+  part-mapped own sound_plan r there =
+      let (list, is_linked, joined) = links in
+      let like = own-is c ms valid unnamed whole.object sound plan c.keep list is_linked
+      (named-first c ms valid unnamed whole.object sound plan list joined) is.kept is.keeps in
+      record {
+        are_located = record { sound = sound_plan; located = location-of plan (part.object ∷ []) r there };
+        list = list;
+        links = is_linked;
+        kept = like.kept;
+        keeps = like.keeps;
+        location = alike-located plan is.kept like.kept like.alike (gives r)
+            (subst (λ (l : List Parts). located plan l (gives r)) (sym is.modules) there);
+        flat = own.flat;
+        files = own.files;
+        shows = part-shown c.keep whole part is plan r
+            ∙ alike-shown whole.origins plan is.kept like.kept like.alike r
+            ∙ ap (λ (origins : List Origin). mapped_kept origins plan like.kept r) own.are;
+      }
+
+  -- and so is the end of its location
+  pub part-unlocated : (s : Stop) → located plan (part.object ∷ []) (stops s) → location_of c plan ms (stops s)
+  part-unlocated s ends =
+      link-unlocated c ms valid unnamed whole.object sound plan links s
+      (inr (is.kept, is.keeps, subst (λ (l : List Parts). located plan l (stops s)) (sym is.modules) ends))
