@@ -122,7 +122,7 @@ impl<'a> Lines for Map<'a> {
 }
 
 /// Prints the map of the location of a module by a plan, in chunks of about 65,536 bytes and a
-/// shorter last one. The module is the link of those that the origins list.
+/// shorter last one. The module is the link of those that the origins list, or what is kept of it.
 ///
 /// No section name occurs twice in the plan, and it has fewer than 2^32 regions, as
 /// [`read_plan`](mufom_plan::read_plan) gives it. `NoMemory` is returned before anything is printed. `Fault`

@@ -1,5 +1,6 @@
 //! What a public symbol needs is kept, and all else is left out.
 
+use crate::drafts::SECTION;
 use crate::runs::{Case, File, Held, all_come_to, makes};
 
 /// Three sections of four bytes. `main` is in the first, which names the third; the second names `q`, which
@@ -15,14 +16,29 @@ const PLAN: &[u8] = b"[[region]]\nname = \"r\"\nbase = 0\nsize = 16\nsections = 
 /// What `main` needs: its section, and the one that this names.
 const IMAGE: &str = "00000000: 00 00 00 04 01 02 03 04\npublic 00000000 \"main\"\n";
 
-/// The module, its plan, and one that is linked only if it is needed.
+/// The map of what `main` needs, where another module is linked before its own: that one has a line, and no
+/// section of it is there.
+const MAP: &str = "module 0 \"m\" file 0\n\
+        module 1 \"m\" file 1\n\
+        region 0 \"r\" at 00000000 size 16 used 8 free 8 [.#.#.#.#.#.#.#.#................]\n\
+        section 0 00000000 size 4 align 1 \"a\" module 1 region 0\n\
+        section 1 00000004 size 4 align 1 \"c\" module 1 region 0\n\
+        public 00000000 \"main\" module 1\n\
+        sections 2 bytes 8 loaded 8\n";
+
+/// The module, its plan, one that is linked only if it is needed, and one with a section and a public that
+/// nothing needs.
 const FILES: &[File] = &[
     ("a", MODULE),
     ("p", Held::Bytes(PLAN)),
     ("n", Held::Names(b"\xE8\x20\x01z\xE2\xC9\x20\x07")),
+    (
+        "w",
+        Held::Section(SECTION, b"\xE8\x20\x01z\xE2\xC9\x20\xD2\x01", b""),
+    ),
 ];
 
-static RUNS: [Case; 10] = [
+static RUNS: [Case; 13] = [
     Case {
         files: FILES,
         first: "",
@@ -50,6 +66,28 @@ static RUNS: [Case; 10] = [
         line: "dump c",
         status: 0,
         text: IMAGE,
+    },
+    // A map counts what is kept, and its modules are all that are linked.
+    Case {
+        files: FILES,
+        first: "",
+        line: "map --plan p --keep main w a",
+        status: 0,
+        text: MAP,
+    },
+    Case {
+        files: FILES,
+        first: "",
+        line: "map --plan p --keep=main [ w a ] + n",
+        status: 0,
+        text: MAP,
+    },
+    Case {
+        files: FILES,
+        first: "",
+        line: "map --plan p --keep q a",
+        status: 1,
+        text: "refused: keep: Unknown \"q\"\n",
     },
     // All is located where no name is given.
     Case {

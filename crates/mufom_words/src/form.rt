@@ -104,7 +104,7 @@ impl Form {
             Form::Link => &[Setting::NoDebug, Setting::Name, Setting::Out],
             Form::Locate => &[Setting::NoDebug, Setting::Plan, Setting::Keep, Setting::Out],
             Form::Dump => &[Setting::NoDebug, Setting::Plan, Setting::Keep],
-            Form::Map => &[Setting::NoDebug, Setting::Plan],
+            Form::Map => &[Setting::NoDebug, Setting::Plan, Setting::Keep],
             Form::Make => &[],
             Form::Addr => &[Setting::Plan, Setting::At],
             Form::Bin => &[
