@@ -286,7 +286,7 @@ What to do:
   - Find the section in the source: its name follows the letters, as
     xxd -s OFFSET -l 32 FILE shows.
   - Give it a relocatable type. Sections of one name are placed one after the
-    other if a plan lists that name. For room that modules share, use a weak
+    other if a plan lists that name. For space that modules share, use a weak
     reference with a size (a common).
 ";
 
