@@ -46,9 +46,9 @@ Usual causes:
 What to do:
   - Find section N: link the same files with `link -o t`, and look for the line
     `section N` that `show t` prints. A number past the last section is a
-    common: space that weak references with a size request. Or run `map` with the
-    same options and a plan that has space; with --keep, only that works, since
-    sections that are left out are not counted.
+    common: space that weak references with a size request. Or run `map` with
+    the same options and a plan that has space; with --keep, only that works,
+    since sections that are left out are not counted.
   - Make the region larger, or list some names in a region that has space.
   - Remove what is not needed.
 ";
