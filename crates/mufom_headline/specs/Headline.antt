@@ -31,8 +31,8 @@ PutsOutLocation verb.Locate c r call = IsPutInFile c (absolute_of r) call
 PutsOutLocation verb.Dump c r call = PrintsText (image_text r) call
 PutsOutLocation _ c r call = ⊥
 
--- The output of a run over a list of modules is a location by the plan. Without `--keep`, `kept` is the list itself; with it, `kept` is the
--- part of the list's link that the named public symbol needs. Its modules are located.
+-- The output of a run over a list of modules is a location, by the plan, of what is kept of the list. Without `--keep`, that is the list
+-- itself; with it, it is one module: the part of the list's link that the named public symbol needs.
 --
 -- `IsLocation` defines the location: each public, the start and each debug expression has the value of its expression at the planned bases
 -- of sections and commons; each loaded address holds the byte of the literal or field that is loaded there; nothing else is loaded.
