@@ -76,7 +76,7 @@ module _ (files : List NamedFile) (call : Call) (result : Outcome) (c : Command)
     (target : Kept → Command → LocatedParts → Work Stop Output)
     (never : (kept : Kept) (r : LocatedParts) (s : Stop) → target kept c r (stops s) → ⊥)
     (shown : (kept : Kept) (r : LocatedParts) (o : Output) → target kept c r (gives o) → PutsOut o call
-        → PutsOutLocation v c (origins_of own) plan kept r call)
+    → PutsOutLocation v c (origins_of own) plan kept r call)
     (came : result ≡ outcome.Done → CameTo files c call)
     (done : ((s : Stop) → work_of c.verb files c (stops s) → ⊥) → result ≡ outcome.Done)
     (answer : (x : Reached Stop Output) → work_of c.verb files c x → result ≡ outcome_of x) where
@@ -156,8 +156,7 @@ module _ (call : Call) (c : Command) (origins : List Origin) (plan : Plan) (kept
   map-shown is puts = subst (λ (o : Output). PutsOut o call) is puts
 
 pub the-headline : TheHeadline
-the-headline words files call result c plan flat is calm named verbs accepts =
-    let (own, are) = flat-files c accepts.modules flat accepts.is_flat in by own are verbs where
+the-headline words files call result c plan flat is calm named verbs accepts = by verbs where
   bytes : HoldBytes files
   bytes = of-files call files calm.known HoldBytes calm.revealed.bytes
 
@@ -174,17 +173,19 @@ the-headline words files call result c plan flat is calm named verbs accepts =
   alike : (v : Verb) (leaves : List Parts) → CameByStages flat leaves → IsSameWork (put_out_of v c plan flat) (put_out_of v c plan leaves)
   alike v leaves stages = put_out-alike c plan flat leaves (means-same flat leaves stages) v
 
-  by : (own : List FileModule) → AreFlatFiles (tree_of c.marks) accepts.modules own
-      → (c.verb ≡ verb.Locate) ⊎ ((c.verb ≡ verb.Dump) ⊎ (c.verb ≡ verb.Map)) → LocatesAll c plan call result accepts.modules flat
-  by own are (inl same) =
-      locates-all files call result c plan flat bytes accepts calm own are verb.Locate same (λ ms plan kept. absolute_file) refl
-      (λ kept. absolute_file) (λ kept r s. module-never c.out (absolute_of r) s) (file-shown call c (origins_of own) plan) came done answer
+  own : (own : List FileModule) × AreFlatFiles (tree_of c.marks) accepts.modules own
+  own = flat-files c accepts.modules flat accepts.is_flat
+
+  by : (c.verb ≡ verb.Locate) ⊎ ((c.verb ≡ verb.Dump) ⊎ (c.verb ≡ verb.Map)) → LocatesAll c plan call result accepts.modules flat
+  by (inl same) =
+      locates-all files call result c plan flat bytes accepts calm own.0 own.1 verb.Locate same (λ ms plan kept. absolute_file) refl
+      (λ kept. absolute_file) (λ kept r s. module-never c.out (absolute_of r) s) (file-shown call c (origins_of own.0) plan) came done answer
       (same-work (put_out_of verb.Locate c plan flat)) (alike verb.Locate)
-  by own are (inr (inl same)) =
-      locates-all files call result c plan flat bytes accepts calm own are verb.Dump same (λ ms plan kept. printed_image) refl
-      (λ kept. printed_image) (λ kept r s ends. ends) (image-shown call c (origins_of own) plan) came done answer
+  by (inr (inl same)) =
+      locates-all files call result c plan flat bytes accepts calm own.0 own.1 verb.Dump same (λ ms plan kept. printed_image) refl
+      (λ kept. printed_image) (λ kept r s ends. ends) (image-shown call c (origins_of own.0) plan) came done answer
       (same-work (put_out_of verb.Dump c plan flat)) (alike verb.Dump)
-  by own are (inr (inr same)) =
-      locates-all files call result c plan flat bytes accepts calm own are verb.Map same printed_map refl
-      (map_with (origins_of own) plan) (λ kept r s ends. ends) (map-shown call c (origins_of own) plan) came done answer
-      (map-known c plan accepts.modules own are flat) (λ leaves stages. maps-alike c plan flat leaves (origins_of own) stages)
+  by (inr (inr same)) =
+      locates-all files call result c plan flat bytes accepts calm own.0 own.1 verb.Map same printed_map refl
+      (map_with (origins_of own.0) plan) (λ kept r s ends. ends) (map-shown call c (origins_of own.0) plan) came done answer
+      (map-known c plan accepts.modules own.0 own.1 flat) (λ leaves stages. maps-alike c plan flat leaves (origins_of own.0) stages)

@@ -17,7 +17,8 @@ use Rattle.mufom_command.proofs.SameWorks.{same-trans, same-work, then-known, th
 use Rattle.mufom_command.proofs.StageLaws.{maps-alike}
 
 -- the modules of the flat list have their files
-pub flat-files : (c : Command) (ms flat : List Parts) → IsFlatList (tree_of c.marks) ms flat → (own : List FileModule) × AreFlatFiles (tree_of c.marks) ms own
+pub flat-files : (c : Command) (ms flat : List Parts) → IsFlatList (tree_of c.marks) ms flat
+    → (own : List FileModule) × AreFlatFiles (tree_of c.marks) ms own
 flat-files c ms flat (chosen, selected, same) = (files_with (tree_of c.marks) ms chosen, (chosen, selected, refl))
 
 module _ (c : Command) (plan : Plan) (ms : List Parts) (own : List FileModule) (are : AreFlatFiles (tree_of c.marks) ms own) where
@@ -30,7 +31,8 @@ module _ (c : Command) (plan : Plan) (ms : List Parts) (own : List FileModule) (
   after-kept output kept = located plan kept.modules >>= λ r. output kept c r
 
   -- the map that is printed is the one with their origins
-  pub map-known : (list : List Parts) → IsSameWork (locating_kept (printed_map ms plan) c plan list) (locating_kept (map_with (origins_of own) plan) c plan list)
+  pub map-known : (list : List Parts)
+      → IsSameWork (locating_kept (printed_map ms plan) c plan list) (locating_kept (map_with (origins_of own) plan) c plan list)
   map-known list =
       then-same (kept_of c.keep list) (kept_of c.keep list) (after-kept (printed_map ms plan)) (after-kept (map_with (origins_of own) plan))
       (same-work (kept_of c.keep list))
