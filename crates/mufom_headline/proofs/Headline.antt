@@ -20,6 +20,7 @@ use Rattle.mufom_groups.specs.Work.{Reached, gives, stops, Work}
 use Rattle.mufom_command.specs.declared.outcome.Outcome.{Outcome}
 use Rattle.mufom_command.specs.declared.outcome.Outcome.TheVariants as outcome
 use Rattle.mufom_command.specs.Stop.{Stop, locate_fact}
+use Rattle.mufom_origins.specs.declared.origins.Origin.{Origin}
 use Rattle.mufom_origins.specs.Origins.{FileModule, origins_of}
 use Rattle.mufom_command.specs.Commands.{Kept, Output, absolute_file, kept_of, linking_of, located_unless, locating_kept, map_with, maus_of}
 use Rattle.mufom_command.specs.Commands.{printed_image, printed_map, work_by, work_of}
