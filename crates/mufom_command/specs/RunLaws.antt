@@ -116,7 +116,8 @@ IsLinking verb.Bin = Unit {0}
 IsLinking verb.Txt = Unit {0}
 IsLinking _ = ⊥
 
--- what is put out of a list by such a command; nothing by another
+-- What is put out of a list by such a command; nothing by another. What `map` prints depends on the files too, so it has a law of its own,
+-- `MapsAreAlike`.
 abbrev pub put_out_of : Verb → Command → Plan → List Parts → Work Stop Output
 put_out_of verb.Link = linked_file
 put_out_of verb.Locate = locating absolute_file
@@ -126,7 +127,7 @@ put_out_of verb.Bin = locating raw_file
 put_out_of verb.Txt = locating txt_file
 put_out_of _ = λ c plan ms. nowhere
 
--- what each command puts out of two lists is the same
+-- what each such command puts out of two lists is the same
 abbrev pub PutOutAlike : Command → Plan → (ms leaves : List Parts) → Type 0
 PutOutAlike c plan ms leaves = (v : Verb) → IsSameWork (put_out_of v c plan ms) (put_out_of v c plan leaves)
 
@@ -138,7 +139,7 @@ pub record CameByStages (ms leaves : List Parts) : Type 0 where
   pub descriptor : (d : Parts) × HaveDescriptor d leaves
   pub names : AreDistinct (public_names leaves)
 
--- A list that earlier runs linked in stages is put out as the list that the stages began with.
+-- Each such command puts out of a list that earlier runs linked in stages what it puts out of the list that the stages began with.
 abbrev pub StagesMakeNoDifference : Type 0
 StagesMakeNoDifference = (c : Command) (plan : Plan) (ms leaves : List Parts) → CameByStages ms leaves → PutOutAlike c plan ms leaves
 

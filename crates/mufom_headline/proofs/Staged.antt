@@ -20,11 +20,14 @@ use Rattle.mufom_groups.proofs.GroupsAlike.{linked-flat, links-stand}
 use Rattle.mufom_groups.proofs.LinkWalk.{links-give, links-stop}
 use Rattle.mufom_groups.proofs.Singles.{flat_list-single}
 use Rattle.mufom_command.specs.Stop.{Stop, link_fact}
-use Rattle.mufom_command.specs.Commands.{Output, absolute_file, linked_file, linking, locating, printed_hit, printed_image, raw_file, txt_file, work_of}
+use Rattle.mufom_origins.specs.Origins.{origins_of}
+use Rattle.mufom_command.specs.Commands.{Output, absolute_file, linked_file, linking, locating, locating_kept, map_with, mapping, printed_hit}
+use Rattle.mufom_command.specs.Commands.{printed_image, printed_map, raw_file, txt_file, work_of}
 use Rattle.mufom_command.specs.RunLaws.{CameByStages, IsLinking, IsSameWork, put_out_of}
 use Rattle.mufom_command.proofs.SameWorks.{same-trans}
 use Rattle.mufom_command.proofs.StageLaws.{means-same, put_out-alike}
-use Rattle.mufom_headline.specs.Linking.{StagedRunsAreFlat}
+use Rattle.mufom_headline.specs.Linking.{StagedMapsAreFlat, StagedRunsAreFlat, after_link}
+use Rattle.mufom_headline.proofs.Maps.{map-staged}
 use Rattle.mufom_command.proofs.Accepted.{after-inputs}
 
 -- ---- the link facts of a list of one descriptor with distinct names
@@ -59,10 +62,6 @@ some-alone ms f is = by (link_answer ms) is where
 
 -- ---- the links
 
--- what is put out of one list, where it can be linked
-abbrev of_list : (Command → Plan → List Parts → Work Stop Output) → Command → Plan → List Parts → Work Stop Output
-of_list output c plan ms = with_stops link_fact (links (ms ∷ [])) >>= λ _. output c plan ms
-
 module _ (c : Command) (ms flat leaves : List Parts) (is_flat : IsFlatList (tree_of c.marks) ms flat) (came : CameByStages flat leaves) where
   means : MeansTheSame flat leaves
   means = means-same flat leaves came
@@ -91,19 +90,19 @@ module _ (c : Command) (ms flat leaves : List Parts) (is_flat : IsFlatList (tree
         let is : g ≡ f = cc in
         subst (λ (h : LinkFact). linked (tree_of c.marks) ms (stops h)) is ends
 
-  module _ (plan : Plan) (output : Command → Plan → List Parts → Work Stop Output)
-      (alike : IsSameWork (output c plan flat) (output c plan leaves)) where
+  -- what is put out of the flat list is this, of the leaves
+  module _ (output : List Parts → Work Stop Output) (other : Work Stop Output) (alike : IsSameWork (output flat) other) where
     abbrev after-links : Work Stop Output
-    after-links = with_stops link_fact (linked (tree_of c.marks) ms) >>= λ flat. output c plan flat
+    after-links = with_stops link_fact (linked (tree_of c.marks) ms) >>= output
 
-    there : (x : Reached Stop Output) → after-links x → of_list output c plan leaves x
+    there : (x : Reached Stop Output) → after-links x → after_link leaves other x
     there (gives o) (list, is_linked, puts) =
         let (is_list, none) = (linked-flat answers_are_facts link_facts_grow (tree_of c.marks) ms list).0 is_linked in
         let same : list ≡ flat = flat_list-single (tree_of c.marks) ms list flat is_list is_flat in
         let linkable : link_answer flat ≡ None = subst (λ (l : List Parts). link_answer l ≡ None) same none in (
           tt,
           links-give (leaves ∷ []) (alone-none leaves (sym means.same_link ∙ linkable)),
-          (alike (gives o)).0 (subst (λ (l : List Parts). output c plan l (gives o)) same puts),
+          (alike (gives o)).0 (subst (λ (l : List Parts). output l (gives o)) same puts),
         )
     there (stops s) (inl (f, ends, same)) = inl (f, links-stop (leaves ∷ []) f (alone-some leaves f (fact-there f ends)), same)
     there (stops s) (inr (list, is_linked, ends)) =
@@ -113,10 +112,10 @@ module _ (c : Command) (ms flat leaves : List Parts) (is_flat : IsFlatList (tree
         inr (
           tt,
           links-give (leaves ∷ []) (alone-none leaves (sym means.same_link ∙ linkable)),
-          (alike (stops s)).0 (subst (λ (l : List Parts). output c plan l (stops s)) same ends),
+          (alike (stops s)).0 (subst (λ (l : List Parts). output l (stops s)) same ends),
         )
 
-    back : (x : Reached Stop Output) → of_list output c plan leaves x → after-links x
+    back : (x : Reached Stop Output) → after_link leaves other x → after-links x
     back (gives o) (u, is_linked, puts) =
         let linkable : link_answer flat ≡ None = means.same_link ∙ none-alone leaves is_linked in
         (flat, (linked-flat answers_are_facts link_facts_grow (tree_of c.marks) ms flat).1 (is_flat, linkable), (alike (gives o)).1 puts)
@@ -125,7 +124,7 @@ module _ (c : Command) (ms flat leaves : List Parts) (is_flat : IsFlatList (tree
         let linkable : link_answer flat ≡ None = means.same_link ∙ none-alone leaves is_linked in
         inr (flat, (linked-flat answers_are_facts link_facts_grow (tree_of c.marks) ms flat).1 (is_flat, linkable), (alike (stops s)).1 ends)
 
-    links-same : IsSameWork after-links (of_list output c plan leaves)
+    links-same : IsSameWork after-links (after_link leaves other)
     links-same x = (there x, back x)
 
 -- ---- the work of a command
@@ -133,16 +132,16 @@ module _ (c : Command) (ms flat leaves : List Parts) (is_flat : IsFlatList (tree
 pub staged-runs-are-flat : StagedRunsAreFlat
 staged-runs-are-flat files c plan flat leaves bytes is_linking accepts came = by_verb c.verb is_linking where
   by_linking : (output : Command → Plan → List Parts → Work Stop Output) → IsSameWork (output c plan flat) (output c plan leaves)
-      → IsSameWork (linking output files c) (of_list output c plan leaves)
+      → IsSameWork (linking output files c) (after_link leaves (output c plan leaves))
   by_linking output same =
-      same-trans (linking output files c) (with_stops link_fact (linked (tree_of c.marks) accepts.modules) >>= λ flat. output c plan flat)
-      (of_list output c plan leaves)
-      (after-inputs files c plan flat bytes accepts (λ ms. output)) (links-same c accepts.modules flat leaves accepts.is_flat came plan output same)
+      same-trans (linking output files c) (with_stops link_fact (linked (tree_of c.marks) accepts.modules) >>= λ list. output c plan list)
+      (after_link leaves (output c plan leaves)) (after-inputs files c plan flat bytes accepts (λ ms. output))
+      (links-same c accepts.modules flat leaves accepts.is_flat came (λ list. output c plan list) (output c plan leaves) same)
 
   alike : (v : Verb) → IsSameWork (put_out_of v c plan flat) (put_out_of v c plan leaves)
   alike = put_out-alike c plan flat leaves (means-same flat leaves came)
 
-  by_verb : (v : Verb) → IsLinking v → IsSameWork (work_of v files c) (of_list (put_out_of v) c plan leaves)
+  by_verb : (v : Verb) → IsLinking v → IsSameWork (work_of v files c) (after_link leaves (put_out_of v c plan leaves))
   by_verb verb.Show never = absurd never
   by_verb verb.Check never = absurd never
   by_verb verb.Link is_one = by_linking linked_file (alike verb.Link)
@@ -156,3 +155,13 @@ staged-runs-are-flat files c plan flat leaves bytes is_linking accepts came = by
   by_verb verb.Version never = absurd never
   by_verb verb.Make never = absurd never
   by_verb verb.Map never = absurd never
+
+-- the same of the work of `map`
+pub staged-maps-are-flat : StagedMapsAreFlat
+staged-maps-are-flat files c plan flat leaves own bytes is_map accepts are came =
+    let output : List Parts → Work Stop Output = λ list. locating_kept (printed_map accepts.modules plan) c plan list in
+    let other : Work Stop Output = locating_kept (map_with (origins_of own) plan) c plan leaves in
+    subst (λ (v : Verb). IsSameWork (work_of v files c) (after_link leaves other)) (sym is_map)
+    (same-trans (mapping files c) (with_stops link_fact (linked (tree_of c.marks) accepts.modules) >>= output) (after_link leaves other)
+    (after-inputs files c plan flat bytes accepts (λ ms c plan list. locating_kept (printed_map ms plan) c plan list))
+    (links-same c accepts.modules flat leaves accepts.is_flat came output other (map-staged c plan accepts.modules own are flat leaves came)))

@@ -1,10 +1,11 @@
--- What a run of `locate` or `dump` results in: the main law of the program. It can be read alone, with the definitions that it names.
+-- What a run of `locate`, `dump` or `map` results in: the main law of the program. It can be read alone, with the definitions that it names.
 use Rattle.std.specs.Prelude.{◌≡◌, ◌↔◌, ◌⊎◌, ℕ, List, [], ◌∷◌, Some, None, Ok}
 use Rattle.mufom_host.specs.World.{NamedFile}
 use Rattle.mufom_words.specs.declared.command.Command.{Command}
 use Rattle.mufom_words.specs.declared.command.Verb.{Verb}
 use Rattle.mufom_words.specs.declared.command.Verb.TheVariants as verb
 use Rattle.mufom_words.specs.Answer.{answer_of}
+use Rattle.mufom_words.specs.Tree.{tree_of}
 use Rattle.mufom_module.specs.declared.module.Parts.{Parts}
 use Rattle.mufom_plan.specs.declared.plan.Plan.{Plan}
 use Rattle.mufom_text.specs.Image.{image_text}
@@ -15,21 +16,28 @@ use Rattle.mufom_meaning.specs.LinkAnswer.{link_answer}
 use Rattle.mufom_meaning.specs.LocateAnswer.{locate_answer}
 use Rattle.mufom_meaning.specs.Location.{IsLocation}
 use Rattle.mufom_groups.specs.Work.{gives}
+use Rattle.mufom_origins.specs.declared.origins.Origin.{Origin}
+use Rattle.mufom_origins.specs.Origins.{FileModule, origins_of}
+use Rattle.mufom_map.specs.MapText.{map_text}
 use Rattle.mufom_command.specs.declared.outcome.Outcome.{Outcome}
 use Rattle.mufom_command.specs.declared.outcome.Outcome.TheVariants as outcome
 use Rattle.mufom_command.specs.declared.outcome.Refusal.TheVariants as refusal
 use Rattle.mufom_command.specs.LocateRefusals.{locate_refusal}
-use Rattle.mufom_command.specs.Commands.{Kept, kept_of, maus_of}
+use Rattle.mufom_command.specs.Commands.{Kept, kept_of, mapped_kept, maus_of}
+use Rattle.mufom_command.specs.FlatFiles.{AreFlatFiles}
 use Rattle.mufom_command.specs.Run.{Call, Answers, PrintsText}
 use Rattle.mufom_command.specs.RunLaws.{Accepts, CameByStages, HasNoFact, IsUndisturbed}
 use Rattle.mufom_headline.specs.ReadBack.{IsPutInFile}
 
--- The output of a run is this location and nothing else. `locate` makes the file of the location's absolute module, from which a later run
--- reads that module; `dump` prints the text of its image.
-abbrev pub PutsOutLocation : Verb → Command → LocatedParts → Call → Type 0
-PutsOutLocation verb.Locate c r call = IsPutInFile c (absolute_of r) call
-PutsOutLocation verb.Dump c r call = PrintsText (image_text r) call
-PutsOutLocation _ c r call = ⊥
+-- The output of a run is this location of what is kept, and nothing else. `locate` makes the file of the location's absolute module, from
+-- which a later run reads that module; `dump` prints the text of its image; `map` prints the text that tells which sections and symbols are
+-- at which addresses, and from which module each comes. `origins` are the names of these modules, their files, and how many entries they
+-- have.
+abbrev pub PutsOutLocation : Verb → Command → List Origin → Plan → Kept → LocatedParts → Call → Type 0
+PutsOutLocation verb.Locate c origins plan kept r call = IsPutInFile c (absolute_of r) call
+PutsOutLocation verb.Dump c origins plan kept r call = PrintsText (image_text r) call
+PutsOutLocation verb.Map c origins plan kept r call = PrintsText (map_text (mapped_kept origins plan kept r)) call
+PutsOutLocation _ c origins plan kept r call = ⊥
 
 -- The output of a run over a list of modules is a location, by the plan, of what is kept of the list. Without `--keep`, that is the list
 -- itself; with it, it is one module: the part of the list's link that the named public symbol needs.
@@ -38,34 +46,39 @@ PutsOutLocation _ c r call = ⊥
 -- of sections and commons; each loaded address holds the byte of the literal or field that is loaded there; nothing else is loaded.
 --
 -- Located alone, by a plan without regions, the absolute module of the location gives the same location.
-pub record IsPutOut (c : Command) (plan : Plan) (list : List Parts) (call : Call) : Type 0 where
+pub record IsPutOut (c : Command) (origins : List Origin) (plan : Plan) (list : List Parts) (call : Call) : Type 0 where
   pub kept : Kept
   pub keeps : kept_of c.keep list (gives kept)
   pub location : LocatedParts
   pub is_location : IsLocation kept.modules plan location
   pub itself : IsLocation (absolute_of location ∷ []) no_regions location
-  pub puts_out : PutsOutLocation c.verb c location call
+  pub puts_out : PutsOutLocation c.verb c origins plan kept location call
 
 -- The result of the run is that of locating this list. It is `Done` if and only if the list can be linked and what is kept of it can be
 -- located; the output is then the location. A list that can be linked, and of which what is kept cannot be located, is refused with the
 -- first error of locating it.
-pub record HasLocated (c : Command) (plan : Plan) (call : Call) (result : Outcome) (list : List Parts) : Type 0 where
+pub record HasLocated (c : Command) (origins : List Origin) (plan : Plan) (call : Call) (result : Outcome) (list : List Parts) : Type 0 where
   pub done : (result ≡ outcome.Done) ↔ HasNoFact c.keep list plan
-  pub output : result ≡ outcome.Done → IsPutOut c plan list call
+  pub output : result ≡ outcome.Done → IsPutOut c origins plan list call
   pub refused : (kept : Kept) (f : LocateFact) → link_answer list ≡ None → kept_of c.keep list (gives kept)
       → locate_answer kept.modules plan ≡ Some f → result ≡ outcome.Refused (refusal.Locate (locate_refusal f) (maus_of kept.modules))
 
 -- The result of the run is that of locating the flat list of its modules. If earlier runs made these modules from another list by partial
 -- links, in any number of stages, it is also the result of locating that list.
-pub record LocatesAll (c : Command) (plan : Plan) (call : Call) (result : Outcome) (flat : List Parts) : Type 0 where
-  pub located : HasLocated c plan call result flat
-  pub staged : (leaves : List Parts) → CameByStages flat leaves → HasLocated c plan call result leaves
+--
+-- `modules` are those of the files, in their order. `files` are the modules of the flat list, each with the number of its file. A map names
+-- these modules and files for the other list too, since a partial link does not keep the names of the modules that it was made of.
+pub record LocatesAll (c : Command) (plan : Plan) (call : Call) (result : Outcome) (modules flat : List Parts) : Type 0 where
+  pub files : List FileModule
+  pub are_files : AreFlatFiles (tree_of c.marks) modules files
+  pub located : HasLocated c (origins_of files) plan call result flat
+  pub staged : (leaves : List Parts) → CameByStages flat leaves → HasLocated c (origins_of files) plan call result leaves
 
 -- For all arguments, files and plans: if no I/O call failed, the run did not run out of memory, and the plan and the files were accepted,
--- then `locate` and `dump` locate the flat list of the modules, and each list from which that was linked in stages.
+-- then `locate`, `dump` and `map` locate the flat list of the modules, and each list from which that was linked in stages.
 abbrev pub TheHeadline : Type 0
 TheHeadline =
     (words : List (List ℕ)) (files : List NamedFile) (call : Call) (result : Outcome) (c : Command) (plan : Plan) (flat : List Parts)
     → Answers words call result → IsUndisturbed files call result
-    → answer_of words ≡ Ok c → (c.verb ≡ verb.Locate) ⊎ (c.verb ≡ verb.Dump) → Accepts files c plan flat
-    → LocatesAll c plan call result flat
+    → answer_of words ≡ Ok c → (c.verb ≡ verb.Locate) ⊎ ((c.verb ≡ verb.Dump) ⊎ (c.verb ≡ verb.Map)) → (accepts : Accepts files c plan flat)
+    → LocatesAll c plan call result accepts.modules flat

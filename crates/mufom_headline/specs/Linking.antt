@@ -4,6 +4,7 @@ use Rattle.mufom_host.specs.World.{NamedFile, HoldBytes}
 use Rattle.mufom_words.specs.declared.command.Command.{Command}
 use Rattle.mufom_words.specs.declared.command.Verb.TheVariants as verb
 use Rattle.mufom_words.specs.Answer.{answer_of}
+use Rattle.mufom_words.specs.Tree.{tree_of}
 use Rattle.mufom_module.specs.declared.module.Parts.{Parts}
 use Rattle.mufom_plan.specs.declared.plan.Plan.{Plan}
 use Rattle.mufom_meaning.specs.Joined.{IsJoined}
@@ -11,10 +12,13 @@ use Rattle.mufom_meaning.specs.LinkAnswer.{link_answer}
 use Rattle.mufom_meaning.specs.Staging.{StandsFor}
 use Rattle.mufom_groups.specs.Linked.{first_name, links}
 use Rattle.mufom_groups.specs.Work.{Work, ◌>>=◌, with_stops}
+use Rattle.mufom_origins.specs.declared.origins.Origin.{Origin}
+use Rattle.mufom_origins.specs.Origins.{FileModule, origins_of}
 use Rattle.mufom_command.specs.declared.outcome.Outcome.{Outcome}
 use Rattle.mufom_command.specs.declared.outcome.Outcome.TheVariants as outcome
 use Rattle.mufom_command.specs.Stop.{Stop, link_fact}
-use Rattle.mufom_command.specs.Commands.{Output, work_of}
+use Rattle.mufom_command.specs.Commands.{Output, locating_kept, map_with, work_of}
+use Rattle.mufom_command.specs.FlatFiles.{AreFlatFiles}
 use Rattle.mufom_command.specs.Run.{Call, Answers}
 use Rattle.mufom_command.specs.RunLaws.{Accepts, CameByStages, IsLinking, IsSameWork, IsUndisturbed, put_out_of}
 use Rattle.mufom_headline.specs.ReadBack.{IsPutInFile}
@@ -52,12 +56,16 @@ LinksArePutOut =
     → Answers words call result → IsUndisturbed files call result → answer_of words ≡ Ok c → c.verb ≡ verb.Link → Accepts files c plan flat
     → LinksAll c call result flat
 
--- The work of a command over one list of modules, without groups and members: the list is linked, which may end the work with a link error,
--- and its output follows.
-abbrev pub work_of_list : Command → Plan → List Parts → Work Stop Output
-work_of_list c plan ms = do
+-- The work over one list of modules, without groups and members: the list is linked, which may end the work with a link error, and this
+-- output of it follows.
+abbrev pub after_link : List Parts → Work Stop Output → Work Stop Output
+after_link ms output = do
   _ ← with_stops link_fact (links (ms ∷ []))
-  put_out_of c.verb c plan ms
+  output
+
+-- the work of a command over one list of modules
+abbrev pub work_of_list : Command → Plan → List Parts → Work Stop Output
+work_of_list c plan ms = after_link ms (put_out_of c.verb c plan ms)
 
 -- The work of a command whose files were linked in stages is its work over the list that the stages began with, whether or not that list can
 -- be linked.
@@ -66,3 +74,16 @@ StagedRunsAreFlat =
     (files : List NamedFile) (c : Command) (plan : Plan) (flat leaves : List Parts)
     → HoldBytes files → IsLinking c.verb → Accepts files c plan flat → CameByStages flat leaves
     → IsSameWork (work_of c.verb files c) (work_of_list c plan leaves)
+
+-- the work of `map` over one list of modules, if its entries come from modules with these origins
+abbrev pub map_of_list : List Origin → Command → Plan → List Parts → Work Stop Output
+map_of_list origins c plan ms = after_link ms (locating_kept (map_with origins plan) c plan ms)
+
+-- The same of `map`, whose text names modules and files: for the list that the stages began with too, these are the modules of the flat list
+-- and their files. A partial link does not keep the names of the modules that it was made of.
+abbrev pub StagedMapsAreFlat : Type 0
+StagedMapsAreFlat =
+    (files : List NamedFile) (c : Command) (plan : Plan) (flat leaves : List Parts) (own : List FileModule)
+    → HoldBytes files → c.verb ≡ verb.Map → (accepts : Accepts files c plan flat) → AreFlatFiles (tree_of c.marks) accepts.modules own
+    → CameByStages flat leaves
+    → IsSameWork (work_of c.verb files c) (map_of_list (origins_of own) c plan leaves)

@@ -1,14 +1,15 @@
 //! Laws of whole runs, each the contract of a function that does nothing.
 
 ghost use Rattle.mufom_headline.specs.Headline.{TheHeadline};
-ghost use Rattle.mufom_headline.specs.Linking.{LinkingIsDone, LinksArePutOut, StagedRunsAreFlat};
+ghost use Rattle.mufom_headline.specs.Linking.{LinkingIsDone, LinksArePutOut, StagedMapsAreFlat, StagedRunsAreFlat};
 ghost use Rattle.mufom_headline.specs.ReadBack.{WrittenFilesAreReadBack};
 ghost use Rattle.mufom_headline.specs.Texts.{TextsComeBack};
 
 /// If no I/O call failed, the run did not run out of memory, and the plan and the files were accepted,
-/// `locate` and `dump` are `Done` if and only if the flat list of the modules can be linked and what is
-/// kept of it can be located. The output is then that location, and nothing else. If earlier runs made
-/// the modules from another list in stages, the same holds of that list.
+/// `locate`, `dump` and `map` are `Done` if and only if the flat list of the modules can be linked and
+/// what is kept of it can be located. The output is then that location, as a file, as an image or as a
+/// map, and nothing else. If earlier runs made the modules from another list in stages, the same holds
+/// of that list; its map names the modules of the files.
 pub fn the_headline()
     ensures { TheHeadline }
 {}
@@ -30,6 +31,12 @@ pub fn links_are_put_out()
 /// began with, whether or not that list can be linked.
 pub fn staged_runs_are_flat()
     ensures { StagedRunsAreFlat }
+{}
+
+/// The work of `map` whose files were linked in stages is the map of the list that the stages began with,
+/// with the modules of the files, or the same link error.
+pub fn staged_maps_are_flat()
+    ensures { StagedMapsAreFlat }
 {}
 
 /// A later run reads from the file of a module that module, and no other, if the file is not too long.
