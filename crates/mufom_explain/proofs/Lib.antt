@@ -1,0 +1,3 @@
+pub mod NotingLaws
+pub mod LineLaws
+mod Rows

@@ -1,0 +1,57 @@
+-- What an error is explained by, as the code has it, and the lines that are put of it.
+use Rattle.std.specs.Prelude.{ℕ, List, [], ◌∷◌, ◌++◌, Option, Some, None, slice_get}
+use Rattle.mufom_plan.specs.declared.plan.Region.{Region}
+use Rattle.mufom_text.specs.Words.{Text}
+use Rattle.mufom_origins.specs.Origins.{FileModule}
+use Rattle.mufom_explain.specs.declared.details.LinkDetails.{LinkDetails}
+use Rattle.mufom_explain.specs.declared.details.LinkKind.{LinkKind}
+use Rattle.mufom_explain.specs.declared.details.LinkKind.TheVariants as link
+use Rattle.mufom_explain.specs.declared.details.LocateContext.{LocateContext}
+use Rattle.mufom_explain.specs.declared.details.LocateDetails.{LocateDetails}
+use Rattle.mufom_explain.specs.declared.details.LocateKind.{LocateKind}
+use Rattle.mufom_explain.specs.declared.details.LocateKind.TheVariants as locate
+use Rattle.mufom_explain.specs.Lines.{FileNames}
+use Rattle.mufom_explain.specs.Details.{Explained, entry_lines, mismatch_lines, start_lines}
+use Rattle.mufom_explain.specs.Flat.{flat_of, wanted_names}
+use Rattle.mufom_explain.specs.Mentions.{mention_text}
+use Rattle.mufom_explain.specs.Region.{region_line}
+
+-- ---- linking
+
+abbrev pub link_lines : FileNames → List FileModule → LinkKind → Text
+link_lines names flat link.Mismatch = mismatch_lines names flat
+link_lines names flat (link.Mentions mentions) = mention_text names (flat_of mentions.flat.now) (wanted_names mentions.wanted)
+link_lines names flat link.Starts = start_lines names flat
+link_lines names flat link.Nothing = []
+
+abbrev pub link_text : LinkDetails → Text
+link_text d = link_lines d.names.now (flat_of d.flat.now) d.kind
+
+-- ---- locating
+
+abbrev pub explained_of : LocateContext → Explained
+explained_of c = record {
+  names = c.names.now;
+  flat = flat_of c.flat.now;
+  origins = c.origins.now;
+  object = c.object.now;
+  plan = c.plan.now;
+}
+
+abbrev pub taken_at : Explained → ℕ → ℕ → Option Region → Text
+taken_at e n taken None = []
+taken_at e n taken (Some region) = region_line e.object.maus n region taken
+
+-- the line of the region with a number, whose sections reach so far
+abbrev pub taken_text : Explained → ℕ → ℕ → Text
+taken_text e n taken = taken_at e n taken (slice_get e.plan.regions n)
+
+abbrev pub locate_lines : Explained → LocateKind → Text
+locate_lines e (locate.Entry n) = entry_lines e n
+locate_lines e (locate.Entries m n) = entry_lines e m ++ entry_lines e n
+locate_lines e (locate.Misfit section region taken) = entry_lines e section ++ taken_text e region taken
+locate_lines e (locate.Mentions mentions) = mention_text e.names (flat_of mentions.flat.now) (wanted_names mentions.wanted)
+locate_lines e locate.Nothing = []
+
+abbrev pub locate_text : LocateDetails → Text
+locate_text d = locate_lines (explained_of d.context) d.kind
