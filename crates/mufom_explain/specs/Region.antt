@@ -3,7 +3,7 @@ use Rattle.std.specs.Prelude.{ℕ, ◌+◌, ◌-◌, ◌==◌, max, List, [], �
 use Rattle.mufom_sections.specs.declared.section.Section.{Section}
 use Rattle.mufom_plan.specs.declared.plan.Plan.{Plan}
 use Rattle.mufom_plan.specs.declared.plan.Region.{Region}
-use Rattle.mufom_place.specs.declared.site.Placing.{Placing}
+use Rattle.mufom_place.specs.declared.placing.Placing.{Placing}
 use Rattle.mufom_place.specs.Bases.{placings}
 use Rattle.mufom_text.specs.Words.{Text, line, quoted}
 use Rattle.mufom_map.specs.MapText.{counted, hex}

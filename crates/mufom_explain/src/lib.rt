@@ -19,6 +19,8 @@ mod mentions;
 mod modules;
 mod naming;
 mod regions;
+#[cfg(test)]
+mod tests;
 mod undefined;
 mod wanted;
 
