@@ -1,3 +1,8 @@
 pub mod NotingLaws
 pub mod LineLaws
+pub mod NamingLaws
+pub mod ToldLaws
+pub mod UndefinedLaws
+pub mod RegionLaws
+pub mod LinkLaws
 mod Rows

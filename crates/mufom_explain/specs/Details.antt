@@ -1,5 +1,5 @@
 -- The lines that follow an error line of linking or locating: what is behind each number and name in it.
-use Rattle.std.specs.Prelude.{ℕ, ◌-◌, List, [], ◌∷◌, ◌++◌, filter, flat_map, length, map, take, Option, Some, None, Bool, false, not, is_some, slice_get}
+use Rattle.std.specs.Prelude.{ℕ, ◌-◌, List, [], ◌∷◌, ◌++◌, filter, find, flat_map, length, map, take, Option, Some, None, option_to_list, Bool, false, not, is_some, slice_get}
 use Rattle.std.specs.List.{enumerate_from}
 use Rattle.mufom_sections.specs.declared.section.Section.{Section}
 use Rattle.mufom_module.specs.declared.module.Parts.{Parts}
@@ -38,9 +38,17 @@ differs_from (first ∷ rest) p = not (same_descriptor first.1 p.1.1)
 abbrev pub has_start : ℕ × FileModule → Bool
 has_start p = is_some p.1.1.start
 
--- the first module, and the first with another descriptor
+-- the first module
+abbrev pub first_line : FileNames → List FileModule → Text
+first_line names flat = listed names (take 1 (enumerate_from 0 flat))
+
+-- the first module with another descriptor
+abbrev pub other_line : FileNames → List FileModule → Text
+other_line names flat = listed names (option_to_list (find (differs_from flat) (enumerate_from 0 flat)))
+
+-- both
 abbrev pub mismatch_lines : FileNames → List FileModule → Text
-mismatch_lines names flat = let all = enumerate_from 0 flat in listed names (take 1 all) ++ listed names (take 1 (filter (differs_from flat) all))
+mismatch_lines names flat = first_line names flat ++ other_line names flat
 
 -- the first two modules with a start
 abbrev pub start_lines : FileNames → List FileModule → Text
@@ -52,6 +60,12 @@ link_details names flat (link.Mismatch first other) = mismatch_lines names flat
 link_details names flat (link.Duplicate name) = mention_text names flat (name ∷ [])
 link_details names flat link.DuplicateStart = start_lines names flat
 link_details names flat link.NoMemory = []
+
+-- ---- a name that is to be kept
+
+-- What follows the line of a name that no module defines: the modules that refer to it.
+abbrev pub name_details : FileNames → List FileModule → List ℕ → Text
+name_details names flat name = mention_text names flat (name ∷ [])
 
 -- ---- locating
 

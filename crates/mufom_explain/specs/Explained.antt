@@ -10,6 +10,7 @@ use Rattle.mufom_explain.specs.declared.details.LocateContext.{LocateContext}
 use Rattle.mufom_explain.specs.declared.details.LocateDetails.{LocateDetails}
 use Rattle.mufom_explain.specs.declared.details.LocateKind.{LocateKind}
 use Rattle.mufom_explain.specs.declared.details.LocateKind.TheVariants as locate
+use Rattle.mufom_explain.specs.declared.details.NameDetails.{NameDetails}
 use Rattle.mufom_explain.specs.Lines.{FileNames}
 use Rattle.mufom_explain.specs.Details.{Explained, entry_lines, mismatch_lines, start_lines}
 use Rattle.mufom_explain.specs.Flat.{flat_of, wanted_names}
@@ -26,6 +27,11 @@ link_lines names flat link.Nothing = []
 
 abbrev pub link_text : LinkDetails → Text
 link_text d = link_lines d.names.now (flat_of d.flat.now) d.kind
+
+-- ---- a name that is to be kept
+
+abbrev pub name_text : NameDetails → Text
+name_text d = mention_text d.names.now (flat_of d.mentions.flat.now) (wanted_names d.mentions.wanted)
 
 -- ---- locating
 

@@ -31,6 +31,13 @@ pub struct LinkDetails<'a> {
     pub(crate) kind: LinkKind<'a>,
 }
 
+/// The lines that follow the error line of a name that is to be kept and that no module defines.
+#[derive(Drop)]
+pub struct NameDetails<'a> {
+    pub(crate) names: &'a [Text],
+    pub(crate) mentions: Mentions<'a>,
+}
+
 /// What the error of a module that is not located is explained by.
 #[derive(Clone, Copy)]
 pub struct LocateContext<'a> {

@@ -3,7 +3,7 @@
 ghost use Rattle.std.specs.Prelude.{◌≡◌, ◌+◌, ◌<◌, ◌^◌, [], IfOk, OnOk, length, map, replicate, take};
 ghost use Rattle.mufom_explain.specs.Flat.{parts_of, wanted_names};
 ghost use Rattle.mufom_explain.specs.Mentions.{defines_among, mention, mentions_of, refers_among};
-ghost use Rattle.mufom_explain.specs.Noting.{IsFresh, Told, noted, noted_for, same_mention, told_with};
+ghost use Rattle.mufom_explain.specs.Noting.{IsFresh, Told, ends_with, noted, noted_for, same_mention, told_with};
 
 use crate::mention::{Mention, MentionKind};
 use crate::mentions::Mentions;
@@ -25,14 +25,22 @@ fn same(mention: Mention, other: Mention) -> bool
     mention.position == other.position && same_kind
 }
 
+// Whether this is the last of the mentions.
+fn is_last(mentions: &[Mention], mention: Mention) -> bool
+    ensures { result ≡ ends_with mentions.now mention }
+{
+    match mentions.last() {
+        Some(last) => same(*last, mention),
+        None => false,
+    }
+}
+
 // Adds a mention, unless it is the last already.
 fn note(mentions: &mut List<Mention>, mention: Mention) -> Result<(), NoMemory>
     ensures { OnOk result (mentions.new ≡ noted mentions.old mention) }
 {
-    if let Some(last) = mentions.as_slice().last() {
-        if same(*last, mention) {
-            return Ok(());
-        }
+    if is_last(mentions.as_slice(), mention) {
+        return Ok(());
     }
     mentions.push(mention)
 }
@@ -45,8 +53,9 @@ fn note_name(
     mention: Mention,
 ) -> Result<(), NoMemory>
     requires { length lists.old.items ≡ length (wanted_names wanted.now) }
-    ensures { (told : Told) → lists.old.items ≡ map told (wanted_names wanted.now)
-        → OnOk result (lists.new.items ≡ map (noted_for told name.now mention) (wanted_names wanted.now)) }
+    ensures count { OnOk result (length lists.new.items ≡ length lists.old.items) }
+    ensures told { OnOk result ((told : Told) → lists.old.items ≡ map told (wanted_names wanted.now)
+        → lists.new.items ≡ map (noted_for told name.now mention) (wanted_names wanted.now)) }
 {
     let Some(place) = wanted.index.find(name) else {
         return Ok(());
@@ -62,8 +71,8 @@ fn note_publics(
     publics: &[Public],
 ) -> Result<(), NoMemory>
     requires { length lists.old.items ≡ length (wanted_names wanted.now) }
-    ensures { (told : Told) → lists.old.items ≡ map told (wanted_names wanted.now) → IsFresh (mention position MentionKind.Public) told
-        → OnOk result (lists.new.items ≡ map (told_with told (defines_among publics.now) (mention position MentionKind.Public)) (wanted_names wanted.now)) }
+    ensures { OnOk result ((told : Told) → lists.old.items ≡ map told (wanted_names wanted.now) → IsFresh (mention position MentionKind.Public) told
+        → lists.new.items ≡ map (told_with told (defines_among publics.now) (mention position MentionKind.Public)) (wanted_names wanted.now)) }
 {
     let mention = Mention {
         position,
@@ -83,8 +92,8 @@ fn note_references(
     references: &[Reference],
 ) -> Result<(), NoMemory>
     requires { length lists.old.items ≡ length (wanted_names wanted.now) }
-    ensures { (told : Told) → lists.old.items ≡ map told (wanted_names wanted.now) → IsFresh (mention position MentionKind.Reference) told
-        → OnOk result (lists.new.items ≡ map (told_with told (refers_among references.now) (mention position MentionKind.Reference)) (wanted_names wanted.now)) }
+    ensures { OnOk result ((told : Told) → lists.old.items ≡ map told (wanted_names wanted.now) → IsFresh (mention position MentionKind.Reference) told
+        → lists.new.items ≡ map (told_with told (refers_among references.now) (mention position MentionKind.Reference)) (wanted_names wanted.now)) }
 {
     let mention = Mention {
         position,

@@ -1,9 +1,8 @@
 //! What the error of a list of modules that is not linked names.
 
-ghost use Rattle.std.specs.Prelude.{◌≡◌, ◌<◌, ◌^◌, ℕ, List as list, IfOk, filter, length, take};
-ghost use Rattle.std.specs.List.{enumerate_from};
+ghost use Rattle.std.specs.Prelude.{◌≡◌, ◌<◌, ◌^◌, ℕ, List as list, IfOk, length};
 ghost use Rattle.mufom_meaning.specs.LinkAnswer.{same_order};
-ghost use Rattle.mufom_explain.specs.Details.{differs_from, link_details, listed, start_lines};
+ghost use Rattle.mufom_explain.specs.Details.{differs_from, first_line, link_details, other_line, start_lines};
 ghost use Rattle.mufom_explain.specs.Explained.{link_lines, link_text};
 ghost use Rattle.mufom_explain.specs.Flat.{flat_of};
 
@@ -42,7 +41,7 @@ fn differs_from(flat: &[FlatModule<'_>], module: &Parts) -> bool
 
 // The line of the first module with another descriptor than the first module, if there is one.
 fn other_line<K: Output>(out: &mut K, names: &[Text], flat: &[FlatModule<'_>])
-    ensures { K.takes out.old out.new (listed names.now (take 1 (filter (differs_from (flat_of flat.now)) (enumerate_from 0 (flat_of flat.now))))) }
+    ensures { K.takes out.old out.new (other_line names.now (flat_of flat.now)) }
 {
     for position in 0..flat.len() {
         if differs_from(flat, flat[position].parts) {
@@ -54,7 +53,7 @@ fn other_line<K: Output>(out: &mut K, names: &[Text], flat: &[FlatModule<'_>])
 
 // The line of the first module, if there is one.
 fn first_line<K: Output>(out: &mut K, names: &[Text], flat: &[FlatModule<'_>])
-    ensures { K.takes out.old out.new (listed names.now (take 1 (enumerate_from 0 (flat_of flat.now)))) }
+    ensures { K.takes out.old out.new (first_line names.now (flat_of flat.now)) }
 {
     if let Some(first) = flat.first() {
         module_line(out, names, 0, first);

@@ -1,6 +1,6 @@
 //! What the error of a module that is not located names.
 
-ghost use Rattle.std.specs.Prelude.{◌≡◌, ◌∷◌, ◌<◌, ◌^◌, [], Some, None, IfOk, length, option_map};
+ghost use Rattle.std.specs.Prelude.{◌≡◌, ◌∷◌, ◌<◌, ◌^◌, [], Some, None, IfOk, length, slice_get};
 ghost use Rattle.mufom_text.specs.Fitting.{IsUnitCount};
 ghost use Rattle.mufom_image.specs.Placements.{IsSoundPlan};
 ghost use Rattle.mufom_image.specs.Refusals.{IsMet};
@@ -10,7 +10,7 @@ ghost use Rattle.mufom_place.specs.Bases.{numbered};
 ghost use Rattle.mufom_place.specs.Facts.{first_some, unplaced_at};
 ghost use Rattle.mufom_plan.specs.Names.{listed_names};
 ghost use Rattle.mufom_explain.specs.Details.{commons_of, entry_lines, locate_details, numbered_lines, placement_details, site_details, undefined_names};
-ghost use Rattle.mufom_explain.specs.Explained.{explained_of, locate_lines, locate_text, taken_at, taken_text};
+ghost use Rattle.mufom_explain.specs.Explained.{explained_of, locate_lines, locate_text, taken_text};
 ghost use Rattle.mufom_explain.specs.Flat.{flat_of};
 ghost use Rattle.mufom_explain.specs.Mentions.{mention_text};
 
@@ -25,40 +25,39 @@ use mufom_image_values::resolve_references;
 use mufom_meaning::modules_may_be_placed;
 use mufom_numbers::{Bytes, NoMemory};
 use mufom_place::PlaceRefusal;
-use mufom_plan::Region;
 use mufom_sections::Section;
 use mufom_text::{Lines, Output};
 use std::alloc::Global;
 
-// The lines of a common, if there is one.
-fn common_of<K: Output>(
+// The lines of the common at a position, if there is one.
+fn common_at<K: Output>(
     out: &mut K,
     context: &LocateContext<'_>,
     number: u32,
-    common: Option<&Section>,
+    commons: &[Section],
+    position: usize,
 )
-    ensures { K.takes out.old out.new (numbered_lines (explained_of context.now) number None (option_map (λ s. s.now) common)) }
+    ensures { K.takes out.old out.new (numbered_lines (explained_of context.now) number None (slice_get commons.now position)) }
 {
-    match common {
+    match commons.get(position) {
         Some(common) => common_lines(out, context.names, context.flat, number, common),
         None => {}
     }
 }
 
-// The line of a region whose sections reach so far, if there is one.
-fn region_of<K: Output>(
+// The line of the region with a number, whose sections reach so far, if there is one.
+fn region_at<K: Output>(
     out: &mut K,
     context: &LocateContext<'_>,
     maus: u8,
     number: u32,
     taken: u128,
-    region: Option<&Region>,
 )
     requires units { IsUnitCount maus }
     requires same { maus ≡ context.now.object.now.maus }
-    ensures { K.takes out.old out.new (taken_at (explained_of context.now) number taken (option_map (λ r. r.now) region)) }
+    ensures { K.takes out.old out.new (taken_text (explained_of context.now) number taken) }
 {
-    match region {
+    match context.plan.regions.get(number as usize) {
         Some(region) => region_line(out, maus, number, region, taken),
         None => {}
     }
@@ -84,12 +83,8 @@ impl<'a> LocateDetails<'a> {
                 section,
             );
         } else {
-            common_of(
-                out,
-                context,
-                number,
-                self.commons.get(position - sections.len()),
-            );
+            let commons = self.commons.as_slice();
+            common_at(out, context, number, commons, position - sections.len());
         }
     }
 
@@ -98,15 +93,7 @@ impl<'a> LocateDetails<'a> {
         ensures { K.takes out.old out.new (taken_text (explained_of self.now.context) number taken) }
     {
         let context = &self.context;
-        let region = context.plan.regions.get(number as usize);
-        region_of(
-            out,
-            context,
-            context.object.parts().maus,
-            number,
-            taken,
-            region,
-        );
+        region_at(out, context, context.object.parts().maus, number, taken);
     }
 }
 

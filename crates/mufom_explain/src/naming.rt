@@ -22,10 +22,13 @@ pub(crate) fn add_name<'a>(
     ensures names { OnOk result (map (λ name. name.now) names.new.items ≡ with_name (map (λ name. name.now) names.old.items) name.now) }
     ensures count { OnOk result (length names.new.items ≤ length names.old.items + 1) }
 {
-    if index.add(name, names.len() as u32)?.is_none() {
-        names.push(name)?;
+    match index.add(name, names.len() as u32)? {
+        Some(_) => Ok(()),
+        None => {
+            names.push(name)?;
+            Ok(())
+        }
     }
-    Ok(())
 }
 
 /// One name.
