@@ -64,7 +64,7 @@ noted-next told t u name m fresh next names =
 -- ---- the mentions before a module
 
 -- the modules that are mentioned are before this position
-Below : ℕ → List Mention → Type 0
+abbrev Below : ℕ → List Mention → Type 0
 Below k ms = AllByRecursion (λ (m : Mention). m.position < k) ms
 
 below-append : (k : ℕ) (xs ys : List Mention) → Below k xs → Below k ys → Below k (xs ++ ys)

@@ -1,5 +1,5 @@
 -- What an error is explained by, as the code has it, and the lines that are put of it.
-use Rattle.std.specs.Prelude.{ℕ, List, [], ◌∷◌, ◌++◌, Option, Some, None, slice_get}
+use Rattle.std.specs.Prelude.{ℕ, ◌-◌, ◌&&◌, Bool, List, [], ◌∷◌, ◌++◌, Option, Some, None, nat_lt, slice_get, if◌then◌else◌}
 use Rattle.mufom_plan.specs.declared.plan.Region.{Region}
 use Rattle.mufom_text.specs.Words.{Text}
 use Rattle.mufom_origins.specs.Origins.{FileModule}
@@ -11,13 +11,25 @@ use Rattle.mufom_explain.specs.declared.details.LocateDetails.{LocateDetails}
 use Rattle.mufom_explain.specs.declared.details.LocateKind.{LocateKind}
 use Rattle.mufom_explain.specs.declared.details.LocateKind.TheVariants as locate
 use Rattle.mufom_explain.specs.declared.details.NameDetails.{NameDetails}
-use Rattle.mufom_explain.specs.Lines.{FileNames}
-use Rattle.mufom_explain.specs.Details.{Explained, entry_lines, mismatch_lines, start_lines}
+use Rattle.mufom_explain.specs.Lines.{FileNames, module_line}
+use Rattle.mufom_explain.specs.Details.{Explained, entry_lines, has_start, mismatch_lines, start_lines}
 use Rattle.mufom_explain.specs.Flat.{flat_of, wanted_names}
 use Rattle.mufom_explain.specs.Mentions.{mention_text}
 use Rattle.mufom_explain.specs.Region.{region_line}
 
 -- ---- linking
+
+-- a line is left to put, and the module has a start
+abbrev pub is_told : ℕ → ℕ × FileModule → Bool
+is_told left p = nat_lt 0 left && has_start p
+
+-- how many lines are left to put after the module
+abbrev pub left_after : ℕ → ℕ × FileModule → ℕ
+left_after left p = if is_told left p then left - 1 else left
+
+-- the line of the module, if it is told
+abbrev pub start_line : FileNames → ℕ → ℕ × FileModule → Text
+start_line names left p = if is_told left p then module_line names p.0 p.1 else []
 
 abbrev pub link_lines : FileNames → List FileModule → LinkKind → Text
 link_lines names flat link.Mismatch = mismatch_lines names flat

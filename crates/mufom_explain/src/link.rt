@@ -3,8 +3,8 @@
 ghost use Rattle.std.specs.Prelude.{◌≡◌, ◌<◌, ◌^◌, ℕ, List as list, IfOk, length};
 ghost use Rattle.mufom_meaning.specs.LinkAnswer.{same_order};
 ghost use Rattle.mufom_explain.specs.Details.{differs_from, first_line, link_details, other_line, start_lines};
-ghost use Rattle.mufom_explain.specs.Explained.{link_lines, link_text};
-ghost use Rattle.mufom_explain.specs.Flat.{flat_of};
+ghost use Rattle.mufom_explain.specs.Explained.{left_after, link_lines, link_text, start_line};
+ghost use Rattle.mufom_explain.specs.Flat.{file_module, flat_of};
 
 use crate::details::{LinkDetails, LinkKind};
 use crate::finding::find_mentions;
@@ -60,17 +60,33 @@ fn first_line<K: Output>(out: &mut K, names: &[Text], flat: &[FlatModule<'_>])
     }
 }
 
+// The line of a module, if it has a start and a line is left to put. Returns how many are left then.
+fn start_line<K: Output>(
+    out: &mut K,
+    names: &[Text],
+    left: u32,
+    position: usize,
+    module: &FlatModule<'_>,
+) -> u32
+    ensures left { result ≡ left_after left (position, file_module «module».now) }
+    ensures put { K.takes out.old out.new (start_line names.now left (position, file_module «module».now)) }
+{
+    match left > 0 && module.parts.start.is_some() {
+        true => {
+            module_line(out, names, position, module);
+            left - 1
+        }
+        false => left,
+    }
+}
+
 // The lines of the first two modules with a start.
 fn start_lines<K: Output>(out: &mut K, names: &[Text], flat: &[FlatModule<'_>])
     ensures { K.takes out.old out.new (start_lines names.now (flat_of flat.now)) }
 {
-    let mut left = 2u32;
+    let mut left = 2;
     for position in 0..flat.len() {
-        let parts = flat[position].parts;
-        if left > 0 && parts.start.is_some() {
-            module_line(out, names, position, &flat[position]);
-            left -= 1;
-        }
+        left = start_line(out, names, left, position, &flat[position]);
     }
 }
 
