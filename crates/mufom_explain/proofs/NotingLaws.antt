@@ -1,6 +1,6 @@
 -- Mentions that are added name by name: what is told of all names after some entries of a module, and after the module.
 use Rattle.std.proofs.Common.{◌≡◌, ℕ, zero, suc, ◌+◌, ◌-◌, ◌<◌, List, [], ◌∷◌, ◌++◌, length, map, take, Some, None, Bool, true, false, cond, ◌||◌, ◌&&◌}
-use Rattle.std.proofs.Common.{refl, sym, ap, ◌∙◌, append-nil, append_assoc, length-append, arith}
+use Rattle.std.proofs.Common.{refl, sym, ap, ◌∙◌, append-nil, append_assoc, length-append, arith, rules}
 use Rattle.std.specs.Prelude.{◌==◌, slice_get, if◌then◌else◌}
 use Rattle.std.specs.List.{AllByRecursion}
 use Rattle.std.specs.Str.{bytes_eq}
@@ -16,8 +16,7 @@ use Rattle.mufom_explain.specs.Noting.{IsFresh, Told, ends_with, is_mention, not
 -- ---- the last mention
 
 same_number : (n : ℕ) → (n == n) ≡ true
-same_number zero = refl
-same_number (suc n) = same_number n
+same_number n = search rules
 
 same_kinds : (kind : MentionKind) → same_kind kind kind ≡ true
 same_kinds kinds.Public = refl

@@ -3,7 +3,7 @@ use Rattle.std.proofs.Common.{◌≡◌, ℕ, zero, suc, ◌+◌, ◌-◌, ◌<�
 use Rattle.std.specs.Prelude.{All, None, max, slice_get}
 use Rattle.std.proofs.lemmas.List.{take_more}
 use Rattle.mufom_sections.specs.declared.section.Section.{Section}
-use Rattle.mufom_place.specs.declared.site.Placing.{Placing}
+use Rattle.mufom_place.specs.declared.placing.Placing.{Placing}
 use Rattle.mufom_explain.specs.Region.{end_in, greatest_end}
 
 greatest-push : (all : List Section) (region : ℕ) (ps : List Placing) (p : Placing)
@@ -27,6 +27,8 @@ own-at (x ∷ xs) ys zero inside = refl
 own-at (x ∷ xs) ys (suc i) inside = own-at xs ys i (let less : suc i < suc (length xs) = inside in omega (arith, less))
 
 pub after-at : {X : Type 0} (xs ys : List X) (i : ℕ) → length xs ≤ i → slice_get (xs ++ ys) i ≡ slice_get ys (i - length xs)
-after-at [] ys i past = refl
+after-at [] ys i past = let same : i ≡ i - 0 = omega arith in ap (slice_get ys) same
 after-at (x ∷ xs) ys zero past = absurd (let none : suc (length xs) ≤ 0 = past in omega (arith, none))
-after-at (x ∷ xs) ys (suc i) past = after-at xs ys i (let more : suc (length xs) ≤ suc i = past in omega (arith, more))
+after-at (x ∷ xs) ys (suc i) past =
+    let less : i - length xs ≡ suc i - suc (length xs) = omega arith in
+    after-at xs ys i (let more : suc (length xs) ≤ suc i = past in omega (arith, more)) ∙ ap (slice_get ys) less
