@@ -2,7 +2,7 @@ use Rattle.std.proofs.Common.{take}
 use Rattle.mufom_text.specs.Words.{each}
 use Rattle.mufom_explain.specs.Flat.{file_module, wanted_names}
 use Rattle.mufom_explain.specs.Mentions.{named_line}
-use Rattle.mufom_explain.proofs.mention_lines.Mentions.module_lines.Given as goal
+use Rattle.mufom_explain.proofs.mentions.Mentions.module_lines.Given as goal
 
 abbrev pub invariant-loop-position : goal.invariant-loop-position
 invariant-loop-position g l = g.K.Output.takes l.fn.out l.out
