@@ -1,5 +1,5 @@
 -- An index of names that grows with the names, and names that are added one after another.
-use Rattle.std.proofs.Common.{◌≡◌, ℕ, ◌+◌, List, [], ◌∷◌, ◌++◌, length, Some, None, is_none, Bool, true, false, not, if◌then◌else◌, refl, sym, ap, ◌∙◌, arith}
+use Rattle.std.proofs.Common.{◌≡◌, ℕ, ◌+◌, List, [], ◌∷◌, ◌++◌, length, Option, Some, None, is_none, is_some, Bool, true, false, not, if◌then◌else◌, refl, sym, ap, ◌∙◌, arith}
 use Rattle.mufom_names.specs.Index.{position_of, with_entry, numbered_from}
 use Rattle.mufom_names.proofs.PositionLaws.{numbered-push}
 use Rattle.mufom_plan.specs.Names.{has_name}
@@ -28,3 +28,12 @@ named-old names name k there = by_case (has_name names name) (sym (has-place 0 n
   by_case : (b : Bool) → not b ≡ false → (if b then names else names ++ name ∷ []) ≡ names
   by_case true e = refl
   by_case false e = absurd cc
+
+-- the index has a name exactly if it is one of the names
+pub found-is : (names : List (List ℕ)) (name : List ℕ) → is_some (position_of (numbered_from 0 names) name) ≡ has_name names name
+found-is names name = by_case (position_of (numbered_from 0 names) name) (has_name names name) (has-place 0 names name) where
+  by_case : (o : Option ℕ) (b : Bool) → is_none o ≡ not b → is_some o ≡ b
+  by_case None false e = refl
+  by_case None true e = absurd cc
+  by_case (Some k) true e = refl
+  by_case (Some k) false e = absurd cc

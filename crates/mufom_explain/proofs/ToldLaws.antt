@@ -4,7 +4,8 @@ use Rattle.std.proofs.Common.{refl, sym, ap, subst, ◌∙◌, arith}
 use Rattle.std.specs.Prelude.{slice_get, slice_set}
 use Rattle.std.specs.List.{IsDistinct, list_any}
 use Rattle.std.specs.Str.{bytes_eq}
-use Rattle.std.proofs.lemmas.List.{get_or-map, map_more, take-map, take_more}
+use Rattle.std.proofs.lemmas.Grind.{common_steps}
+use Rattle.std.proofs.lemmas.List.{get_or-map, length-map, map_more, take-map, take_more}
 use Rattle.std.proofs.lemmas.List.Folds.{list_any-append}
 use Rattle.std.proofs.lemmas.Option.{get_or_from_slice_get, slice_get_within}
 use Rattle.std.proofs.lemmas.Slice.Eq.{bytes_eq-Decides}
@@ -22,6 +23,14 @@ use Rattle.mufom_explain.specs.Mentions.{defines_among, mentions_of, refers_amon
 use Rattle.mufom_explain.specs.Noting.{Told, noted, noted_for}
 
 -- ---- a mention of a name
+
+-- the place of a name is one of the names
+pub place-inside : (names : List (List ℕ)) (name : List ℕ) (place : ℕ) → position_of (numbered_from 0 names) name ≡ Some place → place < length names
+place-inside names name place there =
+    let found = place-some 0 names name place there in
+    let same = found.1 in
+    let inside = slice_get_within names found.0 name found.2 in
+    omega (arith, same, inside)
 
 module _ (told : Told) (name : List ℕ) (m : Mention) (names : List (List ℕ)) where
   others : (y : List ℕ) → bytes_eq name y ≡ false → noted_for told name m y ≡ told y
@@ -79,6 +88,13 @@ parts-more flat i f inside is =
     let parts : FlatModule → Parts = λ g. g.parts.now in
     take-map parts (i + 1) flat ∙ map_more parts flat i f inside
     ∙ (λ j. sym (take-map parts i flat) j ++ parts (sym is j) ∷ [])
+
+pub before-count : (flat : List FlatModule) (i : ℕ) → i < length flat → length (take i (parts_of flat)) ≡ i
+before-count flat i inside =
+    let parts : FlatModule → Parts = λ g. g.parts.now in
+    let long = length-map flat parts in
+    let less : i < length (parts_of flat) = omega (arith, long, inside) in
+    grind (arith, common_steps, less)
 
 pub none-told : (names : List (List ℕ)) → replicate (length names) [] ≡ map (mentions_of []) names
 none-told [] = refl

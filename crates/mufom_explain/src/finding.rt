@@ -60,7 +60,8 @@ fn note_name(
     let Some(place) = wanted.index.find(name) else {
         return Ok(());
     };
-    note(&mut lists[place as usize], mention)
+    note(&mut lists[place as usize], mention)?;
+    Ok(())
 }
 
 // Adds a mention to the lists of those names that publics have.
@@ -118,7 +119,8 @@ fn note_module(
 {
     let parts = flat[position as usize].parts;
     note_publics(lists, wanted, position, parts.names.publics.as_slice())?;
-    note_references(lists, wanted, position, parts.names.references.as_slice())
+    note_references(lists, wanted, position, parts.names.references.as_slice())?;
+    Ok(())
 }
 
 // An empty list for each of so many names.

@@ -28,8 +28,8 @@ fn kind_text(kind: MentionKind) -> &'static [u8]
 }
 
 // The line of a mention.
-fn mention_line<K: Output>(out: &mut K, name: &[u8], mention: Mention)
-    ensures { K.takes out.old out.new (mention_line name.now mention) }
+fn mention_line<K: Output>(out: &mut K, name: &[u8], mention: &Mention)
+    ensures { K.takes out.old out.new (mention_line name.now mention.now) }
 {
     quoted(out, name);
     counted(out, kind_text(mention.kind), mention.position as u128);
@@ -41,7 +41,7 @@ fn mention_lines<K: Output>(out: &mut K, name: &[u8], mentions: &[Mention])
     ensures { K.takes out.old out.new (flat_map (mention_line name.now) mentions.now) }
 {
     for mention in mentions {
-        mention_line(out, name, *mention);
+        mention_line(out, name, mention);
     }
 }
 

@@ -30,9 +30,9 @@ fn size_at(sections: &[Section], commons: &[Section], position: usize) -> u64
 }
 
 // Where a section ends that a region places; 0 for a section of another region.
-fn end_in(sections: &[Section], commons: &[Section], region: u32, placing: Placing) -> u128
-    requires { IsLow placing }
-    ensures end { result ≡ end_in (sections.now ++ commons.now) region placing }
+fn end_in(sections: &[Section], commons: &[Section], region: u32, placing: &Placing) -> u128
+    requires { IsLow placing.now }
+    ensures end { result ≡ end_in (sections.now ++ commons.now) region placing.now }
     ensures low { result < 2 ^ 101 }
 {
     if placing.region == region {
@@ -54,7 +54,7 @@ fn greatest_end(
 {
     let mut greatest = 0u128;
     for placing in placings {
-        greatest = greatest.max(end_in(sections, commons, region, *placing));
+        greatest = greatest.max(end_in(sections, commons, region, placing));
     }
     greatest
 }

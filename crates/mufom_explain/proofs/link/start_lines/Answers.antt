@@ -14,10 +14,10 @@ loop-position-preserved g c =
     let i = c.loop-position.position in let left = c.loop-position.left in let f = c.index-flat-position.result in
     let inside = c.loop-position-test.true in let is = c.index-flat-position.is in
     let text = start-text names flat i left f inside is c.loop-position.invariant.1 in (
-      subst (λ (t : List ℕ). g.K.Output.takes c.args.out.now c.start_line.new.out t) (sym text)
+      subst (λ (t : List ℕ). g.K.Output.takes c.args.out.now c.start_line-left.new.out t) (sym text)
           (g.met.K.Output.joins _ _ _ (listed names (take 2 (filter has_start (take i (numbered flat))))) (start_line names left (i, file_module f))
-          c.loop-position.invariant.0 c.start_line.ensures.put),
-      c.start_line.ensures.left ∙ start-left names flat i left f inside is c.loop-position.invariant.1,
+          c.loop-position.invariant.0 c.start_line-left.ensures.put),
+      c.start_line-left.ensures.left ∙ start-left names flat i left f inside is c.loop-position.invariant.1,
     )
 
 pub returns : goal.returns

@@ -1,6 +1,5 @@
-use Rattle.std.proofs.Common.{refl}
-use Rattle.mufom_explain.specs.Mentions.{mention_line}
 use Rattle.mufom_text.proofs.Loops.{flat-step}
+use Rattle.mufom_explain.specs.Mentions.{mention_line}
 use Rattle.mufom_explain.proofs.mention_lines.mention_lines.Goals as goal
 
 pub loop-mention-preserved : goal.loop-mention-preserved
