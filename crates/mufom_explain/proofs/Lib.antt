@@ -5,4 +5,5 @@ pub mod ToldLaws
 pub mod UndefinedLaws
 pub mod RegionLaws
 pub mod LinkLaws
+pub mod PlacedLaws
 mod Rows

@@ -15,11 +15,9 @@ greatest-push all region (q ∷ ps) p =
     ap (max (end_in all region q)) (greatest-push all region ps p) ∙ turned
 
 -- one placing more
-pub greatest-more : (all : List Section) (region : ℕ) (ps : List Placing) (i : ℕ) (p : Placing) → i < length ps → p ≡ get_or ps i p
-    → greatest_end all region (take (i + 1) ps) ≡ max (greatest_end all region (take i ps)) (end_in all region p)
-greatest-more all region ps i p inside is =
-    ap (greatest_end all region) (take_more ps i p inside ∙ ap (λ q. take i ps ++ q ∷ []) (sym is))
-    ∙ greatest-push all region (take i ps) p
+pub greatest-more : (all : List Section) (region : ℕ) (ps : List Placing) (i : ℕ) (d : Placing) → i < length ps
+    → greatest_end all region (take (i + 1) ps) ≡ max (greatest_end all region (take i ps)) (end_in all region (get_or ps i d))
+greatest-more all region ps i d inside = ap (greatest_end all region) (take_more ps i d inside) ∙ greatest-push all region (take i ps) (get_or ps i d)
 
 pub own-at : {X : Type 0} (xs ys : List X) (i : ℕ) → i < length xs → slice_get (xs ++ ys) i ≡ slice_get xs i
 own-at [] ys i inside = absurd (let none : i < 0 = inside in omega (arith, none))

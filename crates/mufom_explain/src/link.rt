@@ -44,8 +44,9 @@ fn other_line<K: Output>(out: &mut K, names: &[Text], flat: &[FlatModule<'_>])
     ensures { K.takes out.old out.new (other_line names.now (flat_of flat.now)) }
 {
     for position in 0..flat.len() {
-        if differs_from(flat, flat[position].parts) {
-            module_line(out, names, position, &flat[position]);
+        let module = &flat[position];
+        if differs_from(flat, module.parts) {
+            module_line(out, names, position, module);
             return;
         }
     }

@@ -269,6 +269,7 @@ pub fn explain_locate<'a>(
     let resolutions = resolve_references(alloc, context.object)?;
     let commons = planned_commons(alloc, context.object, resolutions.as_slice(), context.plan)?;
     let kind = about(alloc, &context, commons.as_slice(), refusal)?;
+    let _ = context.object.parts();
     Ok(LocateDetails {
         context,
         commons,

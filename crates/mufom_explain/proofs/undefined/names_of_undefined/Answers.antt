@@ -43,7 +43,6 @@ loop-place-preserved c =
             w.index-is ∙ w.in_ok-add_name.ensures.indexed ∙ (λ i. numbered_from 0 (map (λ name. name.now) (sym w.names-is i).items)),
             (λ i. map (λ name. name.now) (w.names-is i).items) ∙ w.in_ok-add_name.ensures.names
                 ∙ (λ i. with_name (c.loop-place.invariant.1 i) (w.as_slice.ensures i))
-                ∙ ap (λ (q : Reference). with_name so_far q.name) (sym c.index-references-place.is)
                 ∙ sym more,
             omega (arith, count, long, c.loop-place.invariant.2),
           )
