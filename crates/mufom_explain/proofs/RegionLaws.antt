@@ -11,7 +11,7 @@ greatest-push : (all : List Section) (region : ℕ) (ps : List Placing) (p : Pla
 greatest-push all region [] p = let e : max (end_in all region p) 0 ≡ max 0 (end_in all region p) = omega arith in e
 greatest-push all region (q ∷ ps) p =
     let turned : max (end_in all region q) (max (greatest_end all region ps) (end_in all region p))
-        ≡ max (max (end_in all region q) (greatest_end all region ps)) (end_in all region p) = omega arith in
+    ≡ max (max (end_in all region q) (greatest_end all region ps)) (end_in all region p) = omega arith in
     ap (max (end_in all region q)) (greatest-push all region ps p) ∙ turned
 
 -- one placing more

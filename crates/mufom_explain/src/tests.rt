@@ -160,11 +160,7 @@ fn explains(
 }
 
 // The module with a section of each of two modules, and with these references.
-fn object(
-    rt: &impl Abort,
-    alloc: Global,
-    references: &[(&[u8], Option<u64>)],
-) -> Module {
+fn object(rt: &impl Abort, alloc: Global, references: &[(&[u8], Option<u64>)]) -> Module {
     let mut parts = parts(rt, alloc, b"a");
     let section = section(rt, alloc);
     parts.sections.push(section).expect(rt, "memory");

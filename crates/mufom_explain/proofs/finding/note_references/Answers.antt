@@ -11,15 +11,18 @@ use Rattle.mufom_explain.proofs.ToldLaws.{refers-more}
 use Rattle.mufom_explain.proofs.finding.note_references.Goals as goal
 
 pub loop-reference-preserved : goal.loop-reference-preserved
-loop-reference-preserved c = (c.in_ok-note_name.ensures.count ∙ c.loop-reference.invariant.0, λ told are fresh.
-    let m = mention c.args.position kinds.Reference in
-    let names = wanted_names c.args.wanted.now in
-    let references = c.args.references.now in let i = c.loop-reference.reference-index in let p = c.reference-item.result in
-    let before = told_with told (refers_among (take i references)) m in
-    c.in_ok-note_name.ensures.told before (c.loop-reference.invariant.1 told are fresh)
-    ∙ ap (λ key. map (noted_for before key m) names) c.as_slice.ensures
-    ∙ noted-next told (refers_among (take i references)) (refers_among (take (i + 1) references)) p.name m fresh
-    (refers-more references i p c.loop-reference-test.true c.reference-item.is) names)
+loop-reference-preserved c = (
+  c.in_ok-note_name.ensures.count ∙ c.loop-reference.invariant.0,
+  λ told are fresh.
+      let m = mention c.args.position kinds.Reference in
+      let names = wanted_names c.args.wanted.now in
+      let references = c.args.references.now in let i = c.loop-reference.reference-index in let p = c.reference-item.result in
+      let before = told_with told (refers_among (take i references)) m in
+      c.in_ok-note_name.ensures.told before (c.loop-reference.invariant.1 told are fresh)
+      ∙ ap (λ key. map (noted_for before key m) names) c.as_slice.ensures
+      ∙ noted-next told (refers_among (take i references)) (refers_among (take (i + 1) references)) p.name m fresh
+      (refers-more references i p c.loop-reference-test.true c.reference-item.is) names,
+)
 
 pub returns : goal.returns
 returns c = λ told are fresh.
