@@ -32,7 +32,8 @@ mention_if b j kind = if b then mention j kind ∷ [] else []
 
 -- how a module mentions a name: by a public, and by a reference, each once
 abbrev pub mentions_by : List ℕ → ℕ → Parts → List Mention
-mentions_by name j m = mention_if (defines_among m.names.publics name) j kinds.Public ++ mention_if (refers_among m.names.references name) j kinds.Reference
+mentions_by name j m = mention_if (defines_among m.names.publics name) j kinds.Public
+    ++ mention_if (refers_among m.names.references name) j kinds.Reference
 
 -- the same of all modules, where the first has this position
 abbrev pub mentions_from : ℕ → List Parts → List ℕ → List Mention
@@ -56,7 +57,8 @@ name_lines ms name = flat_map (mention_line name) (mentions_of ms name)
 
 -- a public or a reference of the module has one of the names
 abbrev pub mentions_any : List (List ℕ) → Parts → Bool
-mentions_any wanted m = list_any (λ (p : Public). has_name wanted p.name) m.names.publics || list_any (λ (r : Reference). has_name wanted r.name) m.names.references
+mentions_any wanted m = list_any (λ (p : Public). has_name wanted p.name) m.names.publics
+    || list_any (λ (r : Reference). has_name wanted r.name) m.names.references
 
 abbrev pub named_line : FileNames → List (List ℕ) → ℕ → FileModule → Text
 named_line names wanted j f = if mentions_any wanted f.1 then module_line names j f else []

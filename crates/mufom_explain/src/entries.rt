@@ -6,7 +6,8 @@ ghost use Rattle.mufom_text.specs.Fitting.{IsUnitCount};
 ghost use Rattle.mufom_text.specs.Words.{each};
 ghost use Rattle.mufom_meaning.specs.Flat.{is_common};
 ghost use Rattle.mufom_explain.specs.Flat.{file_module, flat_of};
-ghost use Rattle.mufom_explain.specs.Lines.{asking_line, asks_by, asks_for, base_text, common_lines, described, module_line, origin_text, place_text, section_line};
+ghost use Rattle.mufom_explain.specs.Lines.{asking_line, asks_by, asks_for, base_text, common_lines, described, module_line, origin_text};
+ghost use Rattle.mufom_explain.specs.Lines.{place_text, section_line};
 
 use crate::modules::{FlatModule, module_line, module_text};
 use mufom_map::{counted, hex};

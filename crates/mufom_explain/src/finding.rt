@@ -72,7 +72,8 @@ fn note_publics(
     publics: &[Public],
 ) -> Result<(), NoMemory>
     requires { length lists.old.items ≡ length (wanted_names wanted.now) }
-    ensures { OnOk result ((told : Told) → lists.old.items ≡ map told (wanted_names wanted.now) → IsFresh (mention position MentionKind.Public) told
+    ensures { OnOk result ((told : Told) → lists.old.items ≡ map told (wanted_names wanted.now)
+        → IsFresh (mention position MentionKind.Public) told
         → lists.new.items ≡ map (told_with told (defines_among publics.now) (mention position MentionKind.Public)) (wanted_names wanted.now)) }
 {
     let mention = Mention {
@@ -93,7 +94,8 @@ fn note_references(
     references: &[Reference],
 ) -> Result<(), NoMemory>
     requires { length lists.old.items ≡ length (wanted_names wanted.now) }
-    ensures { OnOk result ((told : Told) → lists.old.items ≡ map told (wanted_names wanted.now) → IsFresh (mention position MentionKind.Reference) told
+    ensures { OnOk result ((told : Told) → lists.old.items ≡ map told (wanted_names wanted.now)
+        → IsFresh (mention position MentionKind.Reference) told
         → lists.new.items ≡ map (told_with told (refers_among references.now) (mention position MentionKind.Reference)) (wanted_names wanted.now)) }
 {
     let mention = Mention {

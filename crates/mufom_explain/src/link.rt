@@ -116,7 +116,8 @@ fn kind_of<'a>(
     refusal: &'a LinkRefusal,
 ) -> Result<LinkKind<'a>, NoMemory>
     requires { length flat.now < 2 ^ 32 }
-    ensures { (names : list (list ℕ)) → IfOk result (λ kind. link_lines names (flat_of flat.now) kind ≡ link_details names (flat_of flat.now) refusal.now) }
+    ensures { (names : list (list ℕ)) → IfOk result
+        (λ kind. link_lines names (flat_of flat.now) kind ≡ link_details names (flat_of flat.now) refusal.now) }
 {
     match refusal {
         LinkRefusal::Mismatch(_, _) => Ok(LinkKind::Mismatch),
