@@ -56,14 +56,6 @@ first = record bare {
 abbrev second : Parts
 second = record first { name = codes "b"; names = record { publics = []; references = common 6 ∷ [] } }
 
--- their link
-abbrev both : Parts
-both = record first {
-  sections = record { name = codes "t"; absolute = false; purpose = None; size = 4; align = 4; base = None }
-      ∷ record { name = codes "t"; absolute = false; purpose = None; size = 4; align = 4; base = None } ∷ [];
-  names = record { publics = []; references = common 4 ∷ common 6 ∷ [] };
-}
-
 abbrev plan : Plan
 plan = record { regions = record { name = codes "ram"; base = 256; size = 13; sections = codes "t" ∷ []; common = true } ∷ [] }
 
@@ -74,7 +66,7 @@ abbrev flat : List FileModule
 flat = (0, first) ∷ (1, second) ∷ []
 
 abbrev explained : Explained
-explained = record { names = files; flat = flat; origins = origins_of flat; object = both; plan = plan }
+explained = record { names = files; flat = flat; origins = origins_of flat; maus = 4; modules = first ∷ second ∷ []; plan = plan }
 
 misfit_is : locate_details explained (Place (Misfit 2 (Some 0)))
     ≡ line (codes "common 2: \"c\" size 6 align 8") ++ line (codes "  module 0 \"a\" file 0: \"a.695\"") ++ line (codes "  module 1 \"b\" file 1: \"b.695\"")
@@ -116,7 +108,8 @@ lacking = record {
   names = codes "r" ∷ codes "k0" ∷ codes "k1" ∷ [];
   flat = (0, root) ∷ (2, member) ∷ [];
   origins = origins_of ((0, root) ∷ (2, member) ∷ []);
-  object = record root { names = record { publics = public (codes "f") ∷ []; references = weak (codes "y") ∷ strong (codes "z") ∷ strong (codes "y") ∷ [] } };
+  maus = 4;
+  modules = root ∷ member ∷ [];
   plan = record { regions = [] };
 }
 

@@ -78,7 +78,7 @@ filter-named p (r ∷ rs) = by_case (p r.name) (filter-named p rs) where
   by_case true rest = ap (λ more. r.name ∷ more) rest
   by_case false rest = rest
 
-pub all-undefined : (m : Parts) → undefined_among m m.names.references ≡ undefined_names m
+pub all-undefined : (m : Parts) → undefined_among m m.names.references ≡ undefined_names (m ∷ [])
 all-undefined m =
     let p : List ℕ → Bool = λ name. not (has_name (common_names (m ∷ [])) name) in
     let unresolved : Reference → Bool = λ r. not (has_name (public_names (m ∷ [])) r.name) in

@@ -14,7 +14,7 @@ use Rattle.mufom_image.specs.declared.refusal.LocateRefusal.{LocateRefusal}
 use Rattle.mufom_image.specs.declared.refusal.LocateRefusal.TheVariants as locate
 use Rattle.mufom_meaning.specs.declared.located.Site.{Site}
 use Rattle.mufom_meaning.specs.declared.located.Site.TheVariants as site
-use Rattle.mufom_meaning.specs.Flat.{common_names, needs}
+use Rattle.mufom_meaning.specs.Flat.{common_names, flat_sections, needs}
 use Rattle.mufom_meaning.specs.LinkAnswer.{same_descriptor}
 use Rattle.mufom_meaning.specs.Placed.{placed_commons}
 use Rattle.mufom_text.specs.Words.{Text}
@@ -69,31 +69,35 @@ name_details names flat name = mention_text names flat (name ∷ [])
 
 -- ---- locating
 
--- What a module that is not located is explained by: the names of the files, the flat list, the origins of what is left of it, the module
--- itself, which is the link of the list or what is left of that, and the plan.
+-- What a refusal to locate is explained by: the names of the files, the flat list, and what is located of it: the origins of its entries,
+-- how many units an address has, the modules, which are the list, its link or what is kept of that, and the plan.
 pub record Explained : Type 0 where
   pub names : FileNames
   pub flat : List FileModule
   pub origins : List Origin
-  pub object : Parts
+  pub maus : ℕ
+  pub modules : List Parts
   pub plan : Plan
 
+abbrev pub sections_of : Explained → List Section
+sections_of e = flat_sections e.modules
+
 abbrev pub commons_of : Explained → List Section
-commons_of e = placed_commons (e.object ∷ []) e.plan
+commons_of e = placed_commons e.modules e.plan
 
 -- the section, or else the common, with a number
 abbrev pub numbered_lines : Explained → ℕ → Option Section → Option Section → Text
-numbered_lines e n (Some s) common = section_line e.object.maus e.names e.origins n s
+numbered_lines e n (Some s) common = section_line e.maus e.names e.origins n s
 numbered_lines e n None (Some s) = common_lines e.names e.flat n s
 numbered_lines e n None None = []
 
 -- what is said of the section or common with a number; the commons are numbered after the sections
 abbrev pub entry_lines : Explained → ℕ → Text
-entry_lines e n = numbered_lines e n (slice_get e.object.sections n) (slice_get (commons_of e) (n - length e.object.sections))
+entry_lines e n = numbered_lines e n (slice_get (sections_of e) n) (slice_get (commons_of e) (n - length (sections_of e)))
 
 abbrev pub region_at : Explained → ℕ → Option Region → Text
 region_at e n None = []
-region_at e n (Some region) = region_line e.object.maus n region (taken_in e.plan e.object.sections (commons_of e) n region)
+region_at e n (Some region) = region_line e.maus n region (taken_in e.plan (sections_of e) (commons_of e) n region)
 
 -- the line of the region with a number, if there is one
 abbrev pub region_lines : Explained → Option ℕ → Text
@@ -114,13 +118,13 @@ site_details e site.Start = []
 site_details e (site.Debug n) = []
 
 -- the names that are needed and that neither a public nor a common has
-abbrev pub undefined_names : Parts → List (List ℕ)
-undefined_names m = filter (λ name. not (has_name (common_names (m ∷ [])) name)) (needs (m ∷ []))
+abbrev pub undefined_names : List Parts → List (List ℕ)
+undefined_names ms = filter (λ name. not (has_name (common_names ms) name)) (needs ms)
 
--- What follows the line of a module that is not located. Of undefined names all are told.
+-- What follows the line of modules that are not located. Of undefined names all are told.
 abbrev pub locate_details : Explained → LocateRefusal → Text
 locate_details e (locate.Place r) = placement_details e r
-locate_details e (locate.Undefined name) = mention_text e.names e.flat (undefined_names e.object)
+locate_details e (locate.Undefined name) = mention_text e.names e.flat (undefined_names e.modules)
 locate_details e (locate.CommonUnplaced name) = mention_text e.names e.flat (name ∷ [])
 locate_details e (locate.Cycle name) = mention_text e.names e.flat (name ∷ [])
 locate_details e (locate.DivideByZero s) = site_details e s

@@ -52,13 +52,14 @@ explained_of c = record {
   names = c.names.now;
   flat = flat_of c.flat.now;
   origins = c.origins.now;
-  object = c.object.now;
+  maus = c.object.now.maus;
+  modules = c.object.now ∷ [];
   plan = c.plan.now;
 }
 
 abbrev pub taken_at : Explained → ℕ → ℕ → Option Region → Text
 taken_at e n taken None = []
-taken_at e n taken (Some region) = region_line e.object.maus n region taken
+taken_at e n taken (Some region) = region_line e.maus n region taken
 
 -- the line of the region with a number, whose sections reach so far
 abbrev pub taken_text : Explained → ℕ → ℕ → Text

@@ -145,7 +145,7 @@ fn about_undefined<'a>(
 ) -> Result<LocateKind<'a>, NoMemory>
     requires { length context.now.flat.now < 2 ^ 32 }
     ensures { IfOk result (λ kind. locate_lines (explained_of context.now) kind
-        ≡ mention_text context.now.names.now (flat_of context.now.flat.now) (undefined_names context.now.object.now)) }
+        ≡ mention_text context.now.names.now (flat_of context.now.flat.now) (undefined_names (context.now.object.now ∷ []))) }
 {
     let wanted = undefined_names(alloc, context.object)?;
     Ok(LocateKind::Mentions(find_mentions(alloc, wanted, context.flat)?))

@@ -1,6 +1,6 @@
 //! The undefined names of a module.
 
-ghost use Rattle.std.specs.Prelude.{◌≡◌, ◌&&◌, IfOk};
+ghost use Rattle.std.specs.Prelude.{◌≡◌, ◌&&◌, ◌∷◌, [], IfOk};
 ghost use Rattle.mufom_meaning.specs.Flat.{is_strong};
 ghost use Rattle.mufom_image_values.specs.Resolutions.{is_nothing};
 ghost use Rattle.mufom_image_values.specs.Resolutions.{resolutions_of};
@@ -32,7 +32,7 @@ fn names_of_undefined<'a>(
     resolutions: &[Resolution],
 ) -> Result<Wanted<'a>, NoMemory>
     requires { resolutions.now ≡ resolutions_of «module».now }
-    ensures { IfOk result (λ wanted. wanted_names wanted ≡ undefined_names «module».now) }
+    ensures { IfOk result (λ wanted. wanted_names wanted ≡ undefined_names («module».now ∷ [])) }
 {
     let references = module.parts().names.references.as_slice();
     let mut seed = HashSeed::new();
@@ -51,7 +51,7 @@ fn names_of_undefined<'a>(
 /// The names of strong references that neither a public nor a common has, each once, in the order of the
 /// references.
 pub(crate) fn undefined_names<'a>(alloc: Global, module: &'a Module) -> Result<Wanted<'a>, NoMemory>
-    ensures { IfOk result (λ wanted. wanted_names wanted ≡ undefined_names «module».now) }
+    ensures { IfOk result (λ wanted. wanted_names wanted ≡ undefined_names («module».now ∷ [])) }
 {
     let resolutions = resolve_references(alloc, module)?;
     names_of_undefined(alloc, module, resolutions.as_slice())
