@@ -1,8 +1,6 @@
--- What is known of a module that is not located: how many units an address has; that each section has a place, if one does not fit; and
--- what is said of a section or a common.
-use Rattle.std.proofs.Common.{◌≡◌, ◌≤◌, ◌-◌, ℕ, length, List, [], ◌∷◌, Option, Some, None, Bool, true, false, refl, sym, ap, subst, ◌∙◌, append-nil, arith}
-use Rattle.std.specs.Prelude.{option_map, slice_get, if◌then◌else◌}
-use Rattle.std.proofs.lemmas.Option.{slice_get_past}
+-- What is known of a module that is not located: how many units an address has, and that each section has a place, if one does not fit.
+use Rattle.std.proofs.Common.{◌≡◌, ℕ, List, [], ◌∷◌, Option, Some, None, Bool, true, false, refl, sym, ap, subst, ◌∙◌, append-nil, arith}
+use Rattle.std.specs.Prelude.{option_map, if◌then◌else◌}
 use Rattle.mufom_sections.specs.declared.section.Section.{Section}
 use Rattle.mufom_module.specs.declared.module.Parts.{Parts}
 use Rattle.mufom_module.specs.Defects.{IsValid}
@@ -17,10 +15,6 @@ use Rattle.mufom_meaning.specs.Flat.{flat_sections}
 use Rattle.mufom_meaning.specs.LocateAnswer.{locate_answer}
 use Rattle.mufom_meaning.proofs.CallLaws.{modules_may_be_placed}
 use Rattle.mufom_text.specs.Fitting.{IsUnitCount}
-use Rattle.mufom_explain.specs.declared.details.LocateContext.{LocateContext}
-use Rattle.mufom_explain.specs.Details.{commons_of, entry_lines, numbered_lines, sections_of}
-use Rattle.mufom_explain.specs.Explained.{explained_of}
-use Rattle.mufom_explain.specs.Lines.{section_line}
 
 pub unit-count : (m : Parts) (plan : Plan) → IsValid m → IsUnitCount m.maus
 unit-count m plan valid =
@@ -59,24 +53,3 @@ all-placed m plan n region h =
     by_case (Some q) e =
         let same : q ≡ Misfit n region = same-placement q (Misfit n region) (sym (first-of _ _ _ q e) ∙ h) in
         absurd (not-misfit (listed_names plan.regions) (numbered (flat_sections (m ∷ []))) n region (e ∙ ap Some same))
-
--- ---- what is said of a section or a common
-
--- of a section
-pub own-lines : (context : LocateContext) (n : ℕ) (section : Section) → slice_get context.object.now.sections n ≡ Some section
-    → entry_lines (explained_of context) n ≡ section_line context.object.now.maus context.names.now context.origins.now n section
-own-lines context n section found =
-    let e = explained_of context in
-    let own = append-nil context.object.now.sections in
-    ap (λ o. numbered_lines e n o (slice_get (commons_of e) (n - length (sections_of e)))) (ap (λ (all : List Section). slice_get all n) own ∙ found)
-
--- of a common, or nothing
-pub common-lines : (context : LocateContext) (n : ℕ) → length context.object.now.sections ≤ n
-    → entry_lines (explained_of context) n
-    ≡ numbered_lines (explained_of context) n None (slice_get (commons_of (explained_of context)) (n - length context.object.now.sections))
-common-lines context n past =
-    let e = explained_of context in
-    let sections = context.object.now.sections in
-    let own : sections_of e ≡ sections = append-nil sections in
-    (λ i. numbered_lines e n (slice_get (own i) n) (slice_get (commons_of e) (n - length (own i))))
-    ∙ ap (λ o. numbered_lines e n o (slice_get (commons_of e) (n - length sections))) (slice_get_past sections n past)
