@@ -1,5 +1,5 @@
 -- The lines that tell what the numbers of an error line are: a file, the plan, a module, a section or a common.
-use Rattle.std.specs.Prelude.{ℕ, List, [], ◌∷◌, ◌++◌, map, Option, Some, None, Bool, ◌&&◌, slice_get, slice_index_or, codes, if◌then◌else◌}
+use Rattle.std.specs.Prelude.{ℕ, List, [], ◌++◌, map, Option, Some, None, Bool, ◌&&◌, slice_get, slice_index_or, codes, if◌then◌else◌}
 use Rattle.std.specs.List.{list_any}
 use Rattle.std.specs.Str.{bytes_eq}
 use Rattle.mufom_sections.specs.declared.section.Section.{Section}

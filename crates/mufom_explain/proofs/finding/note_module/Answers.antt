@@ -1,4 +1,4 @@
-use Rattle.std.proofs.Common.{◌≡◌, ◌+◌, ◌∙◌, ◌∷◌, ◌++◌, [], ℕ, List, length, map, take, ap, sym, arith}
+use Rattle.std.proofs.Common.{◌∙◌, List, length, map, take, ap, sym}
 use Rattle.std.proofs.lemmas.List.{length-map}
 use Rattle.mufom_names.specs.declared.name.Public.{Public}
 use Rattle.mufom_names.specs.declared.name.Reference.{Reference}

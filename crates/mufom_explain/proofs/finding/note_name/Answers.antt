@@ -1,5 +1,5 @@
-use Rattle.std.proofs.Common.{◌≡◌, ◌∙◌, ℕ, List, None, Some, length, vec_len, ap, sym, subst, arith}
-use Rattle.mufom_names.specs.Index.{Entry, HaveDistinctKeys, numbered_from, position_of}
+use Rattle.std.proofs.Common.{◌≡◌, ◌∙◌, length, vec_len, ap, sym, subst, arith}
+use Rattle.mufom_names.specs.Index.{HaveDistinctKeys, position_of}
 use Rattle.mufom_explain.specs.Flat.{wanted_names}
 use Rattle.mufom_explain.proofs.ToldLaws.{noted-nowhere, noted-there, place-inside}
 use Rattle.mufom_explain.proofs.finding.note_name.Goals as goal

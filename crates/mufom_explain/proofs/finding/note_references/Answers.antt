@@ -1,7 +1,6 @@
-use Rattle.std.proofs.Common.{◌≡◌, ◌+◌, ◌∙◌, ℕ, List, map, take, ap, arith}
+use Rattle.std.proofs.Common.{◌+◌, ◌∙◌, List, map, take, ap, arith}
 use Rattle.std.proofs.lemmas.List.{take_all}
 use Rattle.mufom_names.specs.declared.name.Reference.{Reference}
-use Rattle.mufom_explain.specs.declared.mention.Mention.{Mention}
 use Rattle.mufom_explain.specs.declared.mention.MentionKind.TheVariants as kinds
 use Rattle.mufom_explain.specs.Flat.{wanted_names}
 use Rattle.mufom_explain.specs.Mentions.{refers_among, mention}

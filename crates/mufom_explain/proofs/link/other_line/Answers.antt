@@ -1,4 +1,4 @@
-use Rattle.std.proofs.Common.{◌∙◌, [], List, ℕ, sym, subst, arith}
+use Rattle.std.proofs.Common.{◌∙◌, [], List, ℕ, sym, subst}
 use Rattle.mufom_explain.specs.Flat.{file_module}
 use Rattle.mufom_explain.specs.Lines.{module_line}
 use Rattle.mufom_explain.proofs.LinkLaws.{none-more, other-nowhere, other-there}

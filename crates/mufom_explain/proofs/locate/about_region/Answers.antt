@@ -1,9 +1,8 @@
-use Rattle.std.proofs.Common.{◌≡◌, ◌++◌, ◌∙◌, ℕ, List, Some, sym, ap, append-nil}
+use Rattle.std.proofs.Common.{◌≡◌, ◌++◌, ◌∙◌, Some, sym, ap, append-nil}
 use Rattle.std.specs.Prelude.{option_map, slice_get}
-use Rattle.mufom_sections.specs.declared.section.Section.{Section}
 use Rattle.mufom_module.specs.declared.module.Parts.{Parts}
 use Rattle.mufom_text.specs.Words.{Text}
-use Rattle.mufom_explain.specs.Details.{commons_of, entry_lines, region_at, sections_of}
+use Rattle.mufom_explain.specs.Details.{entry_lines, region_at, sections_of}
 use Rattle.mufom_explain.specs.Explained.{explained_of, taken_at}
 use Rattle.mufom_explain.specs.Region.{region_line, taken_in}
 use Rattle.mufom_explain.proofs.locate.about_region.Goals as goal

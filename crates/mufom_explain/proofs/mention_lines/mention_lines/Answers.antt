@@ -1,6 +1,5 @@
 use Rattle.std.proofs.Common.{get_or, refl}
 use Rattle.mufom_text.proofs.Loops.{flat-step}
-use Rattle.mufom_explain.specs.declared.mention.Mention.{Mention}
 use Rattle.mufom_explain.specs.declared.mention.MentionKind.TheVariants as kinds
 use Rattle.mufom_explain.specs.Mentions.{mention, mention_line}
 use Rattle.mufom_explain.proofs.mention_lines.mention_lines.Goals as goal

@@ -1,4 +1,4 @@
-use Rattle.std.proofs.Common.{◌≡◌, ◌∙◌, List, ℕ, None, Some, [], ◌∷◌, ◌++◌, length, map, ap, sym, arith}
+use Rattle.std.proofs.Common.{◌≡◌, ◌∙◌, [], ◌∷◌, length, map, ap, sym, arith}
 use Rattle.std.proofs.lemmas.List.{length-map, map-append}
 use Rattle.mufom_names.specs.Index.{position_of, with_entry, numbered_from}
 use Rattle.mufom_explain.proofs.NamingLaws.{indexed-new, indexed-old, named-new, named-old}

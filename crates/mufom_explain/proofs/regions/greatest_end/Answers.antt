@@ -1,4 +1,4 @@
-use Rattle.std.proofs.Common.{◌++◌, ◌∙◌, sym, ap}
+use Rattle.std.proofs.Common.{◌++◌, ◌∙◌, sym}
 use Rattle.std.specs.Prelude.{max}
 use Rattle.mufom_explain.proofs.RegionLaws.{greatest-more}
 use Rattle.mufom_explain.proofs.regions.greatest_end.Goals as goal

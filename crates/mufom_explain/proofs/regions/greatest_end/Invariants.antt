@@ -1,4 +1,4 @@
-use Rattle.std.proofs.Common.{◌≡◌, ◌++◌, ◌<◌, ◌^◌, take}
+use Rattle.std.proofs.Common.{◌≡◌, ◌++◌, take}
 use Rattle.mufom_explain.specs.Region.{greatest_end}
 use Rattle.mufom_explain.proofs.regions.greatest_end.Given as goal
 

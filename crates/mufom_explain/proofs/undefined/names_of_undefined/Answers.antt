@@ -1,4 +1,4 @@
-use Rattle.std.proofs.Common.{◌≡◌, ◌<◌, ◌∙◌, ◌&&◌, ℕ, List, Some, length, map, take, get_or, if◌then◌else◌, sym, ap, arith}
+use Rattle.std.proofs.Common.{◌≡◌, ◌<◌, ◌∙◌, ◌&&◌, List, Some, length, map, take, get_or, if◌then◌else◌, sym, ap, arith}
 use Rattle.std.proofs.lemmas.List.{take_all}
 use Rattle.std.proofs.lemmas.Option.{slice_get-get_or}
 use Rattle.mufom_names.specs.declared.name.Reference.{Reference}
@@ -10,7 +10,6 @@ use Rattle.mufom_image_values.specs.Names.{with_name}
 use Rattle.mufom_image_values.specs.Resolutions.{is_nothing}
 use Rattle.mufom_image_values.proofs.CommonLaws.{resolution-at}
 use Rattle.mufom_image_values.proofs.CountLaws.{few-references}
-use Rattle.mufom_image_values.proofs.ResolutionLaws.{is_undefined}
 use Rattle.mufom_explain.proofs.UndefinedLaws.{all-undefined, undefined-more, undefined_among}
 use Rattle.mufom_explain.proofs.undefined.names_of_undefined.Goals.{then-is_undefined+in_ok-add_name, else-is_undefined}
 use Rattle.mufom_explain.proofs.undefined.names_of_undefined.Goals as goal

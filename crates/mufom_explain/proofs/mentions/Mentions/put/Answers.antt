@@ -1,4 +1,4 @@
-use Rattle.std.proofs.Common.{◌++◌, ℕ, List, flat_map, sym, subst}
+use Rattle.std.proofs.Common.{◌++◌, List, flat_map, sym, subst}
 use Rattle.mufom_module.specs.declared.module.Parts.{Parts}
 use Rattle.mufom_text.specs.Words.{each}
 use Rattle.mufom_explain.specs.Flat.{flat_of, wanted_names}
