@@ -109,6 +109,12 @@ IsRefusedAt text at column reason = let texts = text_lines text in
     ((before : ℕ) × (at ≡ before + 1) × (before < length texts) × AreRight texts before × IsWrongAt texts before column reason)
     ⊎ ((at ≡ last_line text) × (column ≡ 1) × (reason ≡ BadText) × AreRight texts (length texts) × ¬ (Shape text))
 
+-- The text is the listing of parts that have this defect, read exactly.
+pub record ListsDefect (text : Text) (defect : Defect) : Type 0 where
+  pub parts : Parts
+  pub listed : SpellsLines exact (listing_lines parts) text
+  pub first : first_defect parts ≡ Some defect
+
 -- No line is wrong, and the text is the listing of parts that have this defect.
 pub record HasDefect (text : Text) (defect : Defect) : Type 0 where
   pub right : AreRight (text_lines text) (length (text_lines text))

@@ -1,0 +1,6 @@
+use Rattle.mufom_build.proofs.Entries.{bytes_read}
+use Rattle.mufom_build.proofs.loads.read_literal.Goals as goal
+
+pub returns-clause-reads : goal.returns-clause-reads
+returns-clause-reads c = bytes_read _ _ _ _ _ _ _ c.in_ok-words.ensures.reads c.in_ok-stated.ensures.reads c.in_ok-bytes.ensures.reads
+    c.judge.ensures.rest ?
