@@ -1,5 +1,6 @@
 -- The lines of entries that are read one by one.
-use Rattle.std.proofs.Common.{◌≡◌, ℕ, ◌+◌, List, [], ◌∷◌, ◌++◌, length, map, flat_map, codes, Option, Some, None, MatchOption, ◌≤◌, ◌^◌, refl, sym, ap, subst, ◌∙◌, zero-add, append_assoc}
+use Rattle.std.proofs.Common.{◌≡◌, ℕ, ◌+◌, List, [], ◌∷◌, ◌++◌, length, map, flat_map, codes, Option, Some, None, MatchOption}
+use Rattle.std.proofs.Common.{◌≤◌, ◌^◌, refl, sym, ap, subst, ◌∙◌, zero-add, append_assoc}
 use Rattle.std.specs.Str.Parse.{digits_value}
 use Rattle.std.proofs.lemmas.List.{map-append}
 use Rattle.mufom_expr.specs.Tree.{Tree}
@@ -30,7 +31,8 @@ mapped_read line_of xs ys x more before here = same_lines (sym (map-append line_
 
 pub flat_read : {X : Type 0} (lines_of : X → List Line) (xs ys : List X) (x : X) {a b c : Text} → ys ≡ xs ++ x ∷ []
     → ReadsLines (flat_map lines_of xs) a b → ReadsLines (lines_of x) b c → ReadsLines (flat_map lines_of ys) a c
-flat_read lines_of xs ys x more before here = same_lines (sym (flat_map_more lines_of xs x) ∙ ap (λ l. flat_map lines_of l) (sym more)) (before ▹ here)
+flat_read lines_of xs ys x more before here = same_lines
+    (sym (flat_map_more lines_of xs x) ∙ ap (λ l. flat_map lines_of l) (sym more)) (before ▹ here)
 
 pub number_read : (xs ys : List ℕ) (n : ℕ) {a b c d : Place} → ys ≡ xs ++ n ∷ [] → Reads (spaced_pieces xs) a b → Reads (words (codes " ")) b c
     → Reads (number_piece n) c d → Reads (spaced_pieces ys) a d
@@ -39,7 +41,8 @@ number_read xs ys n {a} {b} {c} {d} more before space here = subst (λ (l : List
 
 -- ---- parts that are kept as bytes, and literal bytes
 
-pub raw_read : (word : Text) (bytes : List ℕ) {a b : Text} → (bytes ≡ [] → ⊥) → ReadsLines ((words word ++ words (codes " ") ++ digits bytes ∷ []) ∷ []) a b
+pub raw_read : (word : Text) (bytes : List ℕ) {a b : Text} → (bytes ≡ [] → ⊥)
+    → ReadsLines ((words word ++ words (codes " ") ++ digits bytes ∷ []) ∷ []) a b
     → ReadsLines (raw_lines word bytes) a b
 raw_read word [] some read = absurd (some refl)
 raw_read word (x ∷ bytes) some read = read
@@ -55,13 +58,15 @@ counted bytes stated a b c d number digits_read rest judged = record {
       record {
         right = sym number.error ∙ after.right;
         front = number.front ++ after.front;
-        is = number.is ∙ ap (λ l. number.front ++ l) (after.is ∙ ap (λ l. after.front ++ l) (sym rest)) ∙ sym (append_assoc number.front after.front d.rest);
+        is = number.is ∙ ap (λ l. number.front ++ l) (after.is ∙ ap (λ l. after.front ++ l) (sym rest))
+            ∙ sym (append_assoc number.front after.front d.rest);
         spelled = (number.front, after.front, refl, (number.numeral, value), after.spelled);
       };
 }
 
 pub bytes_read : (bytes : List ℕ) (stated : Option ℕ) (start a b c d : Place) → Reads (words (codes "bytes ")) start a → ReadsNumeral stated a b
-    → Reads (spaced_digits bytes) b c → d.rest ≡ c.rest → (IsRight d → IsRight c × (stated ≡ Some (length bytes))) → Reads (bytes_pieces bytes) start d
+    → Reads (spaced_digits bytes) b c → d.rest ≡ c.rest → (IsRight d → IsRight c × (stated ≡ Some (length bytes)))
+    → Reads (bytes_pieces bytes) start d
 bytes_read [] stated start a b c d first number more rest judged = first ▸ counted [] stated a b c d number more rest judged
 bytes_read (x ∷ bytes) stated start a b c d first number more rest judged = first ▸ counted (x ∷ bytes) stated a b c d number more rest judged
 
@@ -70,13 +75,13 @@ bytes_read (x ∷ bytes) stated start a b c d first number more rest judged = fi
 pub kind_read : (kind : Option ℕ) (n : ℕ) (a b : Place) → ReadsNumeral kind a b → kind ≡ Some n → Reads (number_piece n) a b
 kind_read kind n a b read is = reads_number MOST_NUMBER n a b (subst (λ (o : Option ℕ). ReadsNumeral o a b) is read)
 
-pub ended_read : (value : Option Tree) {a b c : Place} {rest : Text} → Reads (words (codes "end")) a b → Reads (end_value_pieces value) b c → IsRight c
-    → EndsLine c.rest rest → ReadsLines (end_pieces value ∷ []) a.rest rest
+pub ended_read : (value : Option Tree) {a b c : Place} {rest : Text} → Reads (words (codes "end")) a b → Reads (end_value_pieces value) b c
+    → IsRight c → EndsLine c.rest rest → ReadsLines (end_pieces value ∷ []) a.rest rest
 ended_read None first more right ends = line_read (solid 101 _) (first ▸ more) right ends
 ended_read (Some value) first more right ends = line_read (solid 101 _) (first ▸ more) right ends
 
-pub mark_read : (before after : Outline) {a b c : Text} → IsKept before → ReadsLines (mark_lines 0 0 (marks_so_far before)) a b → ReadsMark before after b c
-    → ReadsLines (mark_lines 0 0 (marks_so_far after)) a c
+pub mark_read : (before after : Outline) {a b c : Text} → IsKept before → ReadsLines (mark_lines 0 0 (marks_so_far before)) a b
+    → ReadsMark before after b c → ReadsLines (mark_lines 0 0 (marks_so_far after)) a c
 mark_read before after kept read more = same_lines
     (ap (λ d. mark_lines 0 0 (marks_so_far before) ++ mark_pieces d before.names more.mark ∷ []) (sym kept.depth)
     ∙ ap (λ n. mark_lines 0 0 (marks_so_far before) ++ mark_pieces (depth_after_all 0 (marks_so_far before)) n more.mark ∷ []) (sym kept.names)

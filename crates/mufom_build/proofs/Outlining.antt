@@ -1,12 +1,15 @@
 -- Lines of entries that are added one by one, and debug items of which some blocks are open.
-use Rattle.std.proofs.Common.{◌≡◌, ℕ, ◌+◌, ◌<◌, List, [], ◌∷◌, ◌++◌, length, map, flat_map, Option, refl, sym, ap, ◌∙◌, arith, append_assoc, append-nil, add-zero, length-append, ◌-◌, rules}
+use Rattle.std.proofs.Common.{◌≡◌, ℕ, ◌+◌, ◌<◌, List, [], ◌∷◌, ◌++◌, length, map, flat_map, Option, refl, sym, ap, ◌∙◌}
+use Rattle.std.proofs.Common.{arith, append_assoc, append-nil, add-zero, length-append, ◌-◌, rules}
 use Rattle.std.proofs.lemmas.List.{map-append}
 use Rattle.mufom_expr.specs.Tree.{Tree}
 use Rattle.mufom_names.specs.declared.name.Note.{Note}
 use Rattle.mufom_debug.specs.declared.item.BlockHead.{BlockHead}
-use Rattle.mufom_debug.specs.declared.item.DebugItem.{DebugItem, Block as block_case, Name as name_case, Note as note_case, Value as value_case, the_lemmas}
+use Rattle.mufom_debug.specs.declared.item.DebugItem.{DebugItem, Block as block_case, Name as name_case, Note as note_case}
+use Rattle.mufom_debug.specs.declared.item.DebugItem.{Value as value_case, the_lemmas}
 use Rattle.mufom_debug.specs.declared.item.DebugItem.TheOpen.{Block-F}
-use Rattle.mufom_debug.specs.Marks.{DebugMark, block_begin, block_end, name_mark, note_mark, value_mark, joined, marks_of_item, marks_of, open_after, names_after, names_after_all}
+use Rattle.mufom_debug.specs.Marks.{DebugMark, block_begin, block_end, name_mark, note_mark, value_mark, joined}
+use Rattle.mufom_debug.specs.Marks.{marks_of_item, marks_of, open_after, names_after, names_after_all}
 use Rattle.mufom_debug.proofs.MarksLemmas.{marks-Block, joined-append}
 use Rattle.mufom_text.specs.Show.{depth_after_all}
 use Rattle.mufom_build.specs.declared.outline.OpenBlock.{OpenBlock}
@@ -30,11 +33,13 @@ pub mark_lines_more : (depth n : ℕ) (marks : List DebugMark) (mark : DebugMark
 mark_lines_more depth n [] mark = refl
 mark_lines_more depth n (m ∷ marks) mark = ap (λ l. mark_pieces depth n m ∷ l) (mark_lines_more (open_after depth m) (names_after n m) marks mark)
 
-pub depth_more : (depth : ℕ) (marks : List DebugMark) (mark : DebugMark) → depth_after_all depth (marks ++ mark ∷ []) ≡ open_after (depth_after_all depth marks) mark
+pub depth_more : (depth : ℕ) (marks : List DebugMark) (mark : DebugMark)
+    → depth_after_all depth (marks ++ mark ∷ []) ≡ open_after (depth_after_all depth marks) mark
 depth_more depth [] mark = refl
 depth_more depth (m ∷ marks) mark = depth_more (open_after depth m) marks mark
 
-pub names_more : (n : ℕ) (marks : List DebugMark) (mark : DebugMark) → names_after_all n (marks ++ mark ∷ []) ≡ names_after (names_after_all n marks) mark
+pub names_more : (n : ℕ) (marks : List DebugMark) (mark : DebugMark)
+    → names_after_all n (marks ++ mark ∷ []) ≡ names_after (names_after_all n marks) mark
 names_more n [] mark = refl
 names_more n (m ∷ marks) mark = names_more (names_after n m) marks mark
 
@@ -53,7 +58,8 @@ outline_added open_blocks items item mark is =
     ∙ sym (append_assoc (flat_map open_marks open_blocks) (marks_of items) (mark ∷ []))
 
 pub outline_begun : (open_blocks : List OpenBlock) (items : List DebugItem) (head : BlockHead) (name : List ℕ)
-    → outline_marks (open_blocks ++ record { before = items; head = head; name = name } ∷ []) [] ≡ outline_marks open_blocks items ++ block_begin head name ∷ []
+    → outline_marks (open_blocks ++ record { before = items; head = head; name = name } ∷ []) []
+    ≡ outline_marks open_blocks items ++ block_begin head name ∷ []
 outline_begun open_blocks items head name =
     append-nil (flat_map open_marks (open_blocks ++ record { before = items; head = head; name = name } ∷ []))
     ∙ flat_map_more open_marks open_blocks (record { before = items; head = head; name = name })

@@ -8,9 +8,9 @@ ghost use Rattle.mufom_build_text.specs.Reads.{Reads, ReadsLines};
 ghost use Rattle.mufom_build.specs.Marked.{ReadsMark, end_value_pieces};
 ghost use Rattle.mufom_build.specs.Outlines.{IsKept};
 
-use mufom_build_text::{Cursor, BuildReason, ReadStop};
 use crate::names::{read_note, read_numbers};
 use crate::outline::Outline;
+use mufom_build_text::{BuildReason, Cursor, ReadStop};
 use mufom_debug::{BlockHead, DebugItem};
 use mufom_expr::Postfix;
 use mufom_numbers::List;

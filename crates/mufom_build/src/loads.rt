@@ -7,7 +7,7 @@ ghost use Rattle.mufom_build.specs.Lines.{bytes_pieces, item_pieces, load_lines}
 ghost use Rattle.mufom_build.specs.Marked.{spaced_digits};
 ghost use Rattle.mufom_build_text.specs.Reads.{Reads, ReadsLines};
 
-use mufom_build_text::{Cursor, BuildReason, ReadStop};
+use mufom_build_text::{BuildReason, Cursor, ReadStop};
 use mufom_expr::FieldKind;
 use mufom_loads::{Item, Load};
 use mufom_numbers::{Bytes, List};

@@ -10,12 +10,12 @@ ghost use Rattle.mufom_build.specs.Refusals.{ListsDefect};
 ghost use Rattle.mufom_build.specs.Titles.{title_pieces};
 ghost use Rattle.mufom_build_text.specs.Reads.{Reads, ReadsLines};
 
-use mufom_build_text::{Cursor, ReadStop};
 use crate::debug::read_debug;
 use crate::loads::read_loads;
 use crate::names::{read_publics, read_references};
 use crate::refusal::{BuildRefusal, refusal_of};
 use crate::sections::{read_raw, read_sections};
+use mufom_build_text::{Cursor, ReadStop};
 use mufom_expr::Postfix;
 use mufom_module::{Module, Order, Parts, assemble};
 use mufom_numbers::Bytes;

@@ -4,8 +4,8 @@ ghost use Rattle.std.specs.Prelude.{◌<◌, ◌≤◌, ◌∷◌, [], length, m
 ghost use Rattle.mufom_build.specs.Lines.{spaced_pieces, note_pieces, note_line, public_lines, weak_pieces, reference_lines, each_lines};
 ghost use Rattle.mufom_build_text.specs.Reads.{Reads, ReadsLines};
 
-use mufom_build_text::{Cursor, ReadStop, after_spaces};
 use arrayvec::ArrayVec;
+use mufom_build_text::{Cursor, ReadStop, after_spaces};
 use mufom_names::{Note, Public, Reference, Weak};
 use mufom_numbers::List;
 use std::alloc::Global;

@@ -239,7 +239,8 @@ closed start a b i j frames f behind last read left long tokens =
 
 -- the first operand of the last function has ended
 pub between : (start a : Place) (i j : Infix) (frames : List Frame) (middle : Middle) → IsBehind start a i
-    → i.frames.items ≡ frames ++ First middle ∷ [] → j.frames.items ≡ frames → j.is_long ≡ i.is_long → j.tokens ≡ i.tokens → IsBetween middle start a j
+    → i.frames.items ≡ frames ++ First middle ∷ [] → j.frames.items ≡ frames → j.is_long ≡ i.is_long → j.tokens ≡ i.tokens
+    → IsBetween middle start a j
 between start a i j frames middle behind last left long tokens =
     let l = last_of behind.opened frames (First middle) (sym behind.frames ∙ last) in
     let none : opened_tokens l.function ≡ [] = unread l.function middle l.frame_is in

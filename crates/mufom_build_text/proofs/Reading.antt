@@ -6,7 +6,8 @@ use Rattle.std.specs.Str.Parse.{IsNumeral, digits_value}
 use Rattle.std.specs.List.{AllByRecursion}
 use Rattle.mufom_text.specs.Words.{Text}
 use Rattle.mufom_build_text.specs.Pieces.{Piece, byte, gap, figure, position, count, name, digits, block, expression, exact}
-use Rattle.mufom_build_text.specs.Pieces.{Spells, SpellsPiece, SpellsDigits, SpellsNameBytes, AreSpaces, words, word_piece, infix_pieces, value_pieces, SpellsNumber}
+use Rattle.mufom_build_text.specs.Pieces.{Spells, SpellsPiece, SpellsDigits, SpellsNameBytes, SpellsNumber, AreSpaces}
+use Rattle.mufom_build_text.specs.Pieces.{words, word_piece, infix_pieces, value_pieces}
 use Rattle.mufom_build_text.specs.Places.{SpellsLines, AreBlank}
 use Rattle.mufom_build_text.specs.Reads.{Place, IsRight, IsSpaceFront, IsBlankFront, ReadsRight, Reads, ReadsNumeral, IsDigitsFront, IsNameFront}
 use Rattle.mufom_build_text.specs.Reads.{IsLineEnd, EndsLine}

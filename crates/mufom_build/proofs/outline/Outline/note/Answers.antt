@@ -14,5 +14,5 @@ pub returns-clause-kept : goal.returns-clause-kept
 returns-clause-kept c =
     let p : Outline = record { blocks = c.args.self.now.blocks; items = c.push.new.self; names = c.args.self.now.names } in
     let marks = added c.args.self.now p (note_case c.args.name c.args.note) (note_mark c.args.name c.args.note) refl c.in_ok-push.ensures.ok
-      (note_marks c.args.name c.args.note) in
+    (note_marks c.args.name c.args.note) in
     kept_after c.args.self.now p (note_mark c.args.name c.args.note) c.requires marks refl refl

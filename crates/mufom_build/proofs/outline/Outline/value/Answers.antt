@@ -14,5 +14,5 @@ pub returns-clause-kept : goal.returns-clause-kept
 returns-clause-kept c =
     let p : Outline = record { blocks = c.args.self.now.blocks; items = c.push.new.self; names = c.args.self.now.names } in
     let marks = added c.args.self.now p (value_case c.args.name c.args.value) (value_mark c.args.name c.args.value) refl c.in_ok-push.ensures.ok
-      (value_marks c.args.name c.args.value) in
+    (value_marks c.args.name c.args.value) in
     kept_after c.args.self.now p (value_mark c.args.name c.args.value) c.requires marks refl refl
