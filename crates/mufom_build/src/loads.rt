@@ -82,16 +82,24 @@ fn read_field(alloc: Global, cursor: &mut Cursor) -> Result<Item, ReadStop>
     Ok(Item::Field { kind, value, size })
 }
 
+// Reads the line of an item, up to its end.
+fn read_item_line(alloc: Global, cursor: &mut Cursor) -> Result<Item, ReadStop>
+    ensures reads { IfOk result (λ item. Reads (item_pieces item) cursor.old cursor.new) }
+    ensures within { OnOk result (length cursor.new.rest < length cursor.old.rest) }
+{
+    match cursor.rest() {
+        [b'b', ..] => Ok(Item::Literal(read_literal(alloc, cursor)?)),
+        [b'f', ..] => read_field(alloc, cursor),
+        _ => Err(cursor.bad_line()),
+    }
+}
+
 // Reads the line of an item.
 fn read_item(alloc: Global, cursor: &mut Cursor) -> Result<Item, ReadStop>
     ensures lines { IfOk result (λ item. ReadsLines (item_pieces item ∷ []) cursor.old.rest cursor.new.rest) }
     ensures within { OnOk result (length cursor.new.rest < length cursor.old.rest) }
 {
-    let item = match cursor.rest() {
-        [b'b', ..] => Item::Literal(read_literal(alloc, cursor)?),
-        [b'f', ..] => read_field(alloc, cursor)?,
-        _ => return Err(cursor.bad_line()),
-    };
+    let item = read_item_line(alloc, cursor)?;
     cursor.end_line()?;
     Ok(item)
 }

@@ -44,14 +44,21 @@ fn read_purpose(cursor: &mut Cursor) -> Result<Option<Purpose>, ReadStop>
     ensures reads { IfOk result (λ purpose. Reads (words (purpose_letter purpose)) cursor.old cursor.new) }
     ensures within { OnOk result (length cursor.new.rest ≤ length cursor.old.rest) }
 {
-    let (purpose, letter) = match cursor.rest() {
-        [b'P', ..] => (Purpose::Code, b"P"),
-        [b'D', ..] => (Purpose::Data, b"D"),
-        [b'R', ..] => (Purpose::Rom, b"R"),
-        _ => return Ok(None),
-    };
-    cursor.words(letter)?;
-    Ok(Some(purpose))
+    match cursor.rest() {
+        [b'P', ..] => {
+            cursor.words(b"P")?;
+            Ok(Some(Purpose::Code))
+        }
+        [b'D', ..] => {
+            cursor.words(b"D")?;
+            Ok(Some(Purpose::Data))
+        }
+        [b'R', ..] => {
+            cursor.words(b"R")?;
+            Ok(Some(Purpose::Rom))
+        }
+        _ => Ok(None),
+    }
 }
 
 // Reads the base of a section, if it has one.

@@ -2,7 +2,7 @@
 
 ghost use Rattle.std.specs.Prelude.{◌≡◌, ◌≤◌, ◌<◌, ◌+◌, ◌^◌, ◌↔◌, ◌∷◌, [], List, ℕ, length, IsTrue, OnOk};
 ghost use Rattle.mufom_numbers.specs.declared.limits.TheConstants.{MOST_FILE_BYTES};
-ghost use Rattle.mufom_build_text.specs.Reads.{beginning, IsRight, IsSpaceFront, IsBlankFront, IsLineEnd, EndsLine};
+ghost use Rattle.mufom_build_text.specs.Reads.{beginning, IsRight, first_error, IsSpaceFront, IsBlankFront, IsLineEnd, EndsLine};
 
 use crate::refusal::{BuildReason, ReadStop};
 use std::marker::Model;
@@ -150,6 +150,8 @@ impl<'a> Cursor<'a> {
         requires { length rest.now ≤ length self.old.rest }
         ensures rest { self.new.rest ≡ rest.now }
         ensures error { self.new.error ≡ self.old.error }
+        ensures column { self.new.column + length rest.now ≡ self.old.column + length self.old.rest }
+        ensures line { self.new.line ≡ self.old.line }
     {
         self.column += (self.rest.len() - rest.len()) as u32;
         self.rest = rest;
@@ -159,6 +161,7 @@ impl<'a> Cursor<'a> {
     pub fn note(&mut self, column: u32, reason: BuildReason)
         ensures rest { self.new.rest ≡ self.old.rest }
         ensures wrong { IsRight self.new → ⊥ }
+        ensures first { self.new.error ≡ first_error self.old.error (record { column = column; reason = reason }) }
     {
         if let Some(first) = self.error {
             if first.column <= column {
