@@ -36,7 +36,7 @@ both_true false false e = absurd (no e)
 
 -- ---- where runs of bytes end
 
-one_run : (P : ℕ → Type 0) (s t u v : Text) → AllByRecursion P s → AllByRecursion P t → s ++ u ≡ t ++ v → Avoids P u → Avoids P v
+pub one_run : (P : ℕ → Type 0) (s t u v : Text) → AllByRecursion P s → AllByRecursion P t → s ++ u ≡ t ++ v → Avoids P u → Avoids P v
     → (s ≡ t) × (u ≡ v)
 one_run P [] [] u v a b e p q = (refl, e)
 one_run P [] (y ∷ t) u v a (here, b) e p q = absurd (p y (t ++ v) e here)
@@ -47,7 +47,7 @@ one_run P (x ∷ s) (y ∷ t) u v (here, a) (there, b) e p q =
     let (same, rest) = one_run P s t u v a b others p q in
     (ap (λ l. x ∷ l) same ∙ ap (λ z. z ∷ t) first, rest)
 
-all_figures : (s : Text) → AllDigits 10 s → AllByRecursion IsFigure s
+pub all_figures : (s : Text) → AllDigits 10 s → AllByRecursion IsFigure s
 all_figures [] all = tt
 all_figures (b ∷ s) (here, all) = (here, all_figures s all)
 

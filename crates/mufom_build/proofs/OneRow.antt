@@ -117,7 +117,7 @@ every_at test (x ∷ ks) k zero all other = (both_true (test x) (every test ks) 
 every_at test (x ∷ ks) k (suc n) all other = every_at test ks k n (both_true (test x) (every test ks) all).1 other
 
 -- a test that each keyword of the list passes
-each_keyword : (test : Keyword → Bool) → every test keywords ≡ true → (k : Keyword) → test k ≡ true
+pub each_keyword : (test : Keyword → Bool) → every test keywords ≡ true → (k : Keyword) → test k ≡ true
 each_keyword test all k =
     ap test (sym (found k)) ∙ every_at test keywords on_module (number_of k) all (both_true (test on_module) _ all).0
 

@@ -15,18 +15,18 @@ use Rattle.mufom_build.proofs.OneWord.{tight, spaced, clash, words_both, spaced_
 
 -- ---- what expressions that are no numbers begin with
 
-data Head : Type 0 where
+pub data Head : Type 0 where
   of_letter : (letter : Letter) → Head
   of_one : (f : OneOperand) → Head
   of_two : (f : TwoOperands) → Head
 
-abbrev text_of : Head → Text
+abbrev pub text_of : Head → Text
 text_of (of_letter letter) = letter_text letter
 text_of (of_one f) = opening_text (function_of_one f)
 text_of (of_two f) = opening_text (function_of_two f)
 
 -- what is between the operands
-abbrev middle_of : Head → Text
+abbrev pub middle_of : Head → Text
 middle_of (of_letter letter) = []
 middle_of (of_one f) = []
 middle_of (of_two f) = middle_text (function_of_two f)
@@ -98,7 +98,7 @@ every_at test (x ∷ hs) h zero all other = (both_true (test x) (every test hs) 
 every_at test (x ∷ hs) h (suc n) all other = every_at test hs h n (both_true (test x) (every test hs) all).1 other
 
 -- a test that each head of the list passes
-each_head : (test : Head → Bool) → every test heads ≡ true → (h : Head) → test h ≡ true
+pub each_head : (test : Head → Bool) → every test heads ≡ true → (h : Head) → test h ≡ true
 each_head test all h =
     ap test (sym (found h)) ∙ every_at test heads any_head (place_of h) all (both_true (test any_head) _ all).0
 
