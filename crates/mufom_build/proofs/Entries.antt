@@ -1,11 +1,11 @@
 -- The lines of entries that are read one by one.
 use Rattle.std.proofs.Common.{◌≡◌, ℕ, ◌+◌, List, [], ◌∷◌, ◌++◌, length, map, flat_map, codes, Option, Some, None, MatchOption}
-use Rattle.std.proofs.Common.{◌≤◌, ◌^◌, refl, sym, ap, subst, ◌∙◌, zero-add, append_assoc}
+use Rattle.std.proofs.Common.{Result, Ok, Err, IfOk, ◌≢◌, ◌≤◌, ◌^◌, refl, sym, ap, subst, ◌∙◌, zero-add, append_assoc}
 use Rattle.std.specs.Str.Parse.{digits_value}
 use Rattle.std.proofs.lemmas.List.{map-append}
 use Rattle.mufom_expr.specs.Tree.{Tree}
 use Rattle.mufom_text.specs.Words.{Text}
-use Rattle.mufom_build_text.specs.Pieces.{Piece, count, digits, words, number_piece, MOST_NUMBER}
+use Rattle.mufom_build_text.specs.Pieces.{Piece, byte, block, count, digits, words, number_piece, MOST_NUMBER}
 use Rattle.mufom_build.specs.Lines.{Line, raw_lines, spaced_pieces, bytes_pieces, end_pieces, each_lines, mark_pieces, mark_lines}
 use Rattle.mufom_build_text.specs.Reads.{Place, IsRight, Reads, ReadsNumeral, EndsLine, ReadsLines}
 use Rattle.mufom_text.specs.Show.{depth_after_all}
@@ -13,7 +13,7 @@ use Rattle.mufom_build.specs.declared.outline.Outline.{Outline}
 use Rattle.mufom_build.specs.Outlines.{marks_so_far, IsKept}
 use Rattle.mufom_build.specs.Marked.{ReadsMark, end_value_pieces, spaced_digits}
 use Rattle.mufom_build_text.proofs.Lists.{flat_map_more}
-use Rattle.mufom_build_text.proofs.Reading.{◌▸◌, ◌▹◌, reads_number, solid, line_read}
+use Rattle.mufom_build_text.proofs.Reading.{◌▸◌, ◌▹◌, reads_number, IsSolid, solid, block_solid, line_read}
 use Rattle.mufom_build.proofs.Outlining.{each_lines_more, mark_lines_more}
 
 same_lines : {xs ys : List Line} {a b : Text} → xs ≡ ys → ReadsLines xs a b → ReadsLines ys a b
@@ -75,10 +75,32 @@ bytes_read (x ∷ bytes) stated start a b c d first number more rest judged = fi
 pub kind_read : (kind : Option ℕ) (n : ℕ) (a b : Place) → ReadsNumeral kind a b → kind ≡ Some n → Reads (number_piece n) a b
 kind_read kind n a b read is = reads_number MOST_NUMBER n a b (subst (λ (o : Option ℕ). ReadsNumeral o a b) is read)
 
+-- no line of these pieces is empty
+pub record Begins (pieces : Line) : Type 0 where
+  pub some : IsSolid pieces
+
+pub by_word : (v : ℕ) (pieces : Line) → Begins (byte v ∷ pieces)
+by_word v pieces = record { some = solid v pieces }
+
+pub by_block : (opened v : ℕ) (pieces : Line) → Begins (block opened ∷ byte v ∷ pieces)
+by_block opened v pieces = record { some = block_solid opened v pieces }
+
+-- a line that begins with a word, and its end
+pub whole_line : {pieces : Line} {a b : Place} {rest : Text} → Begins pieces → Reads pieces a b → IsRight b → EndsLine b.rest rest
+    → ReadsLines (pieces ∷ []) a.rest rest
+whole_line {pieces} {a} {b} {rest} begins read right ends = line_read begins.some read right ends
+
+-- bytes after a space, where there are any
+pub spaced_read : {E : Type 0} (r : Result (List ℕ) E) (c : Place) {a b : Place} → Reads (words (codes " ")) a b → IfOk r (λ bytes. Reads (digits bytes ∷ []) b c)
+    → IfOk r (λ bytes. bytes ≢ []) → IfOk r (λ bytes. Reads (spaced_digits bytes) a c)
+spaced_read (Ok []) c space read some = absurd (some refl)
+spaced_read (Ok (x ∷ bytes)) c space read some = space ▸ read
+spaced_read (Err e) c space read some = tt
+
 pub ended_read : (value : Option Tree) {a b c : Place} {rest : Text} → Reads (words (codes "end")) a b → Reads (end_value_pieces value) b c
     → IsRight c → EndsLine c.rest rest → ReadsLines (end_pieces value ∷ []) a.rest rest
-ended_read None first more right ends = line_read (solid 101 _) (first ▸ more) right ends
-ended_read (Some value) first more right ends = line_read (solid 101 _) (first ▸ more) right ends
+ended_read None first more right ends = whole_line (by_word 101 _) (first ▸ more) right ends
+ended_read (Some value) first more right ends = whole_line (by_word 101 _) (first ▸ more) right ends
 
 pub mark_read : (before after : Outline) {a b c : Text} → IsKept before → ReadsLines (mark_lines 0 0 (marks_so_far before)) a b
     → ReadsMark before after b c → ReadsLines (mark_lines 0 0 (marks_so_far after)) a c

@@ -120,7 +120,7 @@ one_literal (a ∷ more) (b ∷ bs) xs ys t u both = tail_digits (a ∷ more) (b
 
 -- ---- blocks
 
-unlike : (m n : ℕ) → (m == n) ≡ false → m ≡ n → ⊥
+pub unlike : (m n : ℕ) → (m == n) ≡ false → m ≡ n → ⊥
 unlike m n e same = let h : (n == n) ≡ false = subst (λ (x : ℕ). (x == n) ≡ false) same e in grind arith
 
 -- what is stated of a function

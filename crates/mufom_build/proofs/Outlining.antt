@@ -65,6 +65,10 @@ outline_begun open_blocks items head name =
     ∙ flat_map_more open_marks open_blocks (record { before = items; head = head; name = name })
     ∙ sym (append_assoc (flat_map open_marks open_blocks) (marks_of items) (block_begin head name ∷ []))
 
+nested : (a b : List DebugMark) (x : DebugMark) (c : List DebugMark) (y : DebugMark)
+    → a ++ (b ++ (x ∷ (c ++ y ∷ []))) ≡ ((a ++ (b ++ x ∷ [])) ++ c) ++ y ∷ []
+nested a b x c y = simp append_assoc
+
 pub outline_ended : (open_blocks : List OpenBlock) (b : OpenBlock) (items : List DebugItem) (end : Option Tree)
     → outline_marks open_blocks (b.before ++ block_case (record { head = b.head; name = b.name; items = items; end = end }) ∷ [])
     ≡ outline_marks (open_blocks ++ b ∷ []) items ++ block_end end ∷ []
@@ -73,7 +77,8 @@ outline_ended open_blocks b items end =
     let outer = flat_map open_marks open_blocks in
     let begun = block_begin b.head b.name in
     ap (λ l. outer ++ l) (marks_of_pushed b.before _ ∙ ap (λ l. marks_of b.before ++ l) (marks-Block _))
-    ∙ simp append_assoc
+    ∙ nested outer (marks_of b.before) begun inside (block_end end)
+    ∙ ap (λ l. (l ++ inside) ++ block_end end ∷ []) (sym (flat_map_more open_marks open_blocks b))
 
 -- the counts after one more mark
 pub kept_after : (o p : Outline) (mark : DebugMark) → IsKept o → marks_so_far p ≡ marks_so_far o ++ mark ∷ []

@@ -31,7 +31,7 @@ loose_pieces [] text h = h
 loose_pieces (piece ∷ pieces) text (first, rest, is, spelled, more) =
     (first, rest, is, loose_piece piece first spelled, loose_pieces pieces rest more)
 
-loose_lines : (lines : List Line) (text : Text) → SpellsLines exact lines text → SpellsLines loose lines text
+pub loose_lines : (lines : List Line) (text : Text) → SpellsLines exact lines text → SpellsLines loose lines text
 loose_lines [] text h = h
 loose_lines (pieces ∷ lines) text (before, body, after, rest, is, blank, spelled, spaces, inl end) =
     (before, body, after, rest, is, blank, loose_pieces pieces body spelled, spaces, inl end)

@@ -17,7 +17,9 @@ mod sections;
 #[cfg(test)]
 mod tests;
 
-pub use laws::{built_texts_have_the_shape, listings_build};
+pub use laws::{
+    built_texts_have_the_shape, defects_build_nothing, listings_build, texts_list_one_module,
+};
 pub use module::build;
 pub use mufom_build_text::BuildReason;
 pub use refusal::BuildRefusal;

@@ -2,8 +2,8 @@ use Rattle.std.proofs.Common.{ℕ, ◌+◌, ◌∷◌, [], subst}
 use Rattle.mufom_debug.specs.Marks.{block_begin}
 use Rattle.mufom_build_text.specs.Pieces.{block}
 use Rattle.mufom_build_text.specs.Reads.{Reads}
-use Rattle.mufom_build_text.proofs.Reading.{◌▸◌, block_solid, line_read}
-use Rattle.mufom_build.proofs.Entries.{kind_read}
+use Rattle.mufom_build_text.proofs.Reading.{◌▸◌}
+use Rattle.mufom_build.proofs.Entries.{by_block, whole_line, kind_read}
 use Rattle.mufom_build.proofs.debug.read_block.Goals as goal
 
 pub returns-clause-reads : goal.returns-clause-reads
@@ -11,7 +11,7 @@ returns-clause-reads c = record {
   mark = block_begin c.in_ok-head.head c.in_ok-name.name;
   added = c.in_ok-begin.ensures.marks;
   kept = c.in_ok-begin.ensures.kept;
-  lines = line_read (block_solid _ 98 _) (
+  lines = whole_line (by_block _ 98 _) (
       subst (λ (d : ℕ). Reads (block (d + 1) ∷ []) c.args.cursor.now c.check_depth.new.cursor) c.depth.ensures c.check_depth.ensures.reads
       ▸ c.in_ok-words.ensures.reads ▸ kind_read _ _ _ _ c.in_ok-kind.ensures.reads c.in_ok-head.ensures.kind ▸ c.in_ok-words-2.ensures.reads
       ▸ c.in_ok-name.ensures.reads ▸ c.in_ok-head.ensures.reads)

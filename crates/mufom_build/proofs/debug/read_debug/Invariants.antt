@@ -4,12 +4,12 @@ use Rattle.mufom_build_text.specs.Reads.{ReadsLines}
 use Rattle.mufom_build.specs.Outlines.{marks_so_far, IsKept}
 use Rattle.mufom_build.proofs.debug.read_debug.Given as goal
 
-abbrev pub invariant-loop-cursor : goal.invariant-loop-cursor
-invariant-loop-cursor l = record {
+abbrev pub invariant-loop-outline : goal.invariant-loop-outline
+invariant-loop-outline l = record {
   lines : ReadsLines (mark_lines 0 0 (marks_so_far l.outline)) l.fn.cursor.rest l.cursor.rest;
   within : length l.cursor.rest ≤ length l.fn.cursor.rest;
   kept : IsKept l.outline;
 }
 
-abbrev pub decreases-loop-cursor : goal.decreases-loop-cursor
-decreases-loop-cursor l = length l.cursor.rest
+abbrev pub decreases-loop-outline : goal.decreases-loop-outline
+decreases-loop-outline l = length l.cursor.rest

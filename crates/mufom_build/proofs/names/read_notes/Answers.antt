@@ -3,8 +3,8 @@ use Rattle.mufom_build.specs.Lines.{note_line}
 use Rattle.mufom_build.proofs.Entries.{mapped_read}
 use Rattle.mufom_build.proofs.names.read_notes.Goals as goal
 
-pub loop-cursor-preserved : goal.loop-cursor-preserved
-loop-cursor-preserved c = record {
-  lines = mapped_read note_line _ _ _ c.in_ok-push.ensures.ok c.loop-cursor.invariant.lines c.in_ok-note.ensures.lines;
-  within = omega (arith, c.in_ok-note.ensures.within);
+pub loop-notes-preserved : goal.loop-notes-preserved
+loop-notes-preserved c = record {
+  lines = mapped_read note_line _ _ _ c.in_ok-push.ensures.ok c.loop-notes.invariant.lines c.in_ok-read_note_line.ensures.lines;
+  within = omega (arith, c.in_ok-read_note_line.ensures.within);
 }
