@@ -91,7 +91,8 @@ pub whole_line : {pieces : Line} {a b : Place} {rest : Text} → Begins pieces �
 whole_line {pieces} {a} {b} {rest} begins read right ends = line_read begins.some read right ends
 
 -- bytes after a space, where there are any
-pub spaced_read : {E : Type 0} (r : Result (List ℕ) E) (c : Place) {a b : Place} → Reads (words (codes " ")) a b → IfOk r (λ bytes. Reads (digits bytes ∷ []) b c)
+pub spaced_read : {E : Type 0} (r : Result (List ℕ) E) (c : Place) {a b : Place} → Reads (words (codes " ")) a b
+    → IfOk r (λ bytes. Reads (digits bytes ∷ []) b c)
     → IfOk r (λ bytes. bytes ≢ []) → IfOk r (λ bytes. Reads (spaced_digits bytes) a c)
 spaced_read (Ok []) c space read some = absurd (some refl)
 spaced_read (Ok (x ∷ bytes)) c space read some = space ▸ read

@@ -24,7 +24,8 @@ use Rattle.mufom_build.proofs.OnePiece.{Both, no, no_space, no_figure, byte_both
 use Rattle.mufom_build.proofs.OneWord.{words_both, words_differ, number_is_no_word, nothing_is_no_word, turned}
 use Rattle.mufom_build.proofs.OneWord.{past_gap, past_figure, past_position, past_count, past_name}
 use Rattle.mufom_build.proofs.OneTree.{changed, tree_both, infix_no_space}
-use Rattle.mufom_build.proofs.OneRow.{Keyword, on_module, on_extension, on_environment, on_section, on_public, on_note, on_reference, on_block, on_end}
+use Rattle.mufom_build.proofs.OneRow.{Keyword, on_module, on_extension, on_environment, on_section, on_public, on_note, on_reference, on_block}
+use Rattle.mufom_build.proofs.OneRow.{on_end}
 use Rattle.mufom_build.proofs.OneRow.{on_name, on_value, on_select, on_counter, on_bytes, on_field, on_repeat, on_start, word_of, word_tight}
 use Rattle.mufom_build.proofs.OneRow.{one_keyword, Payload, named_note, rest_pieces, IsTail, tail_no_figure, tail_is_no_more, nothing_is_no_figure}
 use Rattle.mufom_build.proofs.OneRow.{nothing_is_no_digits, tail_digits, valued, assigned, numbered, noted}
@@ -134,8 +135,9 @@ one_scope s r a b v w xs ys t u both =
     let (stacks, d) = past_figure (past_gap c refl refl) refl refl in
     let e : Both (gap ∷ figure MOST_NUMBER a ∷ _) (gap ∷ figure MOST_NUMBER b ∷ _) = words_both (codes " type") _ _ refl d in
     let (types, f) = past_figure (past_gap e refl refl) refl refl in
-    let g : Both (gap ∷ expression (length (tokens_of v)) ∷ (infix_pieces v ++ xs)) (gap ∷ expression (length (tokens_of w)) ∷ (infix_pieces w ++ ys)) =
-        words_both (codes " offset") _ _ refl f in
+    let g : Both (gap ∷ expression (length (tokens_of v)) ∷ (infix_pieces v ++ xs))
+    (gap ∷ expression (length (tokens_of w)) ∷ (infix_pieces w ++ ys)) =
+    words_both (codes " offset") _ _ refl f in
     (stacks, types, valued v w xs ys t u (past_gap g (infix_no_space v xs) (infix_no_space w ys)))
 
 one_part : (s r a b : ℕ) (v w : Tree) (xs ys : List Piece) → IsTail xs → IsTail ys → Both (part_pieces s a v ++ xs) (part_pieces r b w ++ ys)
@@ -145,11 +147,13 @@ one_part s r a b v w xs ys t u both =
     let (types, d) = past_figure (past_gap c refl refl) refl refl in
     let e : Both (gap ∷ figure MOST_POSITION a ∷ _) (gap ∷ figure MOST_POSITION b ∷ _) = words_both (codes " section") _ _ refl d in
     let (sections, f) = past_figure (past_gap e refl refl) refl refl in
-    let g : Both (gap ∷ expression (length (tokens_of v)) ∷ (infix_pieces v ++ xs)) (gap ∷ expression (length (tokens_of w)) ∷ (infix_pieces w ++ ys)) =
-        words_both (codes " offset") _ _ refl f in
+    let g : Both (gap ∷ expression (length (tokens_of v)) ∷ (infix_pieces v ++ xs))
+    (gap ∷ expression (length (tokens_of w)) ∷ (infix_pieces w ++ ys)) =
+    words_both (codes " offset") _ _ refl f in
     (types, sections, valued v w xs ys t u (past_gap g (infix_no_space v xs) (infix_no_space w ys)))
 
-one_head : (h j : BlockHead) (xs ys : List Piece) → IsTail xs → IsTail ys → kind_number h ≡ kind_number j → Both (head_pieces h ++ xs) (head_pieces j ++ ys)
+one_head : (h j : BlockHead) (xs ys : List Piece) → IsTail xs → IsTail ys → kind_number h ≡ kind_number j
+    → Both (head_pieces h ++ xs) (head_pieces j ++ ys)
     → h ≡ j
 one_head blocks.Module blocks.Module xs ys t u k both = refl
 one_head (blocks.Global s a v) (blocks.Global r b w) xs ys t u k both =
@@ -183,7 +187,8 @@ one_head (blocks.Section s a v) (blocks.Local r b w) xs ys t u k both = absurd (
 
 -- ---- each kind of line
 
-one_title : (p q : Payload on_module) (m n : ℕ) (xs ys : List Piece) → Both (rest_pieces m on_module p ++ xs) (rest_pieces n on_module q ++ ys) → p ≡ q
+one_title : (p q : Payload on_module) (m n : ℕ) (xs ys : List Piece) → Both (rest_pieces m on_module p ++ xs) (rest_pieces n on_module q ++ ys)
+    → p ≡ q
 one_title (a, b, c, d) (a', b', c', d') m n xs ys both =
     let (titles, e) = past_name (past_gap both refl refl) in
     let f : Both (gap ∷ name b ∷ _) (gap ∷ name b' ∷ _) = words_both (codes " processor") _ _ refl e in
@@ -214,7 +219,8 @@ section_shape s xs = append_assoc (words (type_letters s.absolute)) (words (purp
     ∙ ap (λ l. words (type_letters s.absolute) ++ l) (append_assoc (words (purpose_letter s.purpose)) (words (codes " size ")
     ++ (figure MOST_NUMBER s.size ∷ (words (codes " align ") ++ (figure MOST_NUMBER s.align ∷ base_pieces s.base)))) xs)
 
-one_section : (s r : Section) (m n : ℕ) (xs ys : List Piece) → IsTail xs → IsTail ys → Both (rest_pieces m on_section s ++ xs) (rest_pieces n on_section r ++ ys)
+one_section : (s r : Section) (m n : ℕ) (xs ys : List Piece) → IsTail xs → IsTail ys
+    → Both (rest_pieces m on_section s ++ xs) (rest_pieces n on_section r ++ ys)
     → s ≡ r
 one_section s r m n xs ys t u both =
     let a = past_position (past_gap both refl refl) refl refl in
@@ -224,7 +230,7 @@ one_section s r m n xs ys t u both =
     let (uses, d) = one_purpose s.purpose r.purpose (gap ∷ figure MOST_NUMBER s.size ∷ _) (gap ∷ figure MOST_NUMBER r.size ∷ _) c in
     let (sizes, e) = past_figure (past_gap d refl refl) refl refl in
     let f : Both (gap ∷ figure MOST_NUMBER s.align ∷ (base_pieces s.base ++ xs)) (gap ∷ figure MOST_NUMBER r.align ∷ (base_pieces r.base ++ ys)) =
-        words_both (codes " align") _ _ refl e in
+    words_both (codes " align") _ _ refl e in
     let (aligns, g) = past_figure (past_gap f refl refl) (base_no_figure s.base xs t) (base_no_figure r.base ys u) in
     let bases = one_base s.base r.base xs ys t u g in
     λ i. record { name = names i; absolute = types i; purpose = uses i; size = sizes i; align = aligns i; base = bases i }
@@ -266,7 +272,7 @@ one_block (h, a) (j, b) m n xs ys t u both =
 -- a position and a value
 one_placed : (m n : ℕ) (v w : Tree) (xs ys : List Piece) → IsTail xs → IsTail ys
     → Both ((gap ∷ figure MOST_POSITION m ∷ (words (codes " = ") ++ value_pieces v)) ++ xs)
-      ((gap ∷ figure MOST_POSITION n ∷ (words (codes " = ") ++ value_pieces w)) ++ ys) → (m ≡ n) × (v ≡ w)
+    ((gap ∷ figure MOST_POSITION n ∷ (words (codes " = ") ++ value_pieces w)) ++ ys) → (m ≡ n) × (v ≡ w)
 one_placed m n v w xs ys t u both =
     let (places, a) = past_figure (past_gap both refl refl) refl refl in
     (places, assigned v w xs ys t u a)
@@ -284,6 +290,7 @@ one_field (k, s, v) (j, r, w) m n xs ys t u both =
     kind_no_space kinds.Signed xs = refl
     kind_no_space kinds.Unsigned xs = refl
     kind_no_space kinds.Either xs = refl
+
     shape : (k : FieldKind) (s : ℕ) (v : Tree) (xs : List Piece)
         → (words (kind_text k) ++ (gap ∷ figure MOST_BYTE s ∷ (words (codes " = ") ++ value_pieces v))) ++ xs
         ≡ words (kind_text k) ++ ((gap ∷ figure MOST_BYTE s ∷ (words (codes " = ") ++ value_pieces v)) ++ xs)

@@ -1,5 +1,6 @@
 -- A text is the listing of one module's parts at most.
-use Rattle.std.proofs.Common.{◌≡◌, ℕ, ◌+◌, ◌≤◌, ◌==◌, nat_le, Bool, true, false, List, [], ◌∷◌, ◌++◌, length, map, flat_map, codes, Option, Some, None}
+use Rattle.std.proofs.Common.{◌≡◌, ℕ, ◌+◌, ◌≤◌, ◌==◌, nat_le, Bool, true, false, List, [], ◌∷◌, ◌++◌, length, map, flat_map, codes, Option, Some}
+use Rattle.std.proofs.Common.{None}
 use Rattle.std.proofs.Common.{refl, sym, ap, subst, ◌∙◌, inl, inr, ◌⊎◌, append_assoc, arith}
 use Rattle.mufom_expr.specs.declared.token.FieldKind.{FieldKind}
 use Rattle.mufom_expr.specs.declared.token.FieldKind.TheVariants as kinds
@@ -19,10 +20,12 @@ use Rattle.mufom_text.specs.Words.{Text}
 use Rattle.mufom_text.specs.Show.{type_letters, purpose_letter}
 use Rattle.mufom_build_text.specs.Pieces.{Piece, block, position, name, gap, figure, words, loose, Spells, MOST_NUMBER}
 use Rattle.mufom_build_text.specs.Places.{SpellsLines}
-use Rattle.mufom_build.specs.Lines.{Line, module_pieces, raw_lines, base_pieces, section_pieces, section_lines, note_line, public_lines, reference_lines}
+use Rattle.mufom_build.specs.Lines.{Line, module_pieces, raw_lines, base_pieces, section_pieces, section_lines, note_line, public_lines}
+use Rattle.mufom_build.specs.Lines.{reference_lines}
 use Rattle.mufom_build.specs.Lines.{mark_pieces, mark_lines, item_pieces, load_lines, start_lines, each_lines, listing_lines}
 use Rattle.mufom_build.proofs.OnePiece.{no}
-use Rattle.mufom_build.proofs.OneRow.{Keyword, on_module, on_extension, on_environment, on_section, on_public, on_note, on_reference, on_block, on_end}
+use Rattle.mufom_build.proofs.OneRow.{Keyword, on_module, on_extension, on_environment, on_section, on_public, on_note, on_reference, on_block}
+use Rattle.mufom_build.proofs.OneRow.{on_end}
 use Rattle.mufom_build.proofs.OneRow.{on_name, on_value, on_select, on_counter, on_bytes, on_field, on_repeat, on_start, word_of, rest_pieces}
 use Rattle.mufom_build.proofs.OneLine.{unlike}
 use Rattle.mufom_build.proofs.OneText.{Row, line_of, SpellsRow, SpellsRows, one_rows}
@@ -186,8 +189,11 @@ lined_load : (load : Load) → Lined (load_rows load) (load_lines load)
 lined_load (SetSection n) = ((0, inl refl), tt)
 lined_load (SetPc n value) = ((0, inl refl), tt)
 lined_load (One item) = (item_line_is item, tt)
-lined_load (Repeat times items) = ((0, inl refl), lined-append (map item_row items) ((on_end, None) ∷ []) (map item_pieces items) (words (codes "end") ∷ [])
-    (lined_map item_row item_pieces item_line_is items) ((0, inl refl), tt))
+lined_load (Repeat times items) = (
+  (0, inl refl),
+  lined-append (map item_row items) ((on_end, None) ∷ []) (map item_pieces items) (words (codes "end") ∷ [])
+      (lined_map item_row item_pieces item_line_is items) ((0, inl refl), tt),
+)
 
 lined_start : (start : Option Tree) → Lined (start_rows start) (start_lines start)
 lined_start None = tt
@@ -207,16 +213,19 @@ listing_lined m =
     let marks = mark_lines 0 0 (marks_of m.debug) in
     let loads = flat_map load_lines m.loads in
     let start = start_lines m.start in
-    subst (λ (l : List Line). Lined (rows_of m) l) (sym (lines_nested (module_pieces m ∷ []) ext env sections publics references marks loads start))
-    ((0, inl refl), lined-append (extension_rows m.ext) (from_environment m) ext _ (lined_raw m.ext)
-    (lined-append (environment_rows m.env) (from_sections m) env _ (lined_environment m.env)
-    (lined-append (map section_row m.sections) (from_publics m) sections _ (lined_sections 0 m.sections)
-    (lined-append (flat_map public_rows m.names.publics) (from_references m) publics _ (lined_each public_rows public_lines lined_public 0 m.names.publics)
-    (lined-append (flat_map reference_rows m.names.references) (from_marks m) references _
-        (lined_each reference_rows reference_lines lined_reference 0 m.names.references)
-    (lined-append (map mark_row (marks_of m.debug)) (from_loads m) marks _ (lined_marks 0 0 (marks_of m.debug))
-    (lined-append (flat_map load_rows m.loads) (start_rows m.start) loads start (lined_flat load_rows load_lines lined_load m.loads)
-        (lined_start m.start))))))))
+    subst (λ (l : List Line). Lined (rows_of m) l) (sym (lines_nested (module_pieces m ∷ []) ext env sections publics references marks loads start)) (
+      (0, inl refl),
+      lined-append (extension_rows m.ext) (from_environment m) ext _ (lined_raw m.ext)
+          (lined-append (environment_rows m.env) (from_sections m) env _ (lined_environment m.env)
+          (lined-append (map section_row m.sections) (from_publics m) sections _ (lined_sections 0 m.sections)
+          (lined-append (flat_map public_rows m.names.publics) (from_references m) publics _
+          (lined_each public_rows public_lines lined_public 0 m.names.publics)
+          (lined-append (flat_map reference_rows m.names.references) (from_marks m) references _
+          (lined_each reference_rows reference_lines lined_reference 0 m.names.references)
+          (lined-append (map mark_row (marks_of m.debug)) (from_loads m) marks _ (lined_marks 0 0 (marks_of m.debug))
+          (lined-append (flat_map load_rows m.loads) (start_rows m.start) loads start (lined_flat load_rows load_lines lined_load m.loads)
+          (lined_start m.start))))))),
+    )
 
 row_spelled : (r : Row) (pieces : Line) (s : Text) → IsLineOf r pieces → Spells loose pieces s → SpellsRow r s
 row_spelled r pieces s (n, inl e) spelled = (n, subst (λ (l : Line). Spells loose l s) e spelled)

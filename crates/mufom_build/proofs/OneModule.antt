@@ -20,7 +20,8 @@ use Rattle.mufom_build_text.specs.Pieces.{loose}
 use Rattle.mufom_build_text.specs.Places.{SpellsLines}
 use Rattle.mufom_build.specs.Lines.{listing_lines}
 use Rattle.mufom_build.proofs.OnePiece.{no}
-use Rattle.mufom_build.proofs.OneRow.{Keyword, on_module, on_extension, on_environment, on_section, on_public, on_note, on_reference, on_block, on_end}
+use Rattle.mufom_build.proofs.OneRow.{Keyword, on_module, on_extension, on_environment, on_section, on_public, on_note, on_reference, on_block}
+use Rattle.mufom_build.proofs.OneRow.{on_end}
 use Rattle.mufom_build.proofs.OneRow.{on_name, on_value, on_select, on_counter, on_bytes, on_field, on_repeat, on_start}
 use Rattle.mufom_build.proofs.OneLine.{unlike}
 use Rattle.mufom_build.proofs.OneText.{Row, one_rows}
@@ -138,7 +139,8 @@ item_goes_on (Field kind size value) = refl
 
 -- ---- names with notes
 
-named_first : {X : Type 0} (row : X → Row) (notes : X → List Note) (n : ℕ) → 5 ≤ n → ((x : X) → from_rank 5 (row x) ≡ true) → (xs : List X) (more : List Row)
+named_first : {X : Type 0} (row : X → Row) (notes : X → List Note) (n : ℕ) → 5 ≤ n → ((x : X) → from_rank 5 (row x) ≡ true)
+    → (xs : List X) (more : List Row)
     → begins (from_rank n) more ≡ true → begins (from_rank 5) (flat_map (named_rows row notes) xs ++ more) ≡ true
 named_first row notes n small high [] more h = begins_later 5 n more small h
 named_first row notes n small high (x ∷ xs) more h = high x
@@ -159,7 +161,7 @@ one_named row notes same n small high low (x ∷ xs) (y ∷ ys) more other g h e
     let rest : (inner ++ left) ++ more ≡ (second ++ right) ++ other = cc in
     let nested = sym (append_assoc inner left more) ∙ rest ∙ append_assoc second right other in
     let (noted, remain) = one_phase note_row note_in (λ note. refl) (from_rank 5) (λ note. refl) (notes x) (notes y) (left ++ more) (right ++ other)
-        (named_first row notes n small high xs more g) (named_first row notes n small high ys other h) nested in
+    (named_first row notes n small high xs more g) (named_first row notes n small high ys other h) nested in
     let (others, ends) = one_named row notes same n small high low xs ys more other g h remain in
     (ap (λ z. z ∷ xs) (same x y first noted) ∙ ap (λ l. y ∷ l) others, ends)
 
@@ -326,7 +328,8 @@ load_first (One (Literal bytes)) more = refl
 load_first (One (Field kind size value)) more = refl
 load_first (Repeat times items) more = refl
 
-loads_first : (loads : List Load) (more : List Row) → begins (from_rank 9) more ≡ true → begins (from_rank 8) (flat_map load_rows loads ++ more) ≡ true
+loads_first : (loads : List Load) (more : List Row) → begins (from_rank 9) more ≡ true
+    → begins (from_rank 8) (flat_map load_rows loads ++ more) ≡ true
 loads_first [] more h = begins_later 8 9 more (omega arith) h
 loads_first (load ∷ loads) more h =
     ap (begins (from_rank 8)) (append_assoc (load_rows load) (flat_map load_rows loads) more) ∙ load_first load _
@@ -339,11 +342,13 @@ marks_first (name_mark title ∷ marks) more h = refl
 marks_first (note_mark n note ∷ marks) more h = refl
 marks_first (value_mark n value ∷ marks) more h = refl
 
-references_first : (rs : List Reference) (more : List Row) → begins (from_rank 7) more ≡ true → begins (from_rank 6) (flat_map reference_rows rs ++ more) ≡ true
+references_first : (rs : List Reference) (more : List Row) → begins (from_rank 7) more ≡ true
+    → begins (from_rank 6) (flat_map reference_rows rs ++ more) ≡ true
 references_first [] more h = begins_later 6 7 more (omega arith) h
 references_first (r ∷ rs) more h = refl
 
-publics_first : (ps : List Public) (more : List Row) → begins (from_rank 6) more ≡ true → begins (from_rank 5) (flat_map public_rows ps ++ more) ≡ true
+publics_first : (ps : List Public) (more : List Row) → begins (from_rank 6) more ≡ true
+    → begins (from_rank 5) (flat_map public_rows ps ++ more) ≡ true
 publics_first [] more h = begins_later 5 6 more (omega arith) h
 publics_first (p ∷ ps) more h = refl
 
@@ -351,7 +356,8 @@ sections_first : (ss : List Section) (more : List Row) → begins (from_rank 5) 
 sections_first [] more h = begins_later 3 5 more (omega arith) h
 sections_first (s ∷ ss) more h = refl
 
-environment_first : (bytes : List ℕ) (more : List Row) → begins (from_rank 3) more ≡ true → begins (from_rank 2) (environment_rows bytes ++ more) ≡ true
+environment_first : (bytes : List ℕ) (more : List Row) → begins (from_rank 3) more ≡ true
+    → begins (from_rank 2) (environment_rows bytes ++ more) ≡ true
 environment_first [] more h = begins_later 2 3 more (omega arith) h
 environment_first (b ∷ bytes) more h = refl
 
@@ -390,13 +396,13 @@ one_module m n e =
     let (ext, a) = one_extension m.ext n.ext (from_environment m) (from_environment n) (environment_begins m) (environment_begins n) all in
     let (env, b) = one_environment m.env n.env (from_sections m) (from_sections n) (sections_begin m) (sections_begin n) a in
     let (sections, c) = one_phase section_row section_in (λ s. refl) (from_rank 5) (λ s. refl) m.sections n.sections (from_publics m) (from_publics n)
-        (publics_begin m) (publics_begin n) b in
+    (publics_begin m) (publics_begin n) b in
     let (publics, d) = one_named public_row (λ p. p.notes) same_public 6 (omega arith) (λ p. refl) (λ p. refl) m.names.publics n.names.publics
-        (from_references m) (from_references n) (references_begin m) (references_begin n) c in
+    (from_references m) (from_references n) (references_begin m) (references_begin n) c in
     let (references, f) = one_named reference_row (λ r. r.notes) same_reference 7 (omega arith) (λ r. refl) (λ r. refl) m.names.references
-        n.names.references (from_marks m) (from_marks n) (marks_begin m) (marks_begin n) d in
+    n.names.references (from_marks m) (from_marks n) (marks_begin m) (marks_begin n) d in
     let (marks, g) = one_phase mark_row mark_in mark_given (from_rank 8) mark_low (marks_of m.debug) (marks_of n.debug) (from_loads m) (from_loads n)
-        (loads_begin m) (loads_begin n) f in
+    (loads_begin m) (loads_begin n) f in
     let (loads, h) = one_loads m.loads n.loads (start_rows m.start) (start_rows n.start) (start_first m.start) (start_first n.start) g in
     let debug = same_items m.debug n.debug marks in
     let start = one_start m.start n.start h in

@@ -194,11 +194,12 @@ gap_both xs ys g h both =
     record { text = s; left = p; right = subst (λ (l : Text). Spells loose ys l) (sym rest) q }
 
 -- the digits of two numbers
-numerals : (xs ys : List Piece) (r a s b t : Text) → r ≡ a ++ s → r ≡ b ++ t → IsNumeral 10 a → IsNumeral 10 b → no_figure xs ≡ true → no_figure ys ≡ true
+numerals : (xs ys : List Piece) (r a s b t : Text) → r ≡ a ++ s → r ≡ b ++ t → IsNumeral 10 a → IsNumeral 10 b → no_figure xs ≡ true
+    → no_figure ys ≡ true
     → Spells loose xs s → Spells loose ys t → (a ≡ b) × Both xs ys
 numerals xs ys r a s b t e f x y g h p q =
     let (same, rest) = one_run IsFigure a b s t (all_figures a x.1) (all_figures b y.1) (sym e ∙ f)
-        (no_figure_spelled xs g s p) (no_figure_spelled ys h t q) in
+    (no_figure_spelled xs g s p) (no_figure_spelled ys h t q) in
     (same, record { text = s; left = p; right = subst (λ (l : Text). Spells loose ys l) (sym rest) q })
 
 pub figure_both : (most m other n : ℕ) (xs ys : List Piece) → no_figure xs ≡ true → no_figure ys ≡ true
@@ -319,10 +320,10 @@ one_name [] [] s t u v p q same =
     let k : 0x22 ∷ u ≡ 0x22 ∷ v = ap (λ l. l ++ 0x22 ∷ u) (sym p) ∙ same ∙ ap (λ l. l ++ 0x22 ∷ v) q in (refl, cc)
 one_name [] (y ∷ ys) s t u v p (first, rest, f, here, more) same =
     absurd (no_quote y first (rest ++ 0x22 ∷ v) u here
-      (sym (append_more first rest v) ∙ ap (λ l. l ++ 0x22 ∷ v) (sym f) ∙ sym same ∙ ap (λ l. l ++ 0x22 ∷ u) p))
+    (sym (append_more first rest v) ∙ ap (λ l. l ++ 0x22 ∷ v) (sym f) ∙ sym same ∙ ap (λ l. l ++ 0x22 ∷ u) p))
 one_name (x ∷ xs) [] s t u v (first, rest, e, here, more) q same =
     absurd (no_quote x first (rest ++ 0x22 ∷ u) v here
-      (sym (append_more first rest u) ∙ ap (λ l. l ++ 0x22 ∷ u) (sym e) ∙ same ∙ ap (λ l. l ++ 0x22 ∷ v) q))
+    (sym (append_more first rest u) ∙ ap (λ l. l ++ 0x22 ∷ u) (sym e) ∙ same ∙ ap (λ l. l ++ 0x22 ∷ v) q))
 one_name (x ∷ xs) (y ∷ ys) s t u v (first, rest, e, here, more) (front, back, f, there, others) same =
     let k = sym (append_more first rest u) ∙ ap (λ l. l ++ 0x22 ∷ u) (sym e) ∙ same ∙ ap (λ l. l ++ 0x22 ∷ v) f ∙ append_more front back v in
     let (a, b) = one_name_byte x y first front (rest ++ 0x22 ∷ u) (back ++ 0x22 ∷ v) here there k in

@@ -1,5 +1,6 @@
 -- A line of a listing by its first word and what else it states, and that no two lines that state something else have the same bytes.
-use Rattle.std.proofs.Common.{◌≡◌, ℕ, zero, suc, ◌==◌, ◌&&◌, ◌||◌, not, Bool, true, false, List, [], ◌∷◌, ◌++◌, get_or, length, codes, Option, Some, None}
+use Rattle.std.proofs.Common.{◌≡◌, ℕ, zero, suc, ◌==◌, ◌&&◌, ◌||◌, not, Bool, true, false, List, [], ◌∷◌, ◌++◌, get_or, length, codes, Option, Some}
+use Rattle.std.proofs.Common.{None}
 use Rattle.std.proofs.Common.{refl, sym, ap, subst, ◌∙◌, inl, inr, ◌⊎◌, eqb-true, ◌<◌, arith}
 use Rattle.mufom_expr.specs.declared.token.FieldKind.{FieldKind}
 use Rattle.mufom_expr.specs.declared.token.FieldKind.TheVariants as kinds
@@ -16,7 +17,8 @@ use Rattle.mufom_module.specs.declared.module.Order.{Order}
 use Rattle.mufom_module.specs.declared.module.Order.TheVariants as orders
 use Rattle.mufom_text.specs.Words.{Text}
 use Rattle.mufom_text.specs.Show.{order_letter, type_letters, purpose_letter, kind_text}
-use Rattle.mufom_build_text.specs.Pieces.{Piece, byte, gap, figure, position, count, name, digits, expression, words, word_piece, infix_pieces, value_pieces}
+use Rattle.mufom_build_text.specs.Pieces.{Piece, byte, gap, figure, position, count, name, digits, expression, words, word_piece, infix_pieces}
+use Rattle.mufom_build_text.specs.Pieces.{value_pieces}
 use Rattle.mufom_build_text.specs.Pieces.{MOST_BYTE, MOST_POSITION, MOST_NUMBER, loose, Spells}
 use Rattle.mufom_build.specs.Lines.{base_pieces, spaced_pieces, note_pieces, weak_pieces, scope_pieces, part_pieces, head_pieces}
 use Rattle.mufom_build.specs.Marked.{end_value_pieces, spaced_digits}
@@ -183,7 +185,8 @@ rest_pieces n on_value (place, value) = gap ∷ figure MOST_POSITION place ∷ (
 rest_pieces n on_select place = gap ∷ figure MOST_POSITION place ∷ []
 rest_pieces n on_counter (place, value) = gap ∷ figure MOST_POSITION place ∷ (words (codes " = ") ++ value_pieces value)
 rest_pieces n on_bytes bytes = gap ∷ count n ∷ spaced_digits bytes
-rest_pieces n on_field (kind, size, value) = gap ∷ (words (kind_text kind) ++ (gap ∷ figure MOST_BYTE size ∷ (words (codes " = ") ++ value_pieces value)))
+rest_pieces n on_field (kind, size, value) = gap ∷ (words (kind_text kind) ++
+    (gap ∷ figure MOST_BYTE size ∷ (words (codes " = ") ++ value_pieces value)))
 rest_pieces n on_repeat times = gap ∷ figure MOST_NUMBER times ∷ []
 rest_pieces n on_start value = words (codes " = ") ++ value_pieces value
 
@@ -231,11 +234,13 @@ valued v u xs ys t w both =
     (tree_both v u xs ys (tail_no_figure xs t) (tail_no_figure ys w) a).0
 
 -- an expression to which something is set
-pub assigned : (v u : Tree) (xs ys : List Piece) → IsTail xs → IsTail ys → Both ((words (codes " = ") ++ value_pieces v) ++ xs) ((words (codes " = ") ++ value_pieces u) ++ ys)
+pub assigned : (v u : Tree) (xs ys : List Piece) → IsTail xs → IsTail ys
+    → Both ((words (codes " = ") ++ value_pieces v) ++ xs) ((words (codes " = ") ++ value_pieces u) ++ ys)
     → v ≡ u
 assigned v u xs ys t w both =
-    let a : Both (gap ∷ expression (length (tokens_of v)) ∷ (infix_pieces v ++ xs)) (gap ∷ expression (length (tokens_of u)) ∷ (infix_pieces u ++ ys)) =
-        words_both (codes " =") _ _ refl both in
+    let a : Both (gap ∷ expression (length (tokens_of v)) ∷ (infix_pieces v ++ xs))
+    (gap ∷ expression (length (tokens_of u)) ∷ (infix_pieces u ++ ys)) =
+    words_both (codes " =") _ _ refl both in
     valued v u xs ys t w (past_gap a (infix_no_space v xs) (infix_no_space u ys))
 
 spaced_no_figure : (ns : List ℕ) (xs : List Piece) → IsTail xs → no_figure (spaced_pieces ns ++ xs) ≡ true
@@ -256,7 +261,7 @@ noted a b xs ys t u both =
     let c : Both (gap ∷ figure MOST_NUMBER a.type_index ∷ _) (gap ∷ figure MOST_NUMBER b.type_index ∷ _) = words_both (codes " type") _ _ refl both in
     let (types, d) = past_figure (past_gap c refl refl) refl refl in
     let e : Both (gap ∷ figure MOST_NUMBER a.attribute ∷ (spaced_pieces a.numbers.items ++ xs))
-        (gap ∷ figure MOST_NUMBER b.attribute ∷ (spaced_pieces b.numbers.items ++ ys)) = words_both (codes " attribute") _ _ refl d in
+    (gap ∷ figure MOST_NUMBER b.attribute ∷ (spaced_pieces b.numbers.items ++ ys)) = words_both (codes " attribute") _ _ refl d in
     let (attributes, f) = past_figure (past_gap e refl refl) (spaced_no_figure a.numbers.items xs t) (spaced_no_figure b.numbers.items ys u) in
     let numbers = numbered a.numbers.items b.numbers.items xs ys t u f in
     λ i. record { type_index = types i; attribute = attributes i; numbers = record { items = numbers i } }

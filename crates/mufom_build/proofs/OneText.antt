@@ -17,7 +17,8 @@ use Rattle.mufom_module.specs.declared.module.Order.{Order}
 use Rattle.mufom_module.specs.declared.module.Order.TheVariants as orders
 use Rattle.mufom_text.specs.Words.{Text, stands_for_itself}
 use Rattle.mufom_text.specs.Show.{order_letter, type_letters, purpose_letter, kind_text}
-use Rattle.mufom_build_text.specs.Pieces.{Piece, byte, gap, figure, position, count, name, digits, expression, block, loose, Spells, words, word_piece}
+use Rattle.mufom_build_text.specs.Pieces.{Piece, byte, gap, figure, position, count, name, digits, expression, block, loose, Spells, words}
+use Rattle.mufom_build_text.specs.Pieces.{word_piece}
 use Rattle.mufom_build_text.specs.Pieces.{AreSpaces, AreDigitsOf, SpellsDigits, SpellsNameByte, SpellsNameBytes, infix_pieces, value_pieces}
 use Rattle.mufom_build_text.specs.Places.{AreBlank, SpellsLines}
 use Rattle.mufom_build_text.proofs.Spelling.{spells-append}
@@ -26,7 +27,8 @@ use Rattle.mufom_build.specs.Marked.{end_value_pieces, spaced_digits}
 use Rattle.mufom_build.proofs.OnePiece.{Both, Avoids, no, both_true, one_run, all_figures, IsFigure}
 use Rattle.mufom_build.proofs.OneWord.{word_first, words_both}
 use Rattle.mufom_build.proofs.OneTree.{changed, Head, of_letter, of_one, of_two, text_of, middle_of, each_head}
-use Rattle.mufom_build.proofs.OneRow.{Keyword, on_module, on_extension, on_environment, on_section, on_public, on_note, on_reference, on_block, on_end}
+use Rattle.mufom_build.proofs.OneRow.{Keyword, on_module, on_extension, on_environment, on_section, on_public, on_note, on_reference, on_block}
+use Rattle.mufom_build.proofs.OneRow.{on_end}
 use Rattle.mufom_build.proofs.OneRow.{on_name, on_value, on_select, on_counter, on_bytes, on_field, on_repeat, on_start, word_of, word_tight}
 use Rattle.mufom_build.proofs.OneRow.{each_keyword, one_keyword, Payload, rest_pieces, IsTail}
 use Rattle.mufom_build.proofs.OneLine.{one_row}
@@ -111,11 +113,14 @@ spelled_no_feed (position n ∷ ps) h s (first, rest, e, (some, all), more) =
 spelled_no_feed (count n ∷ ps) h s (first, rest, e, (some, all), more) =
     piece_more s first rest e (all_weaker IsFigure NotFeed figure_no_feed first (all_figures first all)) (spelled_no_feed ps h rest more)
 spelled_no_feed (name bytes ∷ ps) h s (first, rest, e, (inside, f, spelled), more) =
-    piece_more s first rest e (subst (λ (t : Text). AllByRecursion NotFeed t) (sym f) (constant_no_feed 0x22 refl,
-        all_append NotFeed inside (0x22 ∷ []) (name_no_feed bytes inside spelled) (constant_no_feed 0x22 refl, tt))) (spelled_no_feed ps h rest more)
+    piece_more s first rest e (subst (λ (t : Text). AllByRecursion NotFeed t) (sym f) (
+      constant_no_feed 0x22 refl,
+      all_append NotFeed inside (0x22 ∷ []) (name_no_feed bytes inside spelled) (constant_no_feed 0x22 refl, tt),
+    )) (spelled_no_feed ps h rest more)
 spelled_no_feed (digits bytes ∷ ps) h s (first, rest, e, f, more) =
     piece_more s first rest e (digits_no_feed bytes first f) (spelled_no_feed ps h rest more)
-spelled_no_feed (expression n ∷ ps) h s (first, rest, e, f, more) = piece_more s first rest e (nothing_no_feed first f) (spelled_no_feed ps h rest more)
+spelled_no_feed (expression n ∷ ps) h s (first, rest, e, f, more) = piece_more s first rest e (nothing_no_feed first f)
+    (spelled_no_feed ps h rest more)
 spelled_no_feed (block n ∷ ps) h s (first, rest, e, f, more) = piece_more s first rest e (nothing_no_feed first f) (spelled_no_feed ps h rest more)
 
 -- ---- the pieces of lines
@@ -174,11 +179,13 @@ rest_feedless n on_section s = feedless-append (words (type_letters s.absolute))
     types : (a : Bool) → feedless (words (type_letters a)) ≡ true
     types true = refl
     types false = refl
+
     uses : (a : Option Purpose) → feedless (words (purpose_letter a)) ≡ true
     uses None = refl
     uses (Some purposes.Code) = refl
     uses (Some purposes.Data) = refl
     uses (Some purposes.Rom) = refl
+
     bases : (a : Option ℕ) → feedless (base_pieces a) ≡ true
     bases None = refl
     bases (Some b) = refl
@@ -225,7 +232,8 @@ dark_is_not_blank c h (inl e) = no (ap (λ n. not (n == 32) && not (n == 10)) (s
 dark_is_not_blank c h (inr e) = no (ap (λ n. not (n == 32) && not (n == 10)) (sym e) ∙ h)
 
 -- words at the front of a text keep it from beginning with a blank
-word_avoids_blank : (w : Text) (xs : List Piece) → begins_dark w ≡ true → (s more : Text) → Spells loose (words w ++ xs) s → Avoids IsBlank (s ++ more)
+word_avoids_blank : (w : Text) (xs : List Piece) → begins_dark w ≡ true → (s more : Text) → Spells loose (words w ++ xs) s
+    → Avoids IsBlank (s ++ more)
 word_avoids_blank [] xs h s more spelled b others is blank = no h
 word_avoids_blank (c ∷ w) xs h s more spelled b others is blank =
     let (tail, e) = word_first c (words w ++ xs) s spelled in
@@ -271,19 +279,21 @@ one_spelled (k, p) (j, q) body inner after trailing (m, spelled) (n, too) spaces
     let left = spells-append loose (line_of m (k, p)) xs body after spelled (tail_spelled after spaces) in
     let right = spells-append loose (line_of n (j, q)) ys inner trailing too (tail_spelled trailing others) in
     let both : Both (line_of m (k, p) ++ xs) (line_of n (j, q) ++ ys) =
-        record { text = body ++ after; left = left; right = subst (λ (l : Text). Spells loose (line_of n (j, q) ++ ys) l) (sym same) right } in
+    record { text = body ++ after; left = left; right = subst (λ (l : Text). Spells loose (line_of n (j, q) ++ ys) l) (sym same) right } in
     at_keyword k j p q m n xs ys (is_tail after) (is_tail trailing)
-        (changed (append_assoc (words (word_of k)) (rest_pieces m k p) xs) (append_assoc (words (word_of j)) (rest_pieces n j q) ys) both)
+    (changed (append_assoc (words (word_of k)) (rest_pieces m k p) xs) (append_assoc (words (word_of j)) (rest_pieces n j q) ys) both)
   where
     same_word : (k : Keyword) (p q : Payload k) (m n : ℕ) (xs ys : List Piece) → IsTail xs → IsTail ys
         → Both (words (word_of k) ++ (rest_pieces m k p ++ xs)) (words (word_of k) ++ (rest_pieces n k q ++ ys)) → ◌≡◌ {A = Row} (k, p) (k, q)
     same_word k p q m n xs ys t u both =
         let e = one_row k p q m n xs ys t u (words_both (word_of k) _ _ (word_tight k) both) in λ i. (k, e i)
+
     at_keyword : (k j : Keyword) (p : Payload k) (q : Payload j) (m n : ℕ) (xs ys : List Piece) → IsTail xs → IsTail ys
         → Both (words (word_of k) ++ (rest_pieces m k p ++ xs)) (words (word_of j) ++ (rest_pieces n j q ++ ys)) → ◌≡◌ {A = Row} (k, p) (j, q)
     at_keyword k j p q m n xs ys t u both =
-        subst (λ (i : Keyword). (q : Payload i) → Both (words (word_of k) ++ (rest_pieces m k p ++ xs)) (words (word_of i) ++ (rest_pieces n i q ++ ys))
-          → ◌≡◌ {A = Row} (k, p) (i, q)) (one_keyword k j _ _ both) (λ q. same_word k p q m n xs ys t u) q both
+        subst (λ (i : Keyword). (q : Payload i) → Both (words (word_of k) ++ (rest_pieces m k p ++ xs))
+        (words (word_of i) ++ (rest_pieces n i q ++ ys))
+        → ◌≡◌ {A = Row} (k, p) (i, q)) (one_keyword k j _ _ both) (λ q. same_word k p q m n xs ys t u) q both
 
 -- an end of a line, or of the text, ends what has no feed
 end_avoids : (rest : Text) → (rest ≡ []) ⊎ ((more : Text) × (rest ≡ 10 ∷ more)) → Avoids NotFeed rest
@@ -313,11 +323,11 @@ no_feed_within r body after (n, spelled) spaces = all_append NotFeed body after 
 one_first : (r q : Row) (text : Text) (x : FirstLine r text) (y : FirstLine q text) → (r ≡ q) × (x.rest ≡ y.rest)
 one_first r q text x y =
     let (fronts, lines) = one_run IsBlank x.before y.before (x.body ++ (x.after ++ x.rest)) (y.body ++ (y.after ++ y.rest)) x.blank y.blank
-        (sym x.is ∙ y.is) (dark_front r x.body _ x.spelled) (dark_front q y.body _ y.spelled) in
+    (sym x.is ∙ y.is) (dark_front r x.body _ x.spelled) (dark_front q y.body _ y.spelled) in
     let all : (x.body ++ x.after) ++ x.rest ≡ (y.body ++ y.after) ++ y.rest =
-        append_assoc x.body x.after x.rest ∙ lines ∙ sym (append_assoc y.body y.after y.rest) in
+    append_assoc x.body x.after x.rest ∙ lines ∙ sym (append_assoc y.body y.after y.rest) in
     let (same, rests) = one_run NotFeed (x.body ++ x.after) (y.body ++ y.after) x.rest y.rest (no_feed_within r x.body x.after x.spelled x.spaces)
-        (no_feed_within q y.body y.after y.spelled y.spaces) all (end_avoids x.rest x.end) (end_avoids y.rest y.end) in
+    (no_feed_within q y.body y.after y.spelled y.spaces) all (end_avoids x.rest x.end) (end_avoids y.rest y.end) in
     (one_spelled r q x.body y.body x.after y.after x.spelled y.spelled x.spaces y.spaces same, rests)
 
 all_after : (P : ℕ → Type 0) (s t : Text) → AllByRecursion P (s ++ t) → AllByRecursion P t
@@ -332,7 +342,8 @@ no_line (k, p) text blank x =
     let empty = not_all_blank (x.body ++ (x.after ++ x.rest)) within (dark_front (k, p) x.body (x.after ++ x.rest) x.spelled) in
     no_word (word_of k) (word_dark k) n spelled empty
   where
-    no_word : (w : Text) → begins_dark w ≡ true → (n : ℕ) → Spells loose (words w ++ rest_pieces n k p) x.body → x.body ++ (x.after ++ x.rest) ≡ [] → ⊥
+    no_word : (w : Text) → begins_dark w ≡ true → (n : ℕ) → Spells loose (words w ++ rest_pieces n k p) x.body → x.body ++ (x.after ++ x.rest) ≡ []
+        → ⊥
     no_word [] h n spelled empty = no h
     no_word (c ∷ w) h n spelled empty =
         let (tail, e) = word_first c (words w ++ rest_pieces n k p) x.body spelled in
@@ -359,14 +370,38 @@ one_ending rs qs rest other same more (inr (text, e, spelled)) (inr (second, f, 
 pub one_rows : (rs qs : List Row) (text : Text) → SpellsRows rs text → SpellsRows qs text → rs ≡ qs
 one_rows [] [] text p q = refl
 one_rows [] (q ∷ qs) text blank (before, body, after, rest, is, front, spelled, spaces, end) = absurd (no_line q text blank (record {
-  before = before; body = body; after = after; rest = rest; is = is; blank = front; spelled = spelled; spaces = spaces; end = ending_end qs rest end
+  before = before;
+  body = body;
+  after = after;
+  rest = rest;
+  is = is;
+  blank = front;
+  spelled = spelled;
+  spaces = spaces;
+  end = ending_end qs rest end;
 }))
 one_rows (r ∷ rs) [] text (before, body, after, rest, is, front, spelled, spaces, end) blank = absurd (no_line r text blank (record {
-  before = before; body = body; after = after; rest = rest; is = is; blank = front; spelled = spelled; spaces = spaces; end = ending_end rs rest end
+  before = before;
+  body = body;
+  after = after;
+  rest = rest;
+  is = is;
+  blank = front;
+  spelled = spelled;
+  spaces = spaces;
+  end = ending_end rs rest end;
 }))
 one_rows (r ∷ rs) (q ∷ qs) text (before, body, after, rest, is, front, spelled, spaces, end) (b, i, a, o, e, f, s, t, n) =
     let x : FirstLine r text = record {
-      before = before; body = body; after = after; rest = rest; is = is; blank = front; spelled = spelled; spaces = spaces; end = ending_end rs rest end
+      before = before;
+      body = body;
+      after = after;
+      rest = rest;
+      is = is;
+      blank = front;
+      spelled = spelled;
+      spaces = spaces;
+      end = ending_end rs rest end;
     } in
     let y : FirstLine q text = record { before = b; body = i; after = a; rest = o; is = e; blank = f; spelled = s; spaces = t; end = ending_end qs o n } in
     let (same, rests) = one_first r q text x y in

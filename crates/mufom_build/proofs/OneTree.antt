@@ -11,7 +11,8 @@ use Rattle.mufom_expr.specs.InfixText.{letter_text, opening_text, middle_text}
 use Rattle.mufom_text.specs.Words.{Text}
 use Rattle.mufom_build_text.specs.Pieces.{Piece, figure, byte, gap, words, infix_pieces, value_pieces, MOST_NUMBER, MOST_POSITION}
 use Rattle.mufom_build.proofs.OnePiece.{Both, both_true, no, no_space, no_figure, figure_both, expression_both}
-use Rattle.mufom_build.proofs.OneWord.{tight, spaced, clash, words_both, spaced_both, words_differ, begins_solid, solid_no_space, number_is_no_word, turned}
+use Rattle.mufom_build.proofs.OneWord.{tight, spaced, clash, words_both, spaced_both, words_differ, begins_solid, solid_no_space, number_is_no_word}
+use Rattle.mufom_build.proofs.OneWord.{turned}
 
 -- ---- what expressions that are no numbers begin with
 
@@ -149,7 +150,8 @@ abbrev begins_unlike_number : Text → Bool
 begins_unlike_number [] = false
 begins_unlike_number (c ∷ w) = not (nat_lt (digit_value c) 10)
 
-no_figure_piece : (b : Bool) (c : ℕ) (more : List Piece) → not (nat_lt (digit_value c) 10) ≡ true → no_figure ((if b then gap else byte c) ∷ more) ≡ true
+no_figure_piece : (b : Bool) (c : ℕ) (more : List Piece) → not (nat_lt (digit_value c) 10) ≡ true
+    → no_figure ((if b then gap else byte c) ∷ more) ≡ true
 no_figure_piece true c more h = refl
 no_figure_piece false c more h = h
 
@@ -210,7 +212,8 @@ variable_pieces letter place xs = append_assoc (words (letter_text letter)) (fig
 
 pub infix_no_space : (t : Tree) (xs : List Piece) → no_space (infix_pieces t ++ xs) ≡ true
 infix_no_space (number n) xs = refl
-infix_no_space (variable letter place) xs = ap no_space (variable_pieces letter place xs) ∙ solid_no_space (letter_text letter) _ (head_solid (of_letter letter))
+infix_no_space (variable letter place) xs = ap no_space (variable_pieces letter place xs)
+    ∙ solid_no_space (letter_text letter) _ (head_solid (of_letter letter))
 infix_no_space (one f a) xs = ap no_space (one_pieces f a xs) ∙ solid_no_space (opening_text (function_of_one f)) _ (head_solid (of_one f))
 infix_no_space (two f a b) xs = ap no_space (two_pieces f a b xs) ∙ solid_no_space (opening_text (function_of_two f)) _ (head_solid (of_two f))
 
@@ -251,7 +254,7 @@ same_letter l k p q xs ys g h both (inr (e, f)) = absurd (no f)
 same_letter l k p q xs ys g h both (inl e) =
     let letter : l ≡ k = cc in
     let again = subst (λ (w : Text). Both (words (letter_text l) ++ (figure MOST_POSITION p ∷ xs)) (words w ++ (figure MOST_POSITION q ∷ ys)))
-        (ap letter_text (sym letter)) both in
+    (ap letter_text (sym letter)) both in
     let numbers = words_both (letter_text l) (figure MOST_POSITION p ∷ xs) (figure MOST_POSITION q ∷ ys) (head_tight (of_letter l)) again in
     let (place, rest) = figure_both MOST_POSITION p MOST_POSITION q xs ys g h numbers in
     (ap (λ m. variable m p) letter ∙ ap (λ n. variable k n) place, rest)
@@ -263,9 +266,9 @@ closed_both xs ys both = words_both (codes ")") xs ys refl both
 -- two functions of one operand
 same_one : (f k : OneOperand) (a b : Tree) (xs ys : List Piece)
     → (Both (infix_pieces a ++ (words (codes ")") ++ xs)) (infix_pieces b ++ (words (codes ")") ++ ys))
-      → SameTree a b (words (codes ")") ++ xs) (words (codes ")") ++ ys))
+    → SameTree a b (words (codes ")") ++ xs) (words (codes ")") ++ ys))
     → Both (words (opening_text (function_of_one f)) ++ (infix_pieces a ++ (words (codes ")") ++ xs)))
-      (words (opening_text (function_of_one k)) ++ (infix_pieces b ++ (words (codes ")") ++ ys)))
+    (words (opening_text (function_of_one k)) ++ (infix_pieces b ++ (words (codes ")") ++ ys)))
     → AreAlike (of_one f) (of_one k) → SameTree (one f a) (one k b) xs ys
 same_one f k a b xs ys operand both (inr (e, g)) = absurd (no g)
 same_one f k a b xs ys operand both (inl e) =
@@ -273,7 +276,7 @@ same_one f k a b xs ys operand both (inl e) =
     let left = infix_pieces a ++ (words (codes ")") ++ xs) in
     let right = infix_pieces b ++ (words (codes ")") ++ ys) in
     let again = subst (λ (w : Text). Both (words (opening_text (function_of_one f)) ++ left) (words w ++ right))
-        (ap (λ g. opening_text (function_of_one g)) (sym function)) both in
+    (ap (λ g. opening_text (function_of_one g)) (sym function)) both in
     let (tree, rest) = operand (words_both (opening_text (function_of_one f)) left right (head_tight (of_one f)) again) in
     (ap (λ g. one g a) function ∙ ap (λ t. one k t) tree, closed_both xs ys rest)
 
@@ -287,9 +290,9 @@ FirstOperand f k a b c d xs ys = Both (infix_pieces a ++ after_first f b xs) (in
 
 same_two : (f k : TwoOperands) (a b c d : Tree) (xs ys : List Piece) → FirstOperand f k a b c d xs ys
     → (Both (infix_pieces b ++ (words (codes ")") ++ xs)) (infix_pieces d ++ (words (codes ")") ++ ys))
-      → SameTree b d (words (codes ")") ++ xs) (words (codes ")") ++ ys))
+    → SameTree b d (words (codes ")") ++ xs) (words (codes ")") ++ ys))
     → Both (words (opening_text (function_of_two f)) ++ (infix_pieces a ++ after_first f b xs))
-      (words (opening_text (function_of_two k)) ++ (infix_pieces c ++ after_first k d ys))
+    (words (opening_text (function_of_two k)) ++ (infix_pieces c ++ after_first k d ys))
     → AreAlike (of_two f) (of_two k) → SameTree (two f a b) (two k c d) xs ys
 same_two f k a b c d xs ys first second both (inr (e, clashing)) =
     let left = infix_pieces a ++ after_first f b xs in
@@ -302,13 +305,14 @@ same_two f k a b c d xs ys first second both (inl e) =
     let left = infix_pieces a ++ after_first f b xs in
     let right = infix_pieces c ++ after_first k d ys in
     let again = subst (λ (w : Text). Both (words (opening_text (function_of_two f)) ++ left) (words w ++ right))
-        (ap (λ g. opening_text (function_of_two g)) (sym function)) both in
+    (ap (λ g. opening_text (function_of_two g)) (sym function)) both in
     let (tree, rest) = first (words_both (opening_text (function_of_two f)) left right (head_tight (of_two f)) again) in
     let more = infix_pieces b ++ (words (codes ")") ++ xs) in
     let other = infix_pieces d ++ (words (codes ")") ++ ys) in
     let middles = subst (λ (w : Text). Both (words (middle_text (function_of_two f)) ++ more) (words w ++ other))
-        (ap (λ g. middle_text (function_of_two g)) (sym function)) rest in
-    let operands = spaced_both (middle_text (function_of_two f)) more other (middle_spaced (of_two f)) (infix_no_space b _) (infix_no_space d _) middles in
+    (ap (λ g. middle_text (function_of_two g)) (sym function)) rest in
+    let operands = spaced_both (middle_text (function_of_two f)) more other (middle_spaced (of_two f)) (infix_no_space b _)
+    (infix_no_space d _) middles in
     let (last, end) = second operands in
     (ap (λ g. two g a b) function ∙ ap (λ t. two k t b) tree ∙ ap (λ t. two k c t) last, closed_both xs ys end)
 
@@ -318,14 +322,19 @@ tree_both (number m) (number n) xs ys g h both =
     let (same, rest) = figure_both MOST_NUMBER m MOST_NUMBER n xs ys g h both in (ap number same, rest)
 tree_both (number m) (variable l p) xs ys g h both =
     absurd (number_is_no_head MOST_NUMBER m (of_letter l) xs _ (changed {xs = figure MOST_NUMBER m ∷ xs} refl (variable_pieces l p ys) both))
-tree_both (number m) (one f a) xs ys g h both = absurd (number_is_no_head MOST_NUMBER m (of_one f) xs _ (changed {xs = figure MOST_NUMBER m ∷ xs} refl (one_pieces f a ys) both))
-tree_both (number m) (two f a b) xs ys g h both = absurd (number_is_no_head MOST_NUMBER m (of_two f) xs _ (changed {xs = figure MOST_NUMBER m ∷ xs} refl (two_pieces f a b ys) both))
+tree_both (number m) (one f a) xs ys g h both = absurd (number_is_no_head MOST_NUMBER m (of_one f) xs _
+    (changed {xs = figure MOST_NUMBER m ∷ xs} refl (one_pieces f a ys) both))
+tree_both (number m) (two f a b) xs ys g h both = absurd (number_is_no_head MOST_NUMBER m (of_two f) xs _
+    (changed {xs = figure MOST_NUMBER m ∷ xs} refl (two_pieces f a b ys) both))
 tree_both (variable l p) (number n) xs ys g h both =
-    absurd (number_is_no_head MOST_NUMBER n (of_letter l) ys _ (turned _ (figure MOST_NUMBER n ∷ ys) (changed {ys = figure MOST_NUMBER n ∷ ys} (variable_pieces l p xs) refl both)))
+    absurd (number_is_no_head MOST_NUMBER n (of_letter l) ys _ (turned _ (figure MOST_NUMBER n ∷ ys)
+    (changed {ys = figure MOST_NUMBER n ∷ ys} (variable_pieces l p xs) refl both)))
 tree_both (one f a) (number n) xs ys g h both =
-    absurd (number_is_no_head MOST_NUMBER n (of_one f) ys _ (turned _ (figure MOST_NUMBER n ∷ ys) (changed {ys = figure MOST_NUMBER n ∷ ys} (one_pieces f a xs) refl both)))
+    absurd (number_is_no_head MOST_NUMBER n (of_one f) ys _ (turned _ (figure MOST_NUMBER n ∷ ys)
+    (changed {ys = figure MOST_NUMBER n ∷ ys} (one_pieces f a xs) refl both)))
 tree_both (two f a b) (number n) xs ys g h both =
-    absurd (number_is_no_head MOST_NUMBER n (of_two f) ys _ (turned _ (figure MOST_NUMBER n ∷ ys) (changed {ys = figure MOST_NUMBER n ∷ ys} (two_pieces f a b xs) refl both)))
+    absurd (number_is_no_head MOST_NUMBER n (of_two f) ys _ (turned _ (figure MOST_NUMBER n ∷ ys)
+    (changed {ys = figure MOST_NUMBER n ∷ ys} (two_pieces f a b xs) refl both)))
 tree_both (variable l p) (one f a) xs ys g h both = absurd (apart (of_letter l) (of_one f) _ _ (letter_is_no_one l f) (λ e. no e)
     (changed (variable_pieces l p xs) (one_pieces f a ys) both))
 tree_both (variable l p) (two f a b) xs ys g h both = absurd (apart (of_letter l) (of_two f) _ _ (letter_is_no_two l f) (λ e. no e)
@@ -347,9 +356,9 @@ tree_both (one f a) (one k b) xs ys g h both =
 tree_both (two f a b) (two k c d) xs ys g h both =
     let both' = changed (two_pieces f a b xs) (two_pieces k c d ys) both in
     same_two f k a b c d xs ys
-        (tree_both a c (words (middle_text (function_of_two f)) ++ (infix_pieces b ++ (words (codes ")") ++ xs)))
-            (words (middle_text (function_of_two k)) ++ (infix_pieces d ++ (words (codes ")") ++ ys))) (middle_no_figure f _) (middle_no_figure k _))
-        (tree_both b d (words (codes ")") ++ xs) (words (codes ")") ++ ys) refl refl) both' (alike (of_two f) (of_two k) _ _ both')
+    (tree_both a c (words (middle_text (function_of_two f)) ++ (infix_pieces b ++ (words (codes ")") ++ xs)))
+    (words (middle_text (function_of_two k)) ++ (infix_pieces d ++ (words (codes ")") ++ ys))) (middle_no_figure f _) (middle_no_figure k _))
+    (tree_both b d (words (codes ")") ++ xs) (words (codes ")") ++ ys) refl refl) both' (alike (of_two f) (of_two k) _ _ both')
 
 -- an expression at the end of a line
 pub value_both : (t u : Tree) → Both (value_pieces t) (value_pieces u) → t ≡ u

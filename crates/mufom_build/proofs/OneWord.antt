@@ -42,8 +42,8 @@ words_both [] xs ys h both = both
 words_both (c ∷ w) xs ys h both =
     let (here, more) = both_true (if c == 32 then begins_solid w else true) (tight w) h in
     words_both w xs ys more (word_both (c == 32) c (words w ++ xs) (words w ++ ys)
-        (λ e. solid_no_space w xs (under (c == 32) (begins_solid w) here e))
-        (λ e. solid_no_space w ys (under (c == 32) (begins_solid w) here e)) both)
+    (λ e. solid_no_space w xs (under (c == 32) (begins_solid w) here e))
+    (λ e. solid_no_space w ys (under (c == 32) (begins_solid w) here e)) both)
 
 -- the words have no two spaces in a row, but may end with one
 abbrev begins_free : Text → Bool
@@ -65,8 +65,8 @@ spaced_both [] xs ys h left right both = both
 spaced_both (c ∷ w) xs ys h left right both =
     let (here, more) = both_true (if c == 32 then begins_free w else true) (spaced w) h in
     spaced_both w xs ys more left right (word_both (c == 32) c (words w ++ xs) (words w ++ ys)
-        (λ e. free_no_space w xs (under (c == 32) (begins_free w) here e) left)
-        (λ e. free_no_space w ys (under (c == 32) (begins_free w) here e) right) both)
+    (λ e. free_no_space w xs (under (c == 32) (begins_free w) here e) left)
+    (λ e. free_no_space w ys (under (c == 32) (begins_free w) here e) right) both)
 
 -- ---- words that differ
 
@@ -113,8 +113,8 @@ words_differ (c ∷ w) (d ∷ v) xs ys h both = by_byte (words_differ w v xs ys)
         let same = eqb-true c d e in
         let again = subst (λ (x : ℕ). Both (word_piece c ∷ (words w ++ xs)) (word_piece x ∷ (words v ++ ys))) (sym same) both in
         rest_differs rest (word_both (c == 32) c (words w ++ xs) (words v ++ ys)
-            (λ f. solid_no_space w xs (under (c == 32) (begins_solid w) left f))
-            (λ f. solid_no_space v ys (under (c == 32) (begins_solid v) right f)) again)
+        (λ f. solid_no_space w xs (under (c == 32) (begins_solid w) left f))
+        (λ f. solid_no_space v ys (under (c == 32) (begins_solid v) right f)) again)
 
 -- nothing is no word
 pub nothing_is_no_word : (c : ℕ) (xs : List Piece) → Both [] (word_piece c ∷ xs) → ⊥
@@ -123,7 +123,8 @@ nothing_is_no_word c xs both =
     let h : [] ≡ c ∷ s = sym both.left ∙ e in cc
 
 -- a number is no word
-pub number_is_no_word : (most n c : ℕ) (xs ys : List Piece) → not (nat_lt (digit_value c) 10) ≡ true → Both (figure most n ∷ xs) (word_piece c ∷ ys) → ⊥
+pub number_is_no_word : (most n c : ℕ) (xs ys : List Piece) → not (nat_lt (digit_value c) 10) ≡ true → Both (figure most n ∷ xs) (word_piece c ∷ ys)
+    → ⊥
 number_is_no_word most n c xs ys h both =
     let (first, rest, is, (numeral, value), more) = both.left in
     let (x, tail, begins, small) = numeral_first first numeral in
@@ -139,7 +140,8 @@ turned xs ys both = record { text = both.text; left = both.right; right = both.l
 pub past_gap : {xs ys : List Piece} → Both (gap ∷ xs) (gap ∷ ys) → no_space xs ≡ true → no_space ys ≡ true → Both xs ys
 past_gap {xs} {ys} both g h = gap_both xs ys g h both
 
-pub past_figure : {most m other n : ℕ} {xs ys : List Piece} → Both (figure most m ∷ xs) (figure other n ∷ ys) → no_figure xs ≡ true → no_figure ys ≡ true
+pub past_figure : {most m other n : ℕ} {xs ys : List Piece} → Both (figure most m ∷ xs) (figure other n ∷ ys) → no_figure xs ≡ true
+    → no_figure ys ≡ true
     → (m ≡ n) × Both xs ys
 past_figure {most} {m} {other} {n} {xs} {ys} both g h = figure_both most m other n xs ys g h both
 

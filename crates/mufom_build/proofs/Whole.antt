@@ -18,7 +18,8 @@ use Rattle.mufom_build.specs.Titles.{title_pieces}
 pub built : (text start end : Text) (parts m : Parts) → IsBlankFront text start → ReadsLines (listing_lines parts) start end → end ≡ [] → m ≡ parts
     → IsValid m → IsMade m → Build text m
 built text start end parts m blank read ended same valid made = record {
-  listed = subst (λ (p : Parts). SpellsLines exact (listing_lines p) text) (sym same) (whole_text (listing_lines parts) text start end blank read ended);
+  listed = subst (λ (p : Parts). SpellsLines exact (listing_lines p) text) (sym same)
+      (whole_text (listing_lines parts) text start end blank read ended);
   made = made;
   valid = valid;
 }
@@ -36,5 +37,5 @@ pub titled : (t : Title) (maus : ℕ) (order : Order) {a b : Text} → maus ≡ 
     → ReadsLines (title_pieces (record { name = t.name; processor = t.processor; maus = maus; order = order }) ∷ []) a b
 titled t maus order {a} {b} p q read =
     let e : t ≡ record { name = t.name; processor = t.processor; maus = maus; order = order } =
-        λ i. record { name = t.name; processor = t.processor; maus = (sym p) i; order = (sym q) i } in
+    λ i. record { name = t.name; processor = t.processor; maus = (sym p) i; order = (sym q) i } in
     subst (λ (t : Title). ReadsLines (title_pieces t ∷ []) a b) e read

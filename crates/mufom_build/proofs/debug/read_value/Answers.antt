@@ -8,6 +8,7 @@ returns-clause-reads c = record {
   mark = value_mark c.in_ok-name.name c.in_ok-value.value;
   added = c.in_ok-value-2.ensures.marks;
   kept = c.in_ok-value-2.ensures.kept;
-  lines = whole_line (by_word 118 _) (c.in_ok-words.ensures.reads ▸ c.in_ok-name.ensures.reads ▸ c.in_ok-words-2.ensures.reads ▸ c.in_ok-value.ensures.reads)
+  lines = whole_line (by_word 118 _) (c.in_ok-words.ensures.reads ▸ c.in_ok-name.ensures.reads ▸ c.in_ok-words-2.ensures.reads
+      ▸ c.in_ok-value.ensures.reads)
       c.in_ok-end_line.ensures.right c.in_ok-end_line.ensures.ends;
 }

@@ -7,4 +7,5 @@ pub returns-clause-loosely : goal.returns-clause-loosely
 returns-clause-loosely c = one_listing
 
 pub returns-clause-exactly : goal.returns-clause-exactly
-returns-clause-exactly c = λ text m n p q. one_listing text m n (loose_lines (listing_lines m) text p.listed) (loose_lines (listing_lines n) text q.listed)
+returns-clause-exactly c = λ text m n p q. one_listing text m n (loose_lines (listing_lines m) text p.listed)
+    (loose_lines (listing_lines n) text q.listed)

@@ -4,5 +4,6 @@ use Rattle.mufom_build.proofs.module.read_start.Goals as goal
 
 pub returns : goal.returns
 returns c = record {
-  lines = whole_line (by_word 115 _) (c.in_ok-words.ensures.reads ▸ c.in_ok-value.ensures.reads) c.in_ok-end_line.ensures.right c.in_ok-end_line.ensures.ends;
+  lines = whole_line (by_word 115 _)
+      (c.in_ok-words.ensures.reads ▸ c.in_ok-value.ensures.reads) c.in_ok-end_line.ensures.right c.in_ok-end_line.ensures.ends;
 }
