@@ -403,6 +403,16 @@ one_rows (r ∷ rs) (q ∷ qs) text (before, body, after, rest, is, front, spell
       spaces = spaces;
       end = ending_end rs rest end;
     } in
-    let y : FirstLine q text = record { before = b; body = i; after = a; rest = o; is = e; blank = f; spelled = s; spaces = t; end = ending_end qs o n } in
+    let y : FirstLine q text = record {
+      before = b;
+      body = i;
+      after = a;
+      rest = o;
+      is = e;
+      blank = f;
+      spelled = s;
+      spaces = t;
+      end = ending_end qs o n;
+    } in
     let (same, rests) = one_first r q text x y in
     ap (λ z. z ∷ rs) same ∙ ap (λ l. q ∷ l) (one_ending rs qs rest o rests (one_rows rs qs) end n)

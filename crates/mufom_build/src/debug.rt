@@ -1,9 +1,10 @@
 //! The lines of the debug items of a module.
 
-ghost use Rattle.std.specs.Prelude.{◌≡◌, ◌<◌, ◌≤◌, ◌+◌, ◌++◌, ◌∷◌, [], Some, true, false, length, IfOk, OnOk};
+ghost use Rattle.std.specs.Prelude.{◌≡◌, ◌<◌, ◌≤◌, ◌+◌, ◌++◌, ◌∷◌, [], Some, true, false, length, IfOk, OnOk, nat_le, if◌then◌else◌};
 ghost use Rattle.mufom_debug.specs.Marks.{kind_number, marks_of};
 ghost use Rattle.mufom_build_text.specs.Pieces.{block};
 ghost use Rattle.mufom_build.specs.Lines.{head_pieces, scope_pieces, part_pieces, mark_lines};
+ghost use Rattle.mufom_build_text.specs.Errors.{error_at, first_error};
 ghost use Rattle.mufom_build_text.specs.Reads.{Reads, ReadsLines};
 ghost use Rattle.mufom_build.specs.Marked.{ReadsMark, end_value_pieces};
 ghost use Rattle.mufom_build.specs.Outlines.{IsKept};
@@ -23,6 +24,7 @@ const MOST_OPEN: usize = 32;
 fn check_depth(cursor: &mut Cursor, depth: usize)
     ensures reads { Reads (block (depth + 1) ∷ []) cursor.old cursor.new }
     ensures rest { cursor.new.rest ≡ cursor.old.rest }
+    ensures noted { cursor.new.error ≡ (if nat_le 32 depth then first_error cursor.old.error (error_at cursor.old.column BuildReason.Deep) else cursor.old.error) }
 {
     if depth >= MOST_OPEN {
         let column = cursor.column();

@@ -1,5 +1,5 @@
 -- What is read between two places of a text.
-use Rattle.std.specs.Prelude.{◌≡◌, ℕ, ◌<◌, ◌≤◌, ◌^◌, List, [], ◌∷◌, ◌++◌, length, Option, Some, None, MatchOption, ◌⊎◌, nat_le, if◌then◌else◌}
+use Rattle.std.specs.Prelude.{◌≡◌, ℕ, ◌<◌, ◌≤◌, ◌^◌, List, [], ◌∷◌, ◌++◌, length, Option, None, MatchOption, ◌⊎◌}
 use Rattle.std.specs.Str.Parse.{IsNumeral, digits_value}
 use Rattle.mufom_text.specs.Words.{Text}
 use Rattle.mufom_build_text.specs.declared.cursor.LineError.{LineError}
@@ -19,11 +19,6 @@ beginning text = record { rest = text; line = 1; column = 1; error = None }
 -- the line has no error before the place
 abbrev pub IsRight : Place → Type 0
 IsRight place = place.error ≡ None
-
--- Of two errors of a line the one at the lesser column, and of two at one column the one that was noted before.
-abbrev pub first_error : Option LineError → LineError → Option LineError
-first_error None error = Some error
-first_error (Some first) error = if nat_le first.column error.column then Some first else Some error
 
 -- some spaces, or none, are before the rest
 pub record IsSpaceFront (text rest : Text) : Type 0 where
