@@ -6,9 +6,20 @@
 //! [`listings_build`]: the listing of each module, as it is printed, is a text from which that module is built.
 #![tactic(auto)]
 
+mod debug;
 mod laws;
+mod loads;
+mod module;
+mod names;
+mod outline;
 mod refusal;
+mod sections;
+#[cfg(test)]
+mod tests;
 
-pub use laws::{built_texts_have_the_shape, listings_build};
+pub use laws::{
+    built_texts_have_the_shape, defects_build_nothing, listings_build, texts_list_one_module,
+};
+pub use module::build;
 pub use mufom_build_text::BuildReason;
 pub use refusal::BuildRefusal;
