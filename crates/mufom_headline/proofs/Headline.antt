@@ -88,7 +88,7 @@ module _ (files : List NamedFile) (call : Call) (result : Outcome) (c : Command)
   work : work_of c.verb files c ≡ linking_of outputs files c
   work = ap (λ (v : Verb). work_of v files c) of_verb ∙ works
 
-  -- a list of whose location this is put out, which is what is put out of that of the flat list
+  -- a list of which `target` puts out what is put out of the flat list
   module _ (list : List Parts) (valid : AreValid list) (links : link_answer flat ≡ link_answer list)
       (alike : IsSameWork (outputs accepts.modules c plan flat) (locating_kept target c plan list)) where
     list-output : (o : Output) → work_of c.verb files c (gives o) → (link_answer list ≡ None) × locating_kept target c plan list (gives o)
