@@ -1,5 +1,5 @@
 -- The result of `locate`, `dump` and `map` is that of locating the flat list, and each list from which that was linked in stages.
-use Rattle.std.proofs.Common.{◌≡◌, ◌⊎◌, ℕ, List, Option, Some, None, Result, refl, sym, ap, subst, ◌∙◌, inl, inr}
+use Rattle.std.proofs.Common.{◌≡◌, ◌⊎◌, List, Option, Some, None, Result, refl, sym, ap, subst, ◌∙◌, inl, inr}
 use Rattle.mufom_host.specs.World.{HoldBytes, NamedFile}
 use Rattle.mufom_words.specs.declared.command.Command.{Command}
 use Rattle.mufom_words.specs.declared.command.Verb.{Verb}
@@ -88,7 +88,7 @@ module _ (files : List NamedFile) (call : Call) (result : Outcome) (c : Command)
   work : work_of c.verb files c ≡ linking_of outputs files c
   work = ap (λ (v : Verb). work_of v files c) of_verb ∙ works
 
-  -- a list of whose location this is put out, which is what is put out of that of the flat list
+  -- a list of which `target` puts out what is put out of the flat list
   module _ (list : List Parts) (valid : AreValid list) (links : link_answer flat ≡ link_answer list)
       (alike : IsSameWork (outputs accepts.modules c plan flat) (locating_kept target c plan list)) where
     list-output : (o : Output) → work_of c.verb files c (gives o) → (link_answer list ≡ None) × locating_kept target c plan list (gives o)

@@ -1,5 +1,5 @@
 -- What a run of `link` results in, and what the work of a command is whose files were linked in stages.
-use Rattle.std.specs.Prelude.{◌≡◌, ◌↔◌, ℕ, List, [], ◌∷◌, Some, None, Ok, unwrap_or}
+use Rattle.std.specs.Prelude.{◌≡◌, ◌↔◌, ℕ, List, [], ◌∷◌, None, Ok, unwrap_or}
 use Rattle.mufom_host.specs.World.{NamedFile, HoldBytes}
 use Rattle.mufom_words.specs.declared.command.Command.{Command}
 use Rattle.mufom_words.specs.declared.command.Verb.TheVariants as verb
