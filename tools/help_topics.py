@@ -89,7 +89,7 @@ def missing():
     for before, name in sorted(errors, key=str):
         if before and not any(re.match(rf"{before}{name}\b", cell) for cell in cells):
             yield f"no row: {before}{name}"
-        shown = f"refused: file N at PLACE: {name}" if before == "" else f"{before or ''}{name}"
+        shown = f"refused: file N at OFFSET: {name}" if before == "" else f"{before or ''}{name}"
         if name != "FileLimit" and shown not in known.get(name, shown):
             yield f"the topic does not show its line: {shown}"
     commands = set(re.findall(r'\bname = codes "(\w+)"', read("crates/mufom_words/specs/Options.antt"))) | OTHER_COMMANDS

@@ -15,7 +15,7 @@ use std::process::ExitCode;
 /// The status where a word is not UTF-8, or there are too many: as for arguments that are not a command.
 const BAD_WORDS: u8 = 2;
 
-/// The status where there is no memory for the arguments.
+/// The status if memory runs out for the arguments.
 const NO_MEMORY: u8 = 5;
 
 // The command line's words without the program's name, or the status where they can't be had.

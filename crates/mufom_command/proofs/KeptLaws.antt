@@ -1,5 +1,5 @@
--- What is kept of a list: a list without a defect that can be linked, and the location of what remains of the link of the list.
-use Rattle.std.proofs.Common.{◌≡◌, ◌≢◌, ◌⊎◌, ℕ, zero, suc, ◌<◌, Bool, true, false, List, [], ◌∷◌, ◌++◌, length, map, slice_get, Option, Some, None}
+-- What is kept of a list: a list without a defect that can be linked, which is what is kept of the link of the list.
+use Rattle.std.proofs.Common.{◌≡◌, ◌≢◌, ℕ, zero, suc, ◌<◌, Bool, true, false, List, [], ◌∷◌, ◌++◌, length, map, slice_get, Option, Some, None}
 use Rattle.std.proofs.Common.{refl, sym, ap, subst, ◌∙◌, arith, inl, inr}
 use Rattle.std.proofs.lemmas.List.{append-nil}
 use Rattle.mufom_names.specs.declared.name.Public.{Public}
@@ -17,15 +17,16 @@ use Rattle.mufom_meaning.specs.Staging.{AreValid}
 use Rattle.mufom_meaning.proofs.facts.Linkable.{no_link_answer_is_linkable}
 use Rattle.mufom_meaning.proofs.staging.Staging.{joined_stands_for}
 use Rattle.mufom_image.proofs.ReadyLaws.{linkable-alone}
-use Rattle.mufom_prune.specs.Pruned.{IsPruned, Remains, new_public, positions_of, remaining, remains}
+use Rattle.mufom_prune.specs.declared.refusal.PruneRefusal.{PruneRefusal}
+use Rattle.mufom_prune.specs.declared.refusal.PruneRefusal.TheVariants as prune
+use Rattle.mufom_prune.specs.Pruned.{IsPruned, Remains, new_public, positions_of, remaining, remains, without_others}
+use Rattle.mufom_prune.specs.Refusals.{IsRefusalOf}
 use Rattle.mufom_prune.proofs.PrunedValid.{pruned_valid}
 use Rattle.mufom_groups.specs.Linked.{first_name}
 use Rattle.mufom_groups.specs.Work.{Reached, gives, stops}
 use Rattle.mufom_command.specs.Stop.{Stop, keep_unknown}
-use Rattle.mufom_command.specs.Commands.{kept_of, kept_unless, located}
-use Rattle.mufom_command.specs.declared.outcome.Outcome.TheVariants as outcome
-use Rattle.mufom_command.specs.declared.outcome.Refusal.TheVariants as refusal
-use Rattle.mufom_command.specs.WorkEnds.{EndsAt, own_location, rest_location}
+use Rattle.mufom_command.specs.Commands.{Kept, kept_of, kept_unless, located, rest_of}
+use Rattle.mufom_command.specs.WorkEnds.{EndsAt, outcome_of_prune, own_kept, own_location, own_rest}
 
 -- ---- the names of what remains
 
@@ -89,73 +90,78 @@ joined-distinct M flat valid links joined =
 -- ---- what is kept
 
 module _ (name : List ℕ) (flat : List Parts) where
-  kept-rest : (b : Bool) (kept : List Parts) → kept_unless b name flat (gives kept)
-      → (M : Parts) × (rest : Parts) × IsValid M × IsJoined M flat (first_name flat) × IsPruned rest M name × (kept ≡ rest ∷ [])
+  kept-rest : (b : Bool) (kept : Kept) → kept_unless b name flat (gives kept)
+      → (M : Parts) × (rest : Parts) × IsValid M × IsJoined M flat (first_name flat) × IsPruned rest M name × (kept.modules ≡ rest ∷ [])
   kept-rest false kept is = absurd is
-  kept-rest true kept (M, (valid, joined), (rest, pruned, same)) = (M, rest, valid, joined, pruned, same)
+  kept-rest true kept (M, (valid, joined), (marks, is_kept, same)) = (
+    M,
+    without_others M (remains M marks),
+    valid,
+    joined,
+    record { marks = marks; kept = is_kept; is = refl },
+    ap (λ (k : Kept). k.modules) same,
+  )
 
 -- it has no defect
-pub kept-valid : (keep : Option (List ℕ)) (flat kept : List Parts) → AreValid flat → kept_of keep flat (gives kept) → AreValid kept
-kept-valid None flat kept valid is = subst AreValid (sym is) valid
+pub kept-valid : (keep : Option (List ℕ)) (flat : List Parts) (kept : Kept) → AreValid flat → kept_of keep flat (gives kept) → AreValid kept.modules
+kept-valid None flat kept valid is = subst (λ (k : Kept). AreValid k.modules) (sym is) valid
 kept-valid (Some name) flat kept valid is =
     let (M, rest, sound, joined, pruned, same) = kept-rest name flat (has_name (public_names flat) name) kept is in
     subst AreValid (sym same) (pruned-valid rest M name pruned sound, tt)
 
 -- it is not empty
-pub kept-some : (keep : Option (List ℕ)) (flat kept : List Parts) → flat ≢ [] → kept_of keep flat (gives kept) → kept ≢ []
-kept-some None flat kept some is = subst (λ (l : List Parts). l ≢ []) (sym is) some
+pub kept-some : (keep : Option (List ℕ)) (flat : List Parts) (kept : Kept) → flat ≢ [] → kept_of keep flat (gives kept) → kept.modules ≢ []
+kept-some None flat kept some is = subst (λ (k : Kept). k.modules ≢ []) (sym is) some
 kept-some (Some name) flat kept some is =
     let (M, rest, sound, joined, pruned, same) = kept-rest name flat (has_name (public_names flat) name) kept is in
     subst (λ (l : List Parts). l ≢ []) (sym same) (λ none. cc)
 
 -- and it can be linked
-pub kept-links : (keep : Option (List ℕ)) (flat kept : List Parts) → AreValid flat → link_answer flat ≡ None → kept_of keep flat (gives kept)
-    → link_answer kept ≡ None
-kept-links None flat kept valid links is = subst (λ (l : List Parts). link_answer l ≡ None) (sym is) links
+pub kept-links : (keep : Option (List ℕ)) (flat : List Parts) (kept : Kept) → AreValid flat → link_answer flat ≡ None → kept_of keep flat (gives kept)
+    → link_answer kept.modules ≡ None
+kept-links None flat kept valid links is = subst (λ (k : Kept). link_answer k.modules ≡ None) (sym is) links
 kept-links (Some name) flat kept valid links is =
     let (M, rest, sound, joined, pruned, same) = kept-rest name flat (has_name (public_names flat) name) kept is in
     subst (λ (l : List Parts). link_answer l ≡ None) (sym same)
     (linkable-alone rest (pruned-names rest M name pruned (joined-distinct M flat valid links joined)))
 
--- ---- the location of what remains of the link
+-- ---- what is kept of the link of a list for a name
 
--- what a location of what is kept comes to, by what is kept
-abbrev pub IsKeptLocation : Option (List ℕ) → List Parts → Plan → Reached Stop LocatedParts → Type 0
-IsKeptLocation keep flat plan (gives r) = (kept : List Parts) × kept_of keep flat (gives kept) × located plan kept (gives r)
-IsKeptLocation keep flat plan (stops s) = kept_of keep flat (stops s) ⊎ ((kept : List Parts) × kept_of keep flat (gives kept) × located plan kept (stops s))
+module _ (name : List ℕ) (M : Parts) (flat : List Parts) (sound : IsValid M) (joined : IsJoined M flat (first_name flat)) where
+  rest-is : (b : Bool) → has_name (public_names flat) name ≡ b → (x : Reached Stop Kept) → own_rest b name M x → kept_of (Some name) flat x
+  rest-is false same x is = subst (λ (b : Bool). kept_unless b name flat x) (sym same) is
+  rest-is true same (gives kept) is = subst (λ (b : Bool). kept_unless b name flat (gives kept)) (sym same) (M, (sound, joined), is)
+  rest-is true same (stops s) is = subst (λ (b : Bool). kept_unless b name flat (stops s)) (sym same) (inr (M, (sound, joined), is))
 
-module _ (name : List ℕ) (M : Parts) (flat : List Parts) (plan : Plan) (sound : IsValid M) (joined : IsJoined M flat (first_name flat)) where
-  rest-is : (b : Bool) → has_name (public_names flat) name ≡ b → (x : Reached Stop LocatedParts) → rest_location b name plan M x
-      → IsKeptLocation (Some name) flat plan x
-  rest-is false same (gives r) is = absurd is
-  rest-is false same (stops s) is = inl (subst (λ (b : Bool). kept_unless b name flat (stops s)) (sym same) is)
-  rest-is true same (gives r) (rest, pruned, there) =
-      (rest ∷ [], subst (λ (b : Bool). kept_unless b name flat (gives (rest ∷ []))) (sym same) (M, (sound, joined), (rest, pruned, refl)), there)
-  rest-is true same (stops s) (inl never) = absurd never
-  rest-is true same (stops s) (inr (rest, pruned, there)) =
-      inr (rest ∷ [], subst (λ (b : Bool). kept_unless b name flat (gives (rest ∷ []))) (sym same) (M, (sound, joined), (rest, pruned, refl)), there)
-
-  pub rest-located : AreValid flat → (x : Reached Stop LocatedParts) → own_location (Some name) plan M x → IsKeptLocation (Some name) flat plan x
-  rest-located valid x is =
+  -- is what is kept of the list
+  pub rest-kept : AreValid flat → (x : Reached Stop Kept) → own_kept (Some name) M x → kept_of (Some name) flat x
+  rest-kept valid x is =
       let names : public_names (M ∷ []) ≡ public_names flat = joined-names M flat valid joined in
-      rest-is (has_name (public_names flat) name) refl x (subst (λ (ns : List (List ℕ)). rest_location (has_name ns name) name plan M x) names is)
+      rest-is (has_name (public_names flat) name) refl x (subst (λ (ns : List (List ℕ)). own_rest (has_name ns name) name M x) names is)
 
--- what the location of what remains comes to is what the module comes to for the name
-module _ (name : List ℕ) (plan : Plan) (rest M : Parts) (pruned : IsPruned rest M name) (known : has_name (public_names (M ∷ [])) name ≡ true) where
-  pub rest-gives : (r : LocatedParts) → located plan (rest ∷ []) (gives r) → own_location (Some name) plan M (gives r)
-  rest-gives r there = subst (λ (b : Bool). rest_location b name plan M (gives r)) (sym known) (rest, pruned, there)
+-- ---- what is kept of a module for a name
 
-  pub rest-stops : (s : Stop) → located plan (rest ∷ []) (stops s) → own_location (Some name) plan M (stops s)
-  rest-stops s there = subst (λ (b : Bool). rest_location b name plan M (stops s)) (sym known) (inr (rest, pruned, there))
+module _ (name : List ℕ) (rest M : Parts) (pruned : IsPruned rest M name) (known : has_name (public_names (M ∷ [])) name ≡ true) where
+  abbrev kept_rest : Kept
+  kept_rest = rest_of M (remains M pruned.marks)
+
+  pub rest-own : own_kept (Some name) M (gives (rest_of M (remains M pruned.marks)))
+  rest-own = subst (λ (b : Bool). own_rest b name M (gives kept_rest)) (sym known) (pruned.marks, pruned.kept, refl)
+
+  -- what the location of what remains comes to is what the module comes to for the name
+  pub rest-gives : (plan : Plan) (r : LocatedParts) → located plan (rest ∷ []) (gives r) → own_location (Some name) plan M (gives r)
+  rest-gives plan r there = (kept_rest, rest-own, subst (λ (m : Parts). located plan (m ∷ []) (gives r)) pruned.is there)
+
+  pub rest-stops : (plan : Plan) (s : Stop) → located plan (rest ∷ []) (stops s) → own_location (Some name) plan M (stops s)
+  rest-stops plan s there = inr (kept_rest, rest-own, subst (λ (m : Parts). located plan (m ∷ []) (stops s)) pruned.is there)
 
 -- a name that no public has ends it
-pub unknown-ends : (name refused : List ℕ) (plan : Plan) (M : Parts) → (refused ≡ name) × (has_name (public_names (M ∷ [])) name ≡ false)
-    → EndsAt (own_location (Some name) plan M) (outcome.Refused (refusal.Keep refused))
-unknown-ends name refused plan M (same, none) =
+pub prune-ends : (name : List ℕ) (M : Parts) (e : PruneRefusal) → IsRefusalOf M name e → EndsAt (own_kept (Some name) M) (outcome_of_prune e)
+prune-ends name M prune.NoMemory is = inl refl
+prune-ends name M (prune.Unknown refused) (same, none) =
     inr (
       keep_unknown refused,
       tt,
       refl,
-      subst (λ (b : Bool). rest_location b name plan M (stops (keep_unknown refused))) (sym none)
-          (ap (λ n. keep_unknown n) same),
+      subst (λ (b : Bool). own_rest b name M (stops (keep_unknown refused))) (sym none) (ap (λ n. keep_unknown n) same),
     )

@@ -20,7 +20,7 @@ use Rattle.mufom_titxt.specs.Written.{txt_text}
 use Rattle.mufom_groups.specs.Work.{gives, stops, Work}
 use Rattle.mufom_groups.proofs.Works.{value-same}
 use Rattle.mufom_command.specs.Stop.{Stop}
-use Rattle.mufom_command.specs.Commands.{Output, absolute_file, kept_of, linking_of, located_unless, locating as locating_of, printed_hit, printed_image}
+use Rattle.mufom_command.specs.Commands.{Kept, Output, absolute_file, kept_of, linking_of, located_unless, locating_kept, printed_hit, printed_image}
 use Rattle.mufom_command.specs.Commands.{printed_map, raw_file, txt_file, unless_too_long, work_of, writes, writes_module}
 use Rattle.mufom_command.specs.RunLaws.{Accepts, HasNoFact, IsLocating, LocatingIsDone, MayPutOut}
 use Rattle.mufom_command.proofs.Accepted.{EndsAtFact, accepted-gives, accepted-stops, no-link-fact}
@@ -30,23 +30,24 @@ use Rattle.mufom_command.proofs.Runs.{kept_of-single, of-files}
 
 -- ---- what is put out of a list
 
-module _ (output : Command → LocatedParts → Work Stop Output) (c : Command) (plan : Plan) (list : List Parts) where
+module _ (output : Kept → Command → LocatedParts → Work Stop Output) (c : Command) (plan : Plan) (list : List Parts) where
   -- no fact stands against a list of which there is an output
-  pub no-fact-there : (o : Output) → link_answer list ≡ None → locating_of output c plan list (gives o) → HasNoFact c.keep list plan
+  pub no-fact-there : (o : Output) → link_answer list ≡ None → locating_kept output c plan list (gives o) → HasNoFact c.keep list plan
   no-fact-there o links (kept, is_kept, (r, is_located, puts)) =
-      record { links = links; kept = kept; keeps = is_kept; locates = (location-of plan kept r is_located).locates }
+      record { links = links; kept = kept; keeps = is_kept; locates = (location-of plan kept.modules r is_located).locates }
 
   -- where no fact stands, the work comes to no end, unless the output of a location does
-  pub no-end : ((kept : List Parts) (r : LocatedParts) → kept_of c.keep list (gives kept) → IsLocation kept plan r → (s : Stop) → output c r (stops s) → ⊥)
+  pub no-end : ((kept : Kept) (r : LocatedParts) → kept_of c.keep list (gives kept) → IsLocation kept.modules plan r → (s : Stop)
+      → output kept c r (stops s) → ⊥)
       → HasNoFact c.keep list plan
-      → (s : Stop) → locating_of output c plan list (stops s) → ⊥
+      → (s : Stop) → locating_kept output c plan list (stops s) → ⊥
   no-end never none s (inl ends) =
       let same : stops s ≡ gives none.kept = kept_of-single c.keep list (stops s) (gives none.kept) ends none.keeps in absurd cc
   no-end never none s (inr (kept, is_kept, inl ends)) =
       let same : kept ≡ none.kept = value-same kept none.kept (kept_of-single c.keep list (gives kept) (gives none.kept) is_kept none.keeps) in
-      let locates : locate_answer kept plan ≡ None = subst (λ (l : List Parts). locate_answer l plan ≡ None) (sym same) none.locates in
-      subst (λ (o : Option LocateFact). located_unless o plan kept (stops s)) locates ends
-  no-end never none s (inr (kept, is_kept, inr (r, is_located, ends))) = never kept r is_kept (location-of plan kept r is_located) s ends
+      let locates : locate_answer kept.modules plan ≡ None = subst (λ (k : Kept). locate_answer k.modules plan ≡ None) (sym same) none.locates in
+      subst (λ (o : Option LocateFact). located_unless o plan kept.modules (stops s)) locates ends
+  no-end never none s (inr (kept, is_kept, inr (r, is_located, ends))) = never kept r is_kept (location-of plan kept.modules r is_located) s ends
 
 -- ---- outputs that come to no end
 
@@ -64,9 +65,9 @@ raw-never c r few s = by (nat_lt MOST_FILE_BYTES (length (raw_image c.fill r.run
   by true is ends = absurd (omega (arith, few, ltb-true MOST_FILE_BYTES (length (raw_image c.fill r.runs)) is))
   by false is ends = writes-never c.out (raw_image c.fill r.runs) s ends
 
-map-never : (ms : List Parts) (plan : Plan) (c : Command) (r : LocatedParts) (s : Stop) → printed_map ms plan c r (stops s) → ⊥
-map-never ms plan c r s (inl never) = never
-map-never ms plan c r s (inr (flat, are, never)) = never
+map-never : (ms : List Parts) (plan : Plan) (kept : Kept) (c : Command) (r : LocatedParts) (s : Stop) → printed_map ms plan kept c r (stops s) → ⊥
+map-never ms plan kept c r s (inl never) = never
+map-never ms plan kept c r s (inr (flat, are, never)) = never
 
 -- ---- the work of a command
 
@@ -75,24 +76,24 @@ module _ (files : List NamedFile) (c : Command) (plan : Plan) (flat : List Parts
   abbrev IsExact : Work Stop Output → Type 0
   IsExact work = ((o : Output) → work (gives o) → HasNoFact c.keep flat plan) × (HasNoFact c.keep flat plan → (s : Stop) → work (stops s) → ⊥)
 
-  exactly : (output : List Parts → Plan → Command → LocatedParts → Work Stop Output)
-      → ((kept : List Parts) (r : LocatedParts) → kept_of c.keep flat (gives kept) → IsLocation kept plan r → (s : Stop)
-      → output accepts.modules plan c r (stops s) → ⊥)
-      → IsExact (linking_of (λ ms c plan flat. locating_of (output ms plan) c plan flat) files c)
+  exactly : (output : List Parts → Plan → Kept → Command → LocatedParts → Work Stop Output)
+      → ((kept : Kept) (r : LocatedParts) → kept_of c.keep flat (gives kept) → IsLocation kept.modules plan r → (s : Stop)
+      → output accepts.modules plan kept c r (stops s) → ⊥)
+      → IsExact (linking_of (λ ms c plan flat. locating_kept (output ms plan) c plan flat) files c)
   exactly output never = (there, back) where
-    there : (o : Output) → linking_of (λ ms c plan flat. locating_of (output ms plan) c plan flat) files c (gives o) → HasNoFact c.keep flat plan
+    there : (o : Output) → linking_of (λ ms c plan flat. locating_kept (output ms plan) c plan flat) files c (gives o) → HasNoFact c.keep flat plan
     there o is =
-        let (links, is_put) = accepted-gives files c plan flat bytes accepts (λ ms c plan flat. locating_of (output ms plan) c plan flat) o is in
+        let (links, is_put) = accepted-gives files c plan flat bytes accepts (λ ms c plan flat. locating_kept (output ms plan) c plan flat) o is in
         no-fact-there (output accepts.modules plan) c plan flat o links is_put
 
-    back : HasNoFact c.keep flat plan → (s : Stop) → linking_of (λ ms c plan flat. locating_of (output ms plan) c plan flat) files c (stops s) → ⊥
-    back none s ends = by (accepted-stops files c plan flat bytes accepts (λ ms c plan flat. locating_of (output ms plan) c plan flat) s ends) where
-      by : EndsAtFact flat s ⊎ ((link_answer flat ≡ None) × locating_of (output accepts.modules plan) c plan flat (stops s)) → ⊥
+    back : HasNoFact c.keep flat plan → (s : Stop) → linking_of (λ ms c plan flat. locating_kept (output ms plan) c plan flat) files c (stops s) → ⊥
+    back none s ends = by (accepted-stops files c plan flat bytes accepts (λ ms c plan flat. locating_kept (output ms plan) c plan flat) s ends) where
+      by : EndsAtFact flat s ⊎ ((link_answer flat ≡ None) × locating_kept (output accepts.modules plan) c plan flat (stops s)) → ⊥
       by (inl fact) = no-link-fact flat plan s none.links fact
       by (inr (links, ends)) = no-end (output accepts.modules plan) c plan flat never none s ends
 
   work-exact : (v : Verb) → IsLocating v
-      → ((kept : List Parts) (r : LocatedParts) → kept_of c.keep flat (gives kept) → IsLocation kept plan r → MayPutOut v c r)
+      → ((kept : Kept) (r : LocatedParts) → kept_of c.keep flat (gives kept) → IsLocation kept.modules plan r → MayPutOut v c r)
       → IsExact (work_of v files c)
   work-exact verb.Show never may = absurd never
   work-exact verb.Check never may = absurd never
@@ -101,12 +102,12 @@ module _ (files : List NamedFile) (c : Command) (plan : Plan) (flat : List Parts
   work-exact verb.Help never may = absurd never
   work-exact verb.Version never may = absurd never
   work-exact verb.FromTxt never may = absurd never
-  work-exact verb.Locate is may = exactly (λ ms plan. absolute_file) (λ kept r keeps there s ends. module-never c.out (absolute_of r) s ends)
-  work-exact verb.Txt is may = exactly (λ ms plan. txt_file) (λ kept r keeps there s ends. writes-never c.out (txt_text r.runs) s ends)
-  work-exact verb.Dump is may = exactly (λ ms plan. printed_image) (λ kept r keeps there s ends. ends)
-  work-exact verb.Map is may = exactly printed_map (λ kept r keeps there s ends. map-never accepts.modules plan c r s ends)
-  work-exact verb.Addr is may = exactly (λ ms plan. printed_hit) (λ kept r keeps there s ends. ends)
-  work-exact verb.Bin is may = exactly (λ ms plan. raw_file) (λ kept r keeps there s ends. raw-never c r (may kept r keeps there) s ends)
+  work-exact verb.Locate is may = exactly (λ ms plan kept. absolute_file) (λ kept r keeps there s ends. module-never c.out (absolute_of r) s ends)
+  work-exact verb.Txt is may = exactly (λ ms plan kept. txt_file) (λ kept r keeps there s ends. writes-never c.out (txt_text r.runs) s ends)
+  work-exact verb.Dump is may = exactly (λ ms plan kept. printed_image) (λ kept r keeps there s ends. ends)
+  work-exact verb.Map is may = exactly printed_map (λ kept r keeps there s ends. map-never accepts.modules plan kept c r s ends)
+  work-exact verb.Addr is may = exactly (λ ms plan kept. printed_hit) (λ kept r keeps there s ends. ends)
+  work-exact verb.Bin is may = exactly (λ ms plan kept. raw_file) (λ kept r keeps there s ends. raw-never c r (may kept r keeps there) s ends)
 
 -- Locating is done exactly where no fact stands against the flat list.
 pub locating-done : LocatingIsDone

@@ -1,5 +1,5 @@
 -- The location of the module into which a list is linked is that of the list.
-use Rattle.std.proofs.Common.{◌≡◌, ℕ, List, [], ◌∷◌, length, Option, Some, None, refl, sym, ap, subst, ◌∙◌, unwrap_or, inl, inr}
+use Rattle.std.proofs.Common.{◌≡◌, ◌⊎◌, ℕ, List, [], ◌∷◌, length, Option, Some, None, refl, sym, ap, subst, ◌∙◌, unwrap_or, inl, inr}
 use Rattle.std.proofs.lemmas.List.{append-nil}
 use Rattle.mufom_names.specs.Names.{AreDistinct, names_of}
 use Rattle.mufom_module.specs.declared.module.Parts.{Parts}
@@ -26,9 +26,9 @@ use Rattle.mufom_groups.specs.Work.{Reached, gives, stops, with_stops}
 use Rattle.mufom_groups.proofs.GroupsAlike.{linked-flat}
 use Rattle.mufom_groups.proofs.LinkWalk.{valid-append, valid-drop, valid-members}
 use Rattle.mufom_command.specs.Stop.{Stop, link_fact, locate_fact}
-use Rattle.mufom_command.specs.Commands.{located, located_unless, maus_of}
-use Rattle.mufom_command.specs.WorkEnds.{location_of, own_location}
-use Rattle.mufom_command.proofs.KeptLaws.{IsKeptLocation, rest-located}
+use Rattle.mufom_command.specs.Commands.{Kept, all_of, kept_of, located, located_unless, maus_of}
+use Rattle.mufom_command.specs.WorkEnds.{location_of, own_kept, own_location}
+use Rattle.mufom_command.proofs.KeptLaws.{rest-kept}
 
 -- ---- two lists with the same location
 
@@ -65,6 +65,23 @@ pub located-back : (ms leaves : List Parts) (plan : Plan) → MeansTheSame ms le
 located-back ms leaves plan same x is =
     located-along leaves ms plan (sym (maus-same ms leaves same)) (λ r. (same.same_location plan r).1) (sym (same.same_locate plan)) x is
 
+-- ---- what is kept of a list and of its link
+
+-- They are the same, or all of both is kept, and the lists mean the same.
+abbrev pub AreAlike : Kept → Kept → Type 0
+AreAlike own kept = (own ≡ kept) ⊎ ((own.rest ≡ None) × (kept.rest ≡ None) × MeansTheSame own.modules kept.modules)
+
+-- what is kept of the list, which is alike
+pub record IsKeptAlike (keep : Option (List ℕ)) (flat : List Parts) (own : Kept) : Type 0 where
+  pub kept : Kept
+  pub keeps : kept_of keep flat (gives kept)
+  pub alike : AreAlike own kept
+
+pub alike-located : (plan : Plan) (own kept : Kept) → AreAlike own kept → (x : Reached Stop LocatedParts) → located plan own.modules x
+    → located plan kept.modules x
+alike-located plan own kept (inl same) x there = subst (λ (k : Kept). located plan k.modules x) same there
+alike-located plan own kept (inr (none, no_rest, means)) x there = located-forth own.modules kept.modules plan means x there
+
 -- ---- the link of a list
 
 -- The link of a list under the name of its first module means what the list means.
@@ -99,21 +116,40 @@ module _ (c : Command) (ms : List Parts) (valid : AreValid ms) where
     pub named-first : (flat : List Parts) → IsJoined M flat (unwrap_or c.name (first_name flat)) → IsJoined M flat (first_name flat)
     named-first flat joined = subst (λ (name : Option (List ℕ)). IsJoined M flat (unwrap_or name (first_name flat))) unnamed joined
 
-    -- the location of what is kept of it is that of what is kept of the flat list
-    own-is : (keep : Option (List ℕ)) (flat : List Parts) → linked (tree_of c.marks) ms (gives flat) → IsJoined M flat (first_name flat)
-        → (x : Reached Stop LocatedParts) → own_location keep plan M x → IsKeptLocation keep flat plan x
-    own-is None flat is joined (gives r) there =
-        (flat, refl, located-forth (M ∷ []) flat plan (link-means M flat sound (flat-valid flat is) joined (flat-linkable flat is)) (gives r) there)
-    own-is None flat is joined (stops s) there =
-        inr (flat, refl, located-forth (M ∷ []) flat plan (link-means M flat sound (flat-valid flat is) joined (flat-linkable flat is)) (stops s) there)
-    own-is (Some name) flat is joined x there = rest-located name M flat plan sound joined (flat-valid flat is) x there
+    -- what is kept of it is kept of the flat list, or means the same
+    pub own-is : (keep : Option (List ℕ)) (flat : List Parts) → linked (tree_of c.marks) ms (gives flat) → IsJoined M flat (first_name flat) → (own : Kept)
+        → own_kept keep M (gives own) → IsKeptAlike keep flat own
+    own-is None flat is joined own keeps =
+        let means = link-means M flat sound (flat-valid flat is) joined (flat-linkable flat is) in
+        record {
+          kept = all_of flat;
+          keeps = refl;
+          alike = inr (
+            ap (λ (k : Kept). k.rest) keeps,
+            refl,
+            subst (λ (k : Kept). MeansTheSame k.modules flat) (sym keeps) means,
+          );
+        }
+    own-is (Some name) flat is joined own keeps =
+        record { kept = own; keeps = rest-kept name M flat sound joined (flat-valid flat is) (gives own) keeps; alike = inl refl }
 
+    own-ends : (keep : Option (List ℕ)) (flat : List Parts) → linked (tree_of c.marks) ms (gives flat) → IsJoined M flat (first_name flat) → (s : Stop)
+        → own_kept keep M (stops s) → kept_of keep flat (stops s)
+    own-ends None flat is joined s never = absurd never
+    own-ends (Some name) flat is joined s ends = rest-kept name M flat sound joined (flat-valid flat is) (stops s) ends
+
+    -- the location of what is kept of it is that of what is kept of the flat list
     pub link-located : linked_module c ms (gives M) → (r : LocatedParts) → own_location c.keep plan M (gives r) → location_of c plan ms (gives r)
-    link-located (flat, is, joined) r there = (flat, is, own-is c.keep flat is (named-first flat joined) (gives r) there)
+    link-located (flat, is, joined) r (own, keeps, there) =
+        let alike = own-is c.keep flat is (named-first flat joined) own keeps in
+        (flat, is, (alike.kept, alike.keeps, alike-located plan own alike.kept alike.alike (gives r) there))
 
     -- or the fact is that ends it
     pub link-unlocated : linked_module c ms (gives M) → (s : Stop) → own_location c.keep plan M (stops s) → location_of c plan ms (stops s)
-    link-unlocated (flat, is, joined) s there = inr (flat, is, own-is c.keep flat is (named-first flat joined) (stops s) there)
+    link-unlocated (flat, is, joined) s (inl ends) = inr (flat, is, inl (own-ends c.keep flat is (named-first flat joined) s ends))
+    link-unlocated (flat, is, joined) s (inr (own, keeps, ends)) =
+        let alike = own-is c.keep flat is (named-first flat joined) own keeps in
+        inr (flat, is, inr (alike.kept, alike.keeps, alike-located plan own alike.kept alike.alike (stops s) ends))
 
   -- or it is not linked
   pub unlinked-stops : (plan : Plan) (s : Stop) → with_stops link_fact (linked_module c ms) (stops s) → location_of c plan ms (stops s)

@@ -52,7 +52,7 @@ linked-files-stand c plan flat output valid (M, joined, (held, is)) =
 pub absolute-files-stand : AbsoluteFilesStand
 absolute-files-stand c plan flat output valid (kept, is_kept, (r, is_located, (held, is))) =
     let (name, file, bytes) = is-written c.out (written (absolute_of r)) output is in
-    let there = location-of plan kept r is_located in
+    let there = location-of plan kept.modules r is_located in
     record {
       location = r;
       name = name;
@@ -61,6 +61,6 @@ absolute-files-stand c plan flat output valid (kept, is_kept, (r, is_located, (h
       kept = kept;
       keeps = is_kept;
       located = there;
-      itself = absolute_is_located_as_itself kept plan r (kept-valid c.keep flat kept valid is_kept) there;
+      itself = absolute_is_located_as_itself kept.modules plan r (kept-valid c.keep flat kept valid is_kept) there;
       read_back = is-read-back (absolute_of r) held;
     }

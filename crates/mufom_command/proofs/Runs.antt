@@ -32,8 +32,9 @@ use Rattle.mufom_meaning.specs.Joined.{IsJoined}
 use Rattle.mufom_meaning.proofs.staging.JoinedSingle.{joined_is_single}
 use Rattle.mufom_module.specs.Defects.{IsValid}
 use Rattle.mufom_plan.specs.Names.{has_name}
-use Rattle.mufom_prune.specs.Pruned.{IsPruned}
-use Rattle.mufom_prune_laws.proofs.Single.{pruned_is_single}
+use Rattle.mufom_prune.specs.Kept.{IsKept}
+use Rattle.mufom_prune.specs.Pruned.{remains}
+use Rattle.mufom_prune_laws.proofs.Single.{kept_is_single}
 use Rattle.mufom_groups.specs.Work.{Reached, gives, stops, Work, ◌>>=◌, one_with, sure, with_stops, IsSingle}
 use Rattle.mufom_groups.proofs.Singles.{joined-single, linked-single}
 use Rattle.mufom_groups.proofs.Works.{sure-single, stop_at-single, one_with-single, nowhere-single, stops-single, then-single}
@@ -51,13 +52,13 @@ use Rattle.mufom_titxt.specs.declared.refusal.TxtRefusal.{TxtRefusal}
 use Rattle.mufom_titxt.specs.TextModules.{text_parts}
 use Rattle.mufom_titxt.specs.Texts.{txt_cells, txt_refusal}
 use Rattle.mufom_titxt.specs.Written.{txt_text}
-use Rattle.mufom_command.specs.Commands.{Output, printed, made, form_of, prints, writes, writes_module, file_in, kept_of, kept_unless, plan_by}
-use Rattle.mufom_command.specs.Commands.{plan_in, modules_in, maus_of, located, located_unless, linked_file, locating, absolute_file, printed_hit}
-use Rattle.mufom_command.specs.Commands.{printed_image}
+use Rattle.mufom_command.specs.Commands.{Kept, Output, all_of, printed, made, form_of, prints, writes, writes_module, file_in, kept_of, kept_unless, plan_by}
+use Rattle.mufom_command.specs.Commands.{plan_in, modules_in, maus_of, located, located_unless, linked_file, locating, locating_kept, absolute_file}
+use Rattle.mufom_command.specs.Commands.{map_with, mapped_kept, printed_hit, printed_image, rest_of, rest_of_module}
 use Rattle.mufom_command.specs.Commands.{printed_map, raw_file, reading_text, runs_of_text, runs_unless, text_in, txt_file, unless_past_limit}
 use Rattle.mufom_command.specs.Commands.{unless_too_long, listing, linking, linking_of, work_of, work_by, run_of}
 use Rattle.mufom_command.specs.Run.{AnswersBy, AnswersFor, Call, IsForced, OverFiles, outcome_of, stop_outcome, stop_answer}
-use Rattle.mufom_map.specs.Mapped.{mapped}
+use Rattle.mufom_origins.specs.Origins.{origins_of}
 use Rattle.mufom_map.specs.MapText.{map_text}
 use Rattle.mufom_command.specs.FlatFiles.{AreFlatFiles}
 use Rattle.mufom_command.proofs.MapLaws.{flat-files-single}
@@ -131,18 +132,21 @@ located-single plan ms = by (locate_answer ms plan) where
   by None = one_with-single (IsLocation ms plan) (location_is_single ms plan)
   by (Some f) = stop_at-single (locate_fact (maus_of ms) f)
 
+rest_of_module-single : (name : List ℕ) (M : Parts) → IsSingle (rest_of_module name M)
+rest_of_module-single name M =
+    then-single (one_with (IsKept M name)) (λ marks. sure (rest_of M (remains M marks)))
+    (one_with-single (IsKept M name) (λ marks others is_one is_other. kept_is_single M name marks others is_one is_other))
+    (λ marks. sure-single (rest_of M (remains M marks)))
+
 pub kept_of-single : (keep : Option (List ℕ)) (ms : List Parts) → IsSingle (kept_of keep ms)
-kept_of-single None ms = sure-single ms
+kept_of-single None ms = sure-single (all_of ms)
 kept_of-single (Some name) ms = by (has_name (public_names ms) name) where
   by : (b : Bool) → IsSingle (kept_unless b name ms)
   by false = stop_at-single (keep_unknown name)
   by true =
-      then-single (one_with (λ M. IsValid M × IsJoined M ms (first_name ms))) (λ M. one_with (λ rest. IsPruned rest M name) >>= λ rest. sure (rest ∷ []))
+      then-single (one_with (λ M. IsValid M × IsJoined M ms (first_name ms))) (λ M. rest_of_module name M)
       (one_with-single (λ M. IsValid M × IsJoined M ms (first_name ms))
-      (λ M N is_one is_other. joined_is_single M N ms (first_name ms) is_one.1 is_other.1)) λ M.
-      then-single (one_with (λ rest. IsPruned rest M name)) (λ rest. sure (rest ∷ []))
-      (one_with-single (λ rest. IsPruned rest M name) (λ rest other is_one is_other. pruned_is_single rest other M name is_one is_other)) λ rest.
-      sure-single (rest ∷ [])
+      (λ M N is_one is_other. joined_is_single M N ms (first_name ms) is_one.1 is_other.1)) (rest_of_module-single name)
 
 module _ (c : Command) (plan : Plan) (flat : List Parts) where
   pub linked_file-single : IsSingle (linked_file c plan flat)
@@ -150,11 +154,15 @@ module _ (c : Command) (plan : Plan) (flat : List Parts) where
       then-single (with_stops link_fact (joined c.name flat)) (λ M. writes_module c.out M)
       (stops-single link_fact (joined c.name flat) (joined-single c.name flat)) (writes_module-single c.out)
 
+  pub locating_kept-single : (output : Kept → Command → LocatedParts → Work Stop Output) → ((kept : Kept) (r : LocatedParts) → IsSingle (output kept c r))
+      → IsSingle (locating_kept output c plan flat)
+  locating_kept-single output single =
+      then-single (kept_of c.keep flat) (λ kept. located plan kept.modules >>= λ r. output kept c r) (kept_of-single c.keep flat) λ kept.
+      then-single (located plan kept.modules) (λ r. output kept c r) (located-single plan kept.modules) (single kept)
+
   pub locating-single : (output : Command → LocatedParts → Work Stop Output) → ((r : LocatedParts) → IsSingle (output c r))
       → IsSingle (locating output c plan flat)
-  locating-single output single =
-      then-single (kept_of c.keep flat) (λ kept. located plan kept >>= λ r. output c r) (kept_of-single c.keep flat) λ kept.
-      then-single (located plan kept) (λ r. output c r) (located-single plan kept) single
+  locating-single output single = locating_kept-single (λ kept. output) (λ kept. single)
 
 -- ---- what is put out of a location
 
@@ -189,10 +197,10 @@ reading_text-single files c =
     then-single (runs_of_text c.maus text) (λ runs. writes_module c.out (text_parts c.maus runs)) (runs_of_text-single c.maus text) λ runs.
     writes_module-single c.out (text_parts c.maus runs)
 
-printed_map-single : (c : Command) (ms : List Parts) (plan : Plan) (r : LocatedParts) → IsSingle (printed_map ms plan c r)
-printed_map-single c ms plan r =
-    then-single (one_with (AreFlatFiles (tree_of c.marks) ms)) (λ flat. prints (map_text (mapped flat plan r))) (flat-files-single (tree_of c.marks) ms)
-    (λ flat. sure-single (printed (map_text (mapped flat plan r))))
+printed_map-single : (c : Command) (ms : List Parts) (plan : Plan) (kept : Kept) (r : LocatedParts) → IsSingle (printed_map ms plan kept c r)
+printed_map-single c ms plan kept r =
+    then-single (one_with (AreFlatFiles (tree_of c.marks) ms)) (λ flat. map_with (origins_of flat) plan kept c r) (flat-files-single (tree_of c.marks) ms)
+    (λ flat. sure-single (printed (map_text (mapped_kept (origins_of flat) plan kept r))))
 
 -- ---- the table
 
@@ -223,8 +231,8 @@ module _ (files : List NamedFile) (bytes : HoldBytes files) (c : Command) where
       (λ plan flat. locating-single c plan flat absolute_file (λ r. writes_module-single c.out (absolute_of r)))
   work_of-single verb.Dump = linking-single (locating printed_image)
       (λ plan flat. locating-single c plan flat printed_image (λ r. sure-single (printed (image_text r))))
-  work_of-single verb.Map = linking_of-single (λ ms c plan flat. locating (printed_map ms plan) c plan flat)
-      (λ ms plan flat. locating-single c plan flat (printed_map ms plan) (printed_map-single c ms plan))
+  work_of-single verb.Map = linking_of-single (λ ms c plan flat. locating_kept (printed_map ms plan) c plan flat)
+      (λ ms plan flat. locating_kept-single c plan flat (printed_map ms plan) (printed_map-single c ms plan))
   work_of-single verb.Addr = linking-single (locating printed_hit)
       (λ plan flat. locating-single c plan flat printed_hit (λ r. sure-single (printed (hit_text r.maus (hit_at r.debug c.at)))))
   work_of-single verb.Bin = linking-single (locating raw_file) (λ plan flat. locating-single c plan flat raw_file (raw_file-single c))

@@ -24,23 +24,18 @@ use Rattle.mufom_groups.specs.Work.{gives, stops, Work, ◌>>=◌, nowhere, one_
 use Rattle.mufom_groups.proofs.Singles.{linked-single}
 use Rattle.mufom_groups.proofs.Works.{stops-single, sure-single}
 use Rattle.mufom_command.specs.Stop.{Stop, keep_unknown, link_fact}
-use Rattle.mufom_command.specs.Commands.{Output, writes_module, kept_of, kept_unless, plan_in, modules_in, located, rest_of_link, linked_file, locating}
-use Rattle.mufom_command.specs.Commands.{absolute_file, printed_hit, printed_image, raw_file, txt_file, linking, linking_of, mapping, printed_map}
-use Rattle.mufom_command.specs.Commands.{prints, work_of}
-use Rattle.mufom_command.specs.RunLaws.{CameByStages, IsLinking, IsSameWork, LeadsTo, MapsAreAlike, MapsOfStages, PutOutAlike, map_with, RunsOfStages}
+use Rattle.mufom_command.specs.Commands.{Kept, Output, all_of, writes_module, kept_of, kept_unless, plan_in, modules_in, located, rest_of_link}
+use Rattle.mufom_command.specs.Commands.{absolute_file, linked_file, linking, linking_of, locating, locating_kept, map_with, mapped_kept, mapping}
+use Rattle.mufom_command.specs.Commands.{printed_hit, printed_image, printed_map, prints, raw_file, txt_file, work_of}
+use Rattle.mufom_command.specs.RunLaws.{CameByStages, IsLinking, IsSameWork, LeadsTo, MapsAreAlike, MapsOfStages, PutOutAlike, RunsOfStages}
 use Rattle.mufom_command.specs.RunLaws.{StagesMakeNoDifference, put_out_of}
 use Rattle.mufom_command.proofs.LocatingLaws.{located-back, located-forth}
 use Rattle.mufom_origins.specs.declared.origins.Origin.{Origin}
 use Rattle.mufom_origins.specs.Origins.{FileModule, origins_of}
-use Rattle.mufom_map.specs.Mapped.{Mapped, mapped, mapped_by}
+use Rattle.mufom_map.specs.Mapped.{Mapped}
 use Rattle.mufom_map.specs.MapText.{map_text}
-use Rattle.mufom_meaning.specs.Flat.{flat_sections}
-use Rattle.mufom_meaning.specs.Placed.{placed_commons}
-use Rattle.mufom_meaning.proofs.facts.AllAnswers.{answers_are_facts}
-use Rattle.mufom_meaning.proofs.facts.LinkFacts.{link_facts_grow}
-use Rattle.mufom_groups.proofs.GroupsAlike.{linked-flat}
 use Rattle.mufom_command.specs.FlatFiles.{AreFlatFiles}
-use Rattle.mufom_command.proofs.MapLaws.{flat-files-single, flat-modules, same-map}
+use Rattle.mufom_command.proofs.MapLaws.{flat-files-single, same-map}
 use Rattle.mufom_command.proofs.Runs.{modules_in-single, plan_in-single}
 use Rattle.mufom_command.proofs.SameWorks.{same-sym, same-trans, same-work, then-known, then-same}
 
@@ -106,7 +101,7 @@ module _ (c : Command) (plan : Plan) (ms leaves : List Parts) (means : MeansTheS
     never : (list : List Parts) (name : List ℕ) (s : Stop) → rest_of_link name list (stops s) → ⊥
     never list name s (inl none) = none
     never list name s (inr (M, is, inl none)) = none
-    never list name s (inr (M, is, inr (rest, pruned, none))) = none
+    never list name s (inr (M, is, inr (marks, is_kept, none))) = none
 
   kept-same : (name : List ℕ) → IsSameWork (kept_of (Some name) ms) (kept_of (Some name) leaves)
   kept-same name = subst (λ (names : List (List ℕ)). IsSameWork (kept_of (Some name) ms) (kept_unless (has_name names name) name leaves)) names-same
@@ -115,22 +110,29 @@ module _ (c : Command) (plan : Plan) (ms leaves : List Parts) (means : MeansTheS
         by false = same-work (stop_at (keep_unknown name))
         by true = rest-same name
 
-  of_kept : (output : Command → LocatedParts → Work Stop Output) (keep : Option (List ℕ))
-      → IsSameWork (kept_of keep ms >>= λ kept. located plan kept >>= λ r. output c r) (kept_of keep leaves >>= λ kept. located plan kept >>= λ r. output c r)
-  of_kept output None =
-      let next : List Parts → Work Stop Output = λ kept. located plan kept >>= λ r. output c r in
-      let here : IsSameWork (sure ms >>= next) (next ms) = then-known (sure ms) next ms (sure-single ms) refl in
-      let there : IsSameWork (sure leaves >>= next) (next leaves) = then-known (sure leaves) next leaves (sure-single leaves) refl in
-      same-trans (sure ms >>= next) (next ms) (sure leaves >>= next) here
-      (same-trans (next ms) (next leaves) (sure leaves >>= next)
-      (then-same (located plan ms) (located plan leaves) (λ r. output c r) (λ r. output c r) located-same (λ r. same-work (output c r)))
-      (same-sym (sure leaves >>= next) (next leaves) there))
-  of_kept output (Some name) =
-      let next : List Parts → Work Stop Output = λ kept. located plan kept >>= λ r. output c r in
-      then-same (kept_of (Some name) ms) (kept_of (Some name) leaves) next next (kept-same name) (λ kept. same-work (next kept))
+  -- what is put out of what is kept of one, and of the location of that, is what is put out of the other
+  module _ (output : Kept → Command → LocatedParts → Work Stop Output) (each : (r : LocatedParts)
+      → IsSameWork (output (all_of ms) c r) (output (all_of leaves) c r)) where
+    abbrev next : Kept → Work Stop Output
+    next kept = located plan kept.modules >>= λ r. output kept c r
+
+    of_kept : (keep : Option (List ℕ)) → IsSameWork (kept_of keep ms >>= next) (kept_of keep leaves >>= next)
+    of_kept None =
+        let here : IsSameWork (sure (all_of ms) >>= next) (next (all_of ms)) = then-known (sure (all_of ms)) next (all_of ms) (sure-single (all_of ms)) refl in
+        let there : IsSameWork (sure (all_of leaves) >>= next) (next (all_of leaves))
+        = then-known (sure (all_of leaves)) next (all_of leaves) (sure-single (all_of leaves)) refl in
+        same-trans (sure (all_of ms) >>= next) (next (all_of ms)) (sure (all_of leaves) >>= next) here
+        (same-trans (next (all_of ms)) (next (all_of leaves)) (sure (all_of leaves) >>= next)
+        (then-same (located plan ms) (located plan leaves) (λ r. output (all_of ms) c r) (λ r. output (all_of leaves) c r) located-same each)
+        (same-sym (sure (all_of leaves) >>= next) (next (all_of leaves)) there))
+    of_kept (Some name) =
+        then-same (kept_of (Some name) ms) (kept_of (Some name) leaves) next next (kept-same name) (λ kept. same-work (next kept))
+
+    pub of_kept_location : IsSameWork (locating_kept output c plan ms) (locating_kept output c plan leaves)
+    of_kept_location = of_kept c.keep
 
   pub of_location : (output : Command → LocatedParts → Work Stop Output) → IsSameWork (locating output c plan ms) (locating output c plan leaves)
-  of_location output = of_kept output c.keep
+  of_location output = of_kept_location (λ kept. output) (λ r. same-work (output c r))
 
   pub put_out-alike : PutOutAlike c plan ms leaves
   put_out-alike verb.Show = same-work nowhere
@@ -205,42 +207,35 @@ runs-of-stages files c plan flat leaves bytes is_linking leads came = by_verb c.
 prints-same : (a b : Mapped) → a ≡ b → IsSameWork (prints (map_text a)) (prints (map_text b))
 prints-same a b same = subst (λ (m : Mapped). IsSameWork (prints (map_text a)) (prints (map_text m))) same (same-work (prints (map_text a)))
 
--- what is put out of a location is the same where it is for each location
-locating-each : (c : Command) (plan : Plan) (ms : List Parts) (output other : Command → LocatedParts → Work Stop Output)
-    → ((r : LocatedParts) → IsSameWork (output c r) (other c r)) → IsSameWork (locating output c plan ms) (locating other c plan ms)
+-- what is put out of a location is the same where it is for each location of what is kept
+locating-each : (c : Command) (plan : Plan) (ms : List Parts) (output other : Kept → Command → LocatedParts → Work Stop Output)
+    → ((kept : Kept) (r : LocatedParts) → IsSameWork (output kept c r) (other kept c r))
+    → IsSameWork (locating_kept output c plan ms) (locating_kept other c plan ms)
 locating-each c plan ms output other each =
-    then-same (kept_of c.keep ms) (kept_of c.keep ms) (λ kept. located plan kept >>= λ r. output c r) (λ kept. located plan kept >>= λ r. other c r)
-    (same-work (kept_of c.keep ms))
-    (λ kept. then-same (located plan kept) (located plan kept) (λ r. output c r) (λ r. other c r) (same-work (located plan kept)) each)
+    then-same (kept_of c.keep ms) (kept_of c.keep ms) (λ kept. located plan kept.modules >>= λ r. output kept c r) (λ kept. located plan kept.modules
+    >>= λ r. other kept c r) (same-work (kept_of c.keep ms))
+    (λ kept. then-same (located plan kept.modules) (located plan kept.modules) (λ r. output kept c r) (λ r. other kept c r)
+    (same-work (located plan kept.modules)) (each kept))
 
 -- The maps of two such lists are the same, with the same modules.
 pub maps-alike : MapsAreAlike
 maps-alike c plan ms leaves origins came =
     let means = means-same ms leaves came in
-    same-trans (locating (map_with origins plan ms) c plan ms) (locating (map_with origins plan leaves) c plan ms)
-    (locating (map_with origins plan leaves) c plan leaves)
-    (locating-each c plan ms (map_with origins plan ms) (map_with origins plan leaves)
-    (λ r. prints-same (mapped_by origins plan (flat_sections ms) (placed_commons ms plan) r)
-    (mapped_by origins plan (flat_sections leaves) (placed_commons leaves plan) r) (same-map ms leaves means origins plan r)))
-    (of_location c plan ms leaves means (map_with origins plan leaves))
+    of_kept_location c plan ms leaves means (map_with origins plan)
+    (λ r. prints-same (mapped_kept origins plan (all_of ms) r) (mapped_kept origins plan (all_of leaves) r) (same-map ms leaves means origins plan r))
 
 -- The map of the flat list is the map of what the stages began with, with the modules of the flat list.
 pub maps-of-stages : MapsOfStages
 maps-of-stages files c plan flat leaves own bytes is_map leads are came =
     let ms = leads.modules in
-    let is_flat = ((linked-flat answers_are_facts link_facts_grow (tree_of c.marks) ms flat).0 leads.linked).0 in
-    let same = flat-modules (tree_of c.marks) ms own flat are is_flat in
-    let each : (r : LocatedParts) → IsSameWork (printed_map ms plan c r) (map_with (origins_of own) plan flat c r) = λ r.
-    same-trans (printed_map ms plan c r) (prints (map_text (mapped own plan r))) (map_with (origins_of own) plan flat c r)
-    (then-known (one_with (AreFlatFiles (tree_of c.marks) ms)) (λ files. prints (map_text (mapped files plan r))) own
-    (flat-files-single (tree_of c.marks) ms) are)
-    (prints-same (mapped own plan r) (mapped_by (origins_of own) plan (flat_sections flat) (placed_commons flat plan) r)
-    (ap (λ (xs : List Parts). mapped_by (origins_of own) plan (flat_sections xs) (placed_commons xs plan) r) same)) in
-    let there : IsSameWork (mapping files c) (locating (map_with (origins_of own) plan leaves) c plan leaves) =
-    same-trans (mapping files c) (locating (printed_map ms plan) c plan flat) (locating (map_with (origins_of own) plan leaves) c plan leaves)
-    (linking_of-known (λ ms c plan flat. locating (printed_map ms plan) c plan flat) files c plan flat bytes leads)
-    (same-trans (locating (printed_map ms plan) c plan flat) (locating (map_with (origins_of own) plan flat) c plan flat)
-    (locating (map_with (origins_of own) plan leaves) c plan leaves)
-    (locating-each c plan flat (printed_map ms plan) (map_with (origins_of own) plan flat) each)
+    let each : (kept : Kept) (r : LocatedParts) → IsSameWork (printed_map ms plan kept c r) (map_with (origins_of own) plan kept c r) = λ kept r.
+    then-known (one_with (AreFlatFiles (tree_of c.marks) ms)) (λ files. map_with (origins_of files) plan kept c r) own
+    (flat-files-single (tree_of c.marks) ms) are in
+    let there : IsSameWork (mapping files c) (locating_kept (map_with (origins_of own) plan) c plan leaves) =
+    same-trans (mapping files c) (locating_kept (printed_map ms plan) c plan flat) (locating_kept (map_with (origins_of own) plan) c plan leaves)
+    (linking_of-known (λ ms c plan flat. locating_kept (printed_map ms plan) c plan flat) files c plan flat bytes leads)
+    (same-trans (locating_kept (printed_map ms plan) c plan flat) (locating_kept (map_with (origins_of own) plan) c plan flat)
+    (locating_kept (map_with (origins_of own) plan) c plan leaves)
+    (locating-each c plan flat (printed_map ms plan) (map_with (origins_of own) plan) each)
     (maps-alike c plan flat leaves (origins_of own) came)) in
-    subst (λ (v : Verb). IsSameWork (work_of v files c) (locating (map_with (origins_of own) plan leaves) c plan leaves)) (sym is_map) there
+    subst (λ (v : Verb). IsSameWork (work_of v files c) (locating_kept (map_with (origins_of own) plan) c plan leaves)) (sym is_map) there

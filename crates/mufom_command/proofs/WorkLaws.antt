@@ -12,11 +12,12 @@ use Rattle.mufom_words.specs.declared.command.Command.{Command}
 use Rattle.mufom_words.specs.declared.command.Verb.{Verb}
 use Rattle.mufom_words.specs.declared.command.Verb.TheVariants as verb
 use Rattle.mufom_command.specs.RunLaws.{IsLocating}
-use Rattle.mufom_groups.specs.Linked.{linked_module}
+use Rattle.mufom_words.specs.Tree.{tree_of}
+use Rattle.mufom_groups.specs.Linked.{linked, linked_module}
 use Rattle.mufom_groups.specs.Work.{Work, gives, stop_at, stops, with_stops}
 use Rattle.mufom_command.specs.Stop.{Stop, link_fact, raw_too_long}
-use Rattle.mufom_command.specs.Commands.{IsHeld, Output, printed, made, writes, writes_module, plan_in, modules_in, linked_file, locating, absolute_file}
-use Rattle.mufom_command.specs.Commands.{printed_hit}
+use Rattle.mufom_command.specs.Commands.{IsHeld, Kept, Output, kept_of, printed, made, writes, writes_module, plan_in, modules_in, linked_file, located}
+use Rattle.mufom_command.specs.Commands.{absolute_file, locating, locating_kept, printed_hit}
 use Rattle.mufom_command.specs.Commands.{printed_image, printed_map, raw_file, txt_file, unless_too_long, listing, linking, linking_of, work_of}
 use Rattle.mufom_command.specs.InputsRead.{inputs_in}
 use Rattle.mufom_command.specs.Text.{Text}
@@ -119,12 +120,12 @@ module _ (output : Command → LocatedParts → Work Stop Output) (c : Command) 
         ),
       )
 
-module _ (output : List Parts → Plan → Command → LocatedParts
+module _ (output : List Parts → Plan → Kept → Command → LocatedParts
     → Work Stop Output) (c : Command) (plan : Plan) (ms : List Parts) (files : List NamedFile) (is : inputs_in files c (gives (plan, ms))) where
   abbrev of_modules : List NamedFile → Command → Work Stop Output
-  of_modules files c = linking_of (λ ms c plan flat. locating (output ms plan) c plan flat) files c
+  of_modules files c = linking_of (λ ms c plan flat. locating_kept (output ms plan) c plan flat) files c
 
-  -- the fact that ends the locating, where what is put out depends on the modules too
+  -- the fact that ends the locating, where what is put out depends on the modules and on what is kept too
   pub locating_of-stops : (s : Stop) → location_of c plan ms (stops s) → of_modules files c (stops s)
   locating_of-stops s (inl ends) = inr (plan, inputs-planned files c plan ms is, inr (ms, inputs-modules files c plan ms is, inl ends))
   locating_of-stops s (inr (flat, is_linked, inl ends)) =
@@ -132,10 +133,13 @@ module _ (output : List Parts → Plan → Command → LocatedParts
   locating_of-stops s (inr (flat, is_linked, inr (kept, is_kept, ends))) =
       inr (plan, inputs-planned files c plan ms is, inr (ms, inputs-modules files c plan ms is, inr (flat, is_linked, inr (kept, is_kept, inl ends))))
 
-  -- what is put out of the location and the modules
-  pub locating_of-gives : (r : LocatedParts) (o : Output) → location_of c plan ms (gives r) → output ms plan c r (gives o) → of_modules files c (gives o)
-  locating_of-gives r o (flat, is_linked, (kept, is_kept, is_located)) puts =
-      (plan, inputs-planned files c plan ms is, (ms, inputs-modules files c plan ms is, (flat, is_linked, (kept, is_kept, (r, is_located, puts)))))
+  -- what is put out of what is kept of the flat list, of the location of that and of the modules
+  module _ (flat : List Parts) (is_linked : with_stops {T = Stop} link_fact (linked (tree_of c.marks) ms) (gives flat)) (kept : Kept)
+      (is_kept : kept_of c.keep flat (gives kept)) where
+    pub locating_of-gives : (r : LocatedParts) (o : Output) → located plan kept.modules (gives r) → output ms plan kept c r (gives o)
+        → of_modules files c (gives o)
+    locating_of-gives r o is_located puts =
+        (plan, inputs-planned files c plan ms is, (ms, inputs-modules files c plan ms is, (flat, is_linked, (kept, is_kept, (r, is_located, puts)))))
 
 -- a file that is named is written
 pub writes-gives : (c : Command) (name bytes : List ℕ) → c.out ≡ Some name → writes c.out bytes (gives (made name bytes))
@@ -176,7 +180,7 @@ locating-begins verb.Help never c = absurd never
 locating-begins verb.Version never c = absurd never
 locating-begins verb.Locate is c = linking-begins (locating absolute_file) c
 locating-begins verb.Dump is c = linking-begins (locating printed_image) c
-locating-begins verb.Map is c = linking_of-begins (λ ms c plan flat. locating (printed_map ms plan) c plan flat) c
+locating-begins verb.Map is c = linking_of-begins (λ ms c plan flat. locating_kept (printed_map ms plan) c plan flat) c
 locating-begins verb.Addr is c = linking-begins (locating printed_hit) c
 locating-begins verb.Bin is c = linking-begins (locating raw_file) c
 locating-begins verb.Txt is c = linking-begins (locating txt_file) c

@@ -26,19 +26,23 @@ use Rattle.mufom_meaning.specs.Location.{IsLocation}
 use Rattle.mufom_make.specs.Generated.{made_modules, made_plan, summary}
 use Rattle.mufom_groups.specs.Work.{gives, stops, Work, ◌>>=◌, sure, one_with, stop_at, nowhere, with_stops}
 use Rattle.mufom_groups.specs.Linked.{first_name, joined, linked}
-use Rattle.mufom_meaning.specs.Flat.{public_names}
+use Rattle.mufom_meaning.specs.Flat.{flat_sections, public_names}
 use Rattle.mufom_meaning.specs.Joined.{IsJoined}
+use Rattle.mufom_meaning.specs.Placed.{placed_commons}
 use Rattle.mufom_module.specs.Defects.{IsValid}
 use Rattle.mufom_module.specs.Made.{IsMade}
 use Rattle.mufom_plan.specs.Names.{has_name}
-use Rattle.mufom_prune.specs.Pruned.{IsPruned}
+use Rattle.mufom_prune.specs.Kept.{IsKept}
+use Rattle.mufom_prune.specs.Pruned.{Remains, remains, without_others}
 use Rattle.mufom_command.specs.Stop.{Stop, words_refused, plan_refused, file_refused, past_limit, link_fact, keep_unknown, locate_fact, raw_too_long}
 use Rattle.mufom_command.specs.Stop.{text_refused}
 use Rattle.mufom_command.specs.FlatFiles.{AreFlatFiles}
 use Rattle.mufom_command.specs.Inputs.{ComeTo, accepted, refused, past_limit as past}
 use Rattle.mufom_write.specs.Raw.{raw_image}
 use Rattle.mufom_addr.specs.AddressHit.{hit_at}
-use Rattle.mufom_map.specs.Mapped.{mapped}
+use Rattle.mufom_origins.specs.declared.origins.Origin.{Origin}
+use Rattle.mufom_origins.specs.Origins.{origins_left, origins_of}
+use Rattle.mufom_map.specs.Mapped.{Mapped, mapped_by}
 use Rattle.mufom_map.specs.MapText.{map_text}
 use Rattle.mufom_meaning.specs.declared.located.Run.{Run}
 use Rattle.mufom_titxt.specs.declared.refusal.TxtRefusal.{TxtRefusal}
@@ -133,22 +137,41 @@ located plan ms = located_unless (locate_answer ms plan) plan ms
 
 -- ---- what is kept
 
+-- What is kept of a list: the modules that are located in its place, and what of the list's link remains in them. Where nothing is said
+-- of that, all of the list is kept.
+pub record Kept : Type 0 where
+  pub modules : List Parts
+  pub rest : Option Remains
+
+-- all of a list
+abbrev pub all_of : List Parts → Kept
+all_of ms = record { modules = ms; rest = None }
+
+-- what remains of a module
+abbrev pub rest_of : Parts → Remains → Kept
+rest_of M c = record { modules = without_others M c ∷ []; rest = Some c }
+
+-- what remains of a module for a name
+abbrev pub rest_of_module : List ℕ → Parts → Work Stop Kept
+rest_of_module name M = do
+  marks ← one_with (IsKept M name)
+  sure (rest_of M (remains M marks))
+
 -- what remains of the partial link of a list for a name; the link is a module without a defect, under the name of the first module
-abbrev pub rest_of_link : List ℕ → List Parts → Work Stop (List Parts)
+abbrev pub rest_of_link : List ℕ → List Parts → Work Stop Kept
 rest_of_link name ms = do
   M ← one_with (λ M. IsValid M × IsJoined M ms (first_name ms))
-  rest ← one_with (λ rest. IsPruned rest M name)
-  sure (rest ∷ [])
+  rest_of_module name M
 
 -- the same, where a public of the list has the name
-abbrev pub kept_unless : Bool → List ℕ → List Parts → Work Stop (List Parts)
+abbrev pub kept_unless : Bool → List ℕ → List Parts → Work Stop Kept
 kept_unless false name ms = stop_at (keep_unknown name)
 kept_unless true name ms = rest_of_link name ms
 
 -- What is located of a list that can be linked: the list or, where a name is given, what remains of its link for the public of that
 -- name.
-abbrev pub kept_of : Option (List ℕ) → List Parts → Work Stop (List Parts)
-kept_of None ms = sure ms
+abbrev pub kept_of : Option (List ℕ) → List Parts → Work Stop Kept
+kept_of None ms = sure (all_of ms)
 kept_of (Some name) ms = kept_unless (has_name (public_names ms) name) name ms
 
 -- ---- what is put out of a list of modules that can be linked, by a plan
@@ -159,12 +182,16 @@ linked_file c plan ms = do
   M ← with_stops link_fact (joined c.name ms)
   writes_module c.out M
 
--- what is put out of the location of what is kept of it
-abbrev pub locating : (Command → LocatedParts → Work Stop Output) → Command → Plan → List Parts → Work Stop Output
-locating output c plan ms = do
+-- what is put out of what is kept of it, and of the location of that
+abbrev pub locating_kept : (Kept → Command → LocatedParts → Work Stop Output) → Command → Plan → List Parts → Work Stop Output
+locating_kept output c plan ms = do
   kept ← kept_of c.keep ms
-  r ← located plan kept
-  output c r
+  r ← located plan kept.modules
+  output kept c r
+
+-- the same, where what is put out depends on the location alone
+abbrev pub locating : (Command → LocatedParts → Work Stop Output) → Command → Plan → List Parts → Work Stop Output
+locating output c plan ms = locating_kept (λ kept. output) c plan ms
 
 -- ---- what is put out of a location
 
@@ -189,12 +216,25 @@ raw_file c r = unless_too_long (nat_lt MOST_FILE_BYTES (length (raw_image c.fill
 abbrev pub txt_file : Command → LocatedParts → Work Stop Output
 txt_file c r = writes c.out (txt_text r.runs)
 
--- The map of the flat list with the files of its modules, which are these in the order of the files. (All of the flat list is located:
--- `map` has no `--keep`.)
-abbrev pub printed_map : List Parts → Plan → Command → LocatedParts → Work Stop Output
-printed_map ms plan c r = do
+-- the origins of the entries that are kept of a list whose modules have these: the modules stay, without the entries that go
+abbrev pub kept_origins : Option Remains → List Origin → List Origin
+kept_origins None origins = origins
+kept_origins (Some c) origins = origins_left c.sections c.publics origins
+
+-- what a map shows of what is kept of a list whose modules have these origins, and whose location this is
+abbrev pub mapped_kept : List Origin → Plan → Kept → LocatedParts → Mapped
+mapped_kept origins plan kept r =
+    mapped_by (kept_origins kept.rest origins) plan (flat_sections kept.modules) (placed_commons kept.modules plan) r
+
+-- its text
+abbrev pub map_with : List Origin → Plan → Kept → Command → LocatedParts → Work Stop Output
+map_with origins plan kept c r = prints (map_text (mapped_kept origins plan kept r))
+
+-- The map of what is kept of the flat list, with the files of all modules of the list. These are the modules in the order of the files.
+abbrev pub printed_map : List Parts → Plan → Kept → Command → LocatedParts → Work Stop Output
+printed_map ms plan kept c r = do
   flat ← one_with (AreFlatFiles (tree_of c.marks) ms)
-  prints (map_text (mapped flat plan r))
+  map_with (origins_of flat) plan kept c r
 
 -- the lines of the function and the source line at an address
 abbrev pub printed_hit : Command → LocatedParts → Work Stop Output
@@ -221,9 +261,9 @@ linking_of output files c = do
 abbrev pub linking : (Command → Plan → List Parts → Work Stop Output) → List NamedFile → Command → Work Stop Output
 linking output files c = linking_of (λ ms. output) files c
 
--- What is put out of the location of the flat list, and of the modules of the files.
+-- What is put out of what is kept of the flat list, of its location, and of the modules of the files.
 abbrev pub mapping : List NamedFile → Command → Work Stop Output
-mapping files c = linking_of (λ ms c plan flat. locating (printed_map ms plan) c plan flat) files c
+mapping files c = linking_of (λ ms c plan flat. locating_kept (printed_map ms plan) c plan flat) files c
 
 -- the rows of the bytes that a text gives to addresses, unless something is wrong with it
 abbrev pub runs_unless : Option TxtRefusal → List ℕ → Work Stop (List Run)

@@ -1,5 +1,5 @@
 -- What a map is printed from, as the code holds it.
-use Rattle.std.specs.Prelude.{◌≡◌, List, [], ◌∷◌}
+use Rattle.std.specs.Prelude.{◌≡◌, ℕ, List, [], ◌∷◌, Option}
 use Rattle.mufom_module.specs.declared.module.Parts.{Parts}
 use Rattle.mufom_plan.specs.declared.plan.Plan.{Plan}
 use Rattle.mufom_image.specs.Placements.{IsSoundPlan}
@@ -8,14 +8,32 @@ use Rattle.mufom_meaning.specs.Location.{IsLocation}
 use Rattle.mufom_meaning.specs.Placed.{placed_commons}
 use Rattle.mufom_words.specs.declared.command.Command.{Command}
 use Rattle.mufom_words.specs.Tree.{tree_of}
-use Rattle.mufom_groups.specs.Work.{gives}
-use Rattle.mufom_origins.specs.Origins.{FileModule}
-use Rattle.mufom_map.specs.Mapped.{Mapped, mapped, mapped_by}
+use Rattle.mufom_groups.specs.Linked.{linked}
+use Rattle.mufom_groups.specs.Work.{gives, with_stops}
+use Rattle.mufom_origins.specs.declared.origins.Origin.{Origin}
+use Rattle.mufom_origins.specs.Origins.{FileModule, origins_of}
+use Rattle.mufom_map.specs.Mapped.{Mapped, mapped_by}
 use Rattle.mufom_command.specs.declared.maps.MapInputs.{MapInputs}
+use Rattle.mufom_command.specs.declared.maps.TracedModule.{TracedModule}
+use Rattle.mufom_command.specs.Commands.{Kept, kept_of, kept_origins, located, mapped_kept}
 use Rattle.mufom_command.specs.FlatFiles.{AreFlatFiles}
-use Rattle.mufom_command.specs.WorkEnds.{location_of}
+use Rattle.mufom_command.specs.Stop.{Stop, link_fact}
+use Rattle.mufom_command.specs.WorkEnds.{own_kept}
 
--- what is shown of them
+-- these are the origins of the modules of the flat list
+pub record AreOriginsOf (c : Command) (ms : List Parts) (origins : List Origin) : Type 0 where
+  pub flat : List FileModule
+  pub files : AreFlatFiles (tree_of c.marks) ms flat
+  pub are : origins ≡ origins_of flat
+
+-- The module is what is kept of the whole one, and its entries come from the modules that they came from there.
+pub record IsKeptPart (keep : Option (List ℕ)) (whole part : TracedModule) : Type 0 where
+  pub kept : Kept
+  pub keeps : own_kept keep whole.object (gives kept)
+  pub modules : kept.modules ≡ part.object ∷ []
+  pub origins : part.origins ≡ kept_origins kept.rest whole.origins
+
+-- what is shown of the inputs
 abbrev pub shown_of : MapInputs → Mapped
 shown_of m = mapped_by m.origins m.plan (flat_sections (m.object ∷ [])) (placed_commons (m.object ∷ []) m.plan) m.located
 
@@ -24,10 +42,14 @@ pub record AreLocated (m : MapInputs) : Type 0 where
   pub sound : IsSoundPlan m.plan
   pub located : IsLocation (m.object ∷ []) m.plan m.located
 
--- The files come to this location, and what is shown is the map of the flat list with its files.
+-- The location is that of what is kept of the flat list, and what is shown is the map of that with the files of the list.
 pub record AreMapped (c : Command) (plan : Plan) (ms : List Parts) (m : MapInputs) : Type 0 where
   pub are_located : AreLocated m
-  pub location : location_of c plan ms (gives m.located)
+  pub list : List Parts
+  pub links : with_stops {T = Stop} link_fact (linked (tree_of c.marks) ms) (gives list)
+  pub kept : Kept
+  pub keeps : kept_of c.keep list (gives kept)
+  pub location : located plan kept.modules (gives m.located)
   pub flat : List FileModule
   pub files : AreFlatFiles (tree_of c.marks) ms flat
-  pub shows : shown_of m ≡ mapped flat plan m.located
+  pub shows : shown_of m ≡ mapped_kept (origins_of flat) plan kept m.located

@@ -15,12 +15,11 @@ use Rattle.mufom_read.specs.Judging.{IsModule}
 use Rattle.mufom_plan.specs.declared.plan.Plan.{Plan}
 use Rattle.mufom_meaning.specs.declared.located.LocatedParts.{LocatedParts}
 use Rattle.mufom_meaning.specs.Absolute.{absolute_of, no_regions}
-use Rattle.mufom_meaning.specs.Flat.{flat_sections, public_names}
+use Rattle.mufom_meaning.specs.Flat.{public_names}
 use Rattle.mufom_meaning.specs.Joined.{IsJoined}
 use Rattle.mufom_meaning.specs.LinkAnswer.{link_answer}
 use Rattle.mufom_meaning.specs.LocateAnswer.{locate_answer}
 use Rattle.mufom_meaning.specs.Location.{IsLocation}
-use Rattle.mufom_meaning.specs.Placed.{placed_commons}
 use Rattle.mufom_meaning.specs.Staging.{AreValid, HaveDescriptor, IsStaged, StandsFor}
 use Rattle.mufom_groups.specs.Linked.{IsFlatList, first_name, linked}
 use Rattle.mufom_groups.specs.Work.{Reached, gives, Work, nowhere, IsSingle}
@@ -30,12 +29,10 @@ use Rattle.mufom_write.specs.Raw.{raw_image}
 use Rattle.mufom_numbers.specs.declared.limits.TheConstants.{MOST_FILE_BYTES}
 use Rattle.mufom_origins.specs.declared.origins.Origin.{Origin}
 use Rattle.mufom_origins.specs.Origins.{FileModule, origins_of}
-use Rattle.mufom_map.specs.Mapped.{mapped_by}
-use Rattle.mufom_map.specs.MapText.{map_text}
 use Rattle.mufom_command.specs.FlatFiles.{AreFlatFiles}
 use Rattle.mufom_command.specs.Stop.{Stop}
-use Rattle.mufom_command.specs.Commands.{Output, made, prints, kept_of, plan_in, modules_in, linked_file, locating, absolute_file, printed_hit}
-use Rattle.mufom_command.specs.Commands.{printed_image, raw_file, txt_file, work_of, run_of}
+use Rattle.mufom_command.specs.Commands.{Kept, Output, made, kept_of, plan_in, modules_in, linked_file, locating, locating_kept, map_with, absolute_file}
+use Rattle.mufom_command.specs.Commands.{printed_hit, printed_image, raw_file, txt_file, work_of, run_of}
 use Rattle.mufom_command.specs.Run.{Call, outcome_of, Answers}
 
 -- ---- the outcome of a run
@@ -90,9 +87,9 @@ MayPutOut _ c r = Unit {0}
 -- the name, and no locate fact stands against what is kept
 pub record HasNoFact (keep : Option (List ℕ)) (ms : List Parts) (plan : Plan) : Type 0 where
   pub links : link_answer ms ≡ None
-  pub kept : List Parts
+  pub kept : Kept
   pub keeps : kept_of keep ms (gives kept)
-  pub locates : locate_answer kept plan ≡ None
+  pub locates : locate_answer kept.modules plan ≡ None
 
 -- Where nothing failed and memory sufficed, locating accepted files is done exactly where no fact stands against their flat list, or
 -- against what is kept of it, wherever the files have their groups. Of a raw image this is so where it has not too many bytes.
@@ -100,7 +97,7 @@ abbrev pub LocatingIsDone : Type 0
 LocatingIsDone =
     (words : List (List ℕ)) (files : List NamedFile) (call : Call) (result : Outcome) (c : Command) (plan : Plan) (flat : List Parts)
     → Answers words call result → IsUndisturbed files call result → answer_of words ≡ Ok c → IsLocating c.verb → Accepts files c plan flat
-    → ((kept : List Parts) (r : LocatedParts) → kept_of c.keep flat (gives kept) → IsLocation kept plan r → MayPutOut c.verb c r)
+    → ((kept : Kept) (r : LocatedParts) → kept_of c.keep flat (gives kept) → IsLocation kept.modules plan r → MayPutOut c.verb c r)
     → (result ≡ outcome.Done) ↔ HasNoFact c.keep flat plan
 
 -- ---- stages
@@ -161,16 +158,12 @@ RunsOfStages =
 
 -- ---- stages and maps
 
--- the map of a list, where its modules have these origins
-abbrev pub map_with : List Origin → Plan → List Parts → Command → LocatedParts → Work Stop Output
-map_with origins plan ms c r = prints (map_text (mapped_by origins plan (flat_sections ms) (placed_commons ms plan) r))
-
 -- The map of a list that earlier runs linked in stages is that of the list that the stages began with, but that the modules are those of
 -- the first list. The map names modules and files, and a partial link forgets those that it is made of.
 abbrev pub MapsAreAlike : Type 0
 MapsAreAlike =
     (c : Command) (plan : Plan) (ms leaves : List Parts) (origins : List Origin) → CameByStages ms leaves
-    → IsSameWork (locating (map_with origins plan ms) c plan ms) (locating (map_with origins plan leaves) c plan leaves)
+    → IsSameWork (locating_kept (map_with origins plan) c plan ms) (locating_kept (map_with origins plan) c plan leaves)
 
 -- So `map` over files that were linked in stages comes to the map of the list that the stages began with, with the modules of the files.
 abbrev pub MapsOfStages : Type 0
@@ -178,7 +171,7 @@ MapsOfStages =
     (files : List NamedFile) (c : Command) (plan : Plan) (flat leaves : List Parts) (own : List FileModule)
     → HoldBytes files → c.verb ≡ verb.Map → (leads : LeadsTo files c plan flat) → AreFlatFiles (tree_of c.marks) leads.modules own
     → CameByStages flat leaves
-    → IsSameWork (work_of c.verb files c) (locating (map_with (origins_of own) plan leaves) c plan leaves)
+    → IsSameWork (work_of c.verb files c) (locating_kept (map_with (origins_of own) plan) c plan leaves)
 
 -- ---- files that are made
 
@@ -206,9 +199,9 @@ pub record IsFileOfLocation (c : Command) (plan : Plan) (flat : List Parts) (out
   pub name : List ℕ
   pub file : c.out ≡ Some name
   pub bytes : output ≡ made name (written (absolute_of location))
-  pub kept : List Parts
+  pub kept : Kept
   pub keeps : kept_of c.keep flat (gives kept)
-  pub located : IsLocation kept plan location
+  pub located : IsLocation kept.modules plan location
   pub itself : IsLocation (absolute_of location ∷ []) no_regions location
   pub read_back : length (written (absolute_of location)) ≤ MOST_FILE_BYTES → IsModule true (written (absolute_of location)) (absolute_of location)
 

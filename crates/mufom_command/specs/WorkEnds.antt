@@ -8,7 +8,8 @@ use Rattle.mufom_module.specs.declared.module.Parts.{Parts}
 use Rattle.mufom_plan.specs.declared.plan.Plan.{Plan}
 use Rattle.mufom_plan.specs.Names.{has_name}
 use Rattle.mufom_meaning.specs.Flat.{public_names}
-use Rattle.mufom_prune.specs.Pruned.{IsPruned}
+use Rattle.mufom_prune.specs.declared.refusal.PruneRefusal.{PruneRefusal}
+use Rattle.mufom_prune.specs.declared.refusal.PruneRefusal.TheVariants as prune
 use Rattle.mufom_place.specs.declared.refusal.PlaceRefusal.TheVariants as place_refusal
 use Rattle.mufom_meaning.specs.Facts.{placement}
 use Rattle.mufom_meaning.specs.declared.located.LocatedParts.{LocatedParts}
@@ -20,9 +21,9 @@ use Rattle.mufom_words.specs.Sound.{IsSound}
 use Rattle.mufom_words.specs.Tree.{tree_of}
 use Rattle.mufom_groups.specs.Groups.{most_weight}
 use Rattle.mufom_groups.specs.Linked.{linked}
-use Rattle.mufom_groups.specs.Work.{Work, ◌>>=◌, gives, one_with, stop_at, stops, with_stops}
+use Rattle.mufom_groups.specs.Work.{Work, ◌>>=◌, gives, stop_at, stops, sure, with_stops}
 use Rattle.mufom_host.specs.World.{NamedFile}
-use Rattle.mufom_command.specs.Commands.{kept_of, located}
+use Rattle.mufom_command.specs.Commands.{Kept, all_of, kept_of, located, rest_of_module}
 use Rattle.mufom_command.specs.InputsRead.{inputs_in}
 use Rattle.mufom_command.specs.declared.outcome.Outcome.{Outcome}
 use Rattle.mufom_command.specs.declared.outcome.Outcome.TheVariants as outcome
@@ -39,6 +40,10 @@ abbrev pub outcome_of_locate : ℕ → LocateRefusal → Outcome
 outcome_of_locate maus locate.NoMemory = outcome.NoMemory
 outcome_of_locate maus r = outcome.Refused (refusal.Locate r maus)
 
+abbrev pub outcome_of_prune : PruneRefusal → Outcome
+outcome_of_prune prune.NoMemory = outcome.NoMemory
+outcome_of_prune (prune.Unknown name) = outcome.Refused (refusal.Keep name)
+
 -- what linking asks of a command and of the modules of its files
 pub record AreLinkable (c : Command) (ms : List Parts) : Type 0 where
   pub sound : IsSound c
@@ -47,24 +52,28 @@ pub record AreLinkable (c : Command) (ms : List Parts) : Type 0 where
   pub valid : AreValid ms
   pub light : total_weight ms ≤ most_weight
 
--- the location of what remains of a module for a name, where one of its publics has it
-abbrev pub rest_location : Bool → List ℕ → Plan → Parts → Work Stop LocatedParts
-rest_location false name plan M = stop_at (keep_unknown name)
-rest_location true name plan M = do
-  rest ← one_with (λ rest. IsPruned rest M name)
-  located plan (rest ∷ [])
+-- what remains of a module for a name, where one of its publics has it
+abbrev pub own_rest : Bool → List ℕ → Parts → Work Stop Kept
+own_rest false name M = stop_at (keep_unknown name)
+own_rest true name M = rest_of_module name M
 
--- the location of one module, or of what remains of it for a name
+-- what is kept of one module
+abbrev pub own_kept : Option (List ℕ) → Parts → Work Stop Kept
+own_kept None M = sure (all_of (M ∷ []))
+own_kept (Some name) M = own_rest (has_name (public_names (M ∷ [])) name) name M
+
+-- its location by a plan
 abbrev pub own_location : Option (List ℕ) → Plan → Parts → Work Stop LocatedParts
-own_location None plan M = located plan (M ∷ [])
-own_location (Some name) plan M = rest_location (has_name (public_names (M ∷ [])) name) name plan M
+own_location keep plan M = do
+  kept ← own_kept keep M
+  located plan kept.modules
 
 -- the location, by a plan, of what is kept of the flat list of the modules of the files
 abbrev pub location_of : Command → Plan → List Parts → Work Stop LocatedParts
 location_of c plan ms = do
   flat ← with_stops link_fact (linked (tree_of c.marks) ms)
   kept ← kept_of c.keep flat
-  located plan kept
+  located plan kept.modules
 
 -- the files come to this location
 abbrev pub LocatesTo : List NamedFile → Command → LocatedParts → Type 0

@@ -73,7 +73,7 @@ fn answer<H: Host>(alloc: Global, words: &[String], host: &mut H) -> Outcome
 /// `locate -o OUT FILES`, `dump FILES`, `map FILES`, `make COUNT`, `addr --at ADDRESS FILES`, `bin -o OUT FILES`,
 /// `txt -o OUT FILES`, `fromtxt -o OUT FILE`, `help` or `version`, each with its options.
 ///
-/// `words` are the command line's words without the program's name, fewer than 2^32. If a plan is
+/// `words` are the command line's arguments without the program's name, fewer than 2^32. If a plan is
 /// named, it is read first, and then the files. Every outcome except `Done` prints one error line; if
 /// printing fails, the outcome stays the same. A file is created only after its whole contents are known.
 pub fn run<H: Host>(alloc: Global, words: &[String], host: &mut H) -> Outcome

@@ -97,14 +97,14 @@ fn limit_line(alloc: Global, file: u32) -> Result<String, NoMemory>
     Ok(format!(in alloc; "refused: file {file}: InputLimit\n")?)
 }
 
-// The line of words with too many files.
+// The error line of arguments with too many files.
 fn count_line(alloc: Global, count: u32) -> Result<String, NoMemory>
     ensures { IfOk result (λ text. string_bytes text ≡ complaint (Outcome.Refused (Refusal.TooManyFiles count))) }
 {
     Ok(format!(in alloc; "refused: TooManyFiles {count}\n")?)
 }
 
-// The line of words with too many groups that are open at once.
+// The error line of arguments with too many groups open at once.
 fn depth_line(alloc: Global, depth: u32) -> Result<String, NoMemory>
     ensures { IfOk result (λ text. string_bytes text ≡ complaint (Outcome.Refused (Refusal.TooDeep depth))) }
 {
@@ -173,7 +173,7 @@ fn field_name(field: PlanField) -> &'static str
     }
 }
 
-// Adds why bytes are no plan.
+// Adds the reason why the plan is invalid.
 fn push_plan(alloc: Global, text: &mut Vec<u8>, refusal: PlanRefusal) -> Result<(), NoMemory>
     ensures { OnOk result (text.new.items ≡ text.old.items ++ plan_text refusal) }
 {
@@ -194,7 +194,7 @@ fn push_plan(alloc: Global, text: &mut Vec<u8>, refusal: PlanRefusal) -> Result<
     Ok(())
 }
 
-// The line of bytes that are no plan.
+// The error line of an invalid plan.
 fn plan_line(alloc: Global, refusal: PlanRefusal) -> Result<Vec<u8>, NoMemory>
     ensures { IfOk result (λ text. text.items ≡ complaint (Outcome.Refused (Refusal.Plan refusal))) }
 {
@@ -248,7 +248,7 @@ fn push_text_reason(alloc: Global, text: &mut Vec<u8>, reason: TxtReason) -> Res
     Ok(())
 }
 
-// The line of bytes that are no text.
+// The error line of an invalid text.
 fn text_line(alloc: Global, refusal: TxtRefusal) -> Result<Vec<u8>, NoMemory>
     ensures { IfOk result (λ text. text.items ≡ complaint (Outcome.Refused (Refusal.Text refusal))) }
 {

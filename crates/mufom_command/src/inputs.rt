@@ -115,7 +115,7 @@ fn read_files<H: Host>(
 /// The inputs of a command.
 #[derive(Drop)]
 pub(crate) struct Inputs {
-    /// The plan; the one without regions where the command names none.
+    /// The plan; the one without regions if the command names none.
     pub plan: Plan,
     /// The modules of the files.
     pub modules: List<Module>,

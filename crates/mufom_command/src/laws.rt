@@ -5,18 +5,18 @@ ghost use Rattle.mufom_command.specs.MakeLaws.{MakeIsDone};
 ghost use Rattle.mufom_command.specs.RunLaws.{AbsoluteFilesStand, AnswersAreDetermined, LinkedFilesStand, LocatingIsDone, MapsAreAlike, MapsOfStages};
 ghost use Rattle.mufom_command.specs.RunLaws.{RunsAreSingle, RunsOfStages, StagesMakeNoDifference};
 
-/// Files that are read in order come to one verdict, where they hold bytes.
+/// Files that are read in order have one verdict, if they hold bytes.
 pub fn files_have_one_verdict()
     ensures { HaveOneVerdict }
 {}
 
-/// A run comes to one output, or to one end, at most.
+/// A run has at most one result: one output or one error.
 pub fn runs_are_single()
     ensures { RunsAreSingle }
 {}
 
-/// Where no call failed and memory sufficed, the outcome of a run is the one that its arguments and files
-/// come to.
+/// If no call failed and memory sufficed, the outcome of a run is the one that its arguments and files
+/// determine.
 pub fn answers_are_determined()
     ensures { AnswersAreDetermined }
 {}
@@ -34,25 +34,25 @@ pub fn stages_make_no_difference()
     ensures { StagesMakeNoDifference }
 {}
 
-/// A command whose files were linked in stages comes to what is put out of the list that the stages
-/// began with.
+/// A command whose files were linked in stages has the same output or error as over the list that the
+/// stages began with.
 pub fn runs_of_stages()
     ensures { RunsOfStages }
 {}
 
 /// The map of a list that earlier runs linked in stages is that of the list that the stages began with,
-/// but that the modules and files that it names are those of the first list.
+/// except that the modules and files that it names are those of the first list.
 pub fn maps_are_alike()
     ensures { MapsAreAlike }
 {}
 
-/// `map` over files that were linked in stages comes to the map of the list that the stages began with,
-/// with the modules of the files.
+/// `map` over files that were linked in stages prints the map of the list that the stages began with,
+/// with the modules of the files, or has the same error.
 pub fn maps_of_stages()
     ensures { MapsOfStages }
 {}
 
-/// What a link puts out is the file of a module that stands for the flat list, in every context. The file,
+/// The output of `link` is the file of a module that can replace the flat list, in every context. The file,
 /// if it is not too long, is read as that module.
 pub fn linked_files_stand()
     ensures { LinkedFilesStand }

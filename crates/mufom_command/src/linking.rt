@@ -22,7 +22,8 @@ ghost use Rattle.mufom_command.specs.Making.{IsMadeAlone};
 ghost use Rattle.mufom_command.specs.Run.{call_of, inputs_of};
 ghost use Rattle.mufom_command.specs.RunParts.{Does};
 ghost use Rattle.mufom_command.specs.Stop.{link_fact};
-ghost use Rattle.mufom_command.specs.WorkEnds.{outcome_of_link, outcome_of_locate, own_location, AreLinkable, EndsAt, LocatesTo, location_of};
+ghost use Rattle.mufom_command.specs.WorkEnds.{outcome_of_link, outcome_of_locate, outcome_of_prune, own_location};
+ghost use Rattle.mufom_command.specs.WorkEnds.{AreLinkable, EndsAt, LocatesTo, location_of};
 
 use crate::inputs::{Inputs, read_inputs};
 use crate::outcome::{Outcome, Refusal};
@@ -55,6 +56,16 @@ pub(crate) fn outcome_of_locate(maus: u8, refusal: LocateRefusal) -> Outcome
     match refusal {
         LocateRefusal::NoMemory => Outcome::NoMemory,
         refusal => Outcome::Refused(Refusal::Locate(refusal, maus)),
+    }
+}
+
+/// The outcome if a module is not pruned.
+pub(crate) fn outcome_of_prune(refusal: PruneRefusal) -> Outcome
+    ensures { result ≡ outcome_of_prune refusal }
+{
+    match refusal {
+        PruneRefusal::NoMemory => Outcome::NoMemory,
+        PruneRefusal::Unknown(name) => Outcome::Refused(Refusal::Keep(name)),
     }
 }
 
@@ -106,8 +117,7 @@ fn pruned_location(
 {
     match prune(alloc, object, name) {
         Ok(rest) => located(alloc, &rest, plan),
-        Err(PruneRefusal::Unknown(name)) => Err(Outcome::Refused(Refusal::Keep(name))),
-        Err(PruneRefusal::NoMemory) => Err(Outcome::NoMemory),
+        Err(refusal) => Err(outcome_of_prune(refusal)),
     }
 }
 

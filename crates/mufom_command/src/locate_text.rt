@@ -119,7 +119,7 @@ fn push_place(alloc: Global, text: &mut Vec<u8>, refusal: PlaceRefusal) -> Resul
     }
 }
 
-// Adds where an expression stands.
+// Adds the site of an expression.
 fn push_site(alloc: Global, text: &mut Vec<u8>, maus: u8, site: &Site) -> Result<(), NoMemory>
     ensures { OnOk result (text.new.items ≡ text.old.items ++ site_text maus site.now) }
 {

@@ -1,8 +1,9 @@
 //! The command that tells what is at which address: `map`.
 
-ghost use Rattle.std.specs.Prelude.{◌≡◌, ◌≤◌, ◌<◌, ◌+◌, ◌^◌, None, length, true, IfErr, IfOk, List as list};
+ghost use Rattle.std.specs.Prelude.{◌≡◌, ◌≤◌, ◌<◌, ◌+◌, ◌^◌, None, Some, length, true, IfErr, IfOk, List as list};
 ghost use Rattle.mufom_host.specs.World.{OnlyPrints};
 ghost use Rattle.mufom_image.specs.Placements.{IsSoundPlan};
+ghost use Rattle.mufom_names.specs.Names.{names_of, AreDistinct};
 ghost use Rattle.mufom_module.specs.Defects.{IsValid};
 ghost use Rattle.mufom_module.specs.Written.{weight};
 ghost use Rattle.mufom_meaning.specs.Selection.{IsSelected};
@@ -12,19 +13,19 @@ ghost use Rattle.mufom_words.specs.Tree.{leaves, tree_of};
 ghost use Rattle.mufom_groups.specs.Groups.{most_weight};
 ghost use Rattle.mufom_groups.specs.Linked.{linked_module, members, roots};
 ghost use Rattle.mufom_groups.specs.Work.{gives, with_stops};
-ghost use Rattle.mufom_origins.specs.Origins.{numbered, origins_of};
+ghost use Rattle.mufom_origins.specs.Origins.{numbered, origins_left, origins_of};
 ghost use Rattle.mufom_origins.specs.Places.{with_chosen};
 ghost use Rattle.mufom_map.specs.MapText.{map_text};
 ghost use Rattle.mufom_command.specs.Commands.{mapping};
 ghost use Rattle.mufom_command.specs.Making.{IsPrinted};
-ghost use Rattle.mufom_command.specs.MapInputs.{AreLocated, AreMapped, shown_of};
+ghost use Rattle.mufom_command.specs.MapInputs.{AreLocated, AreMapped, AreOriginsOf, IsKeptPart, shown_of};
 ghost use Rattle.mufom_command.specs.Run.{call_of};
 ghost use Rattle.mufom_command.specs.RunParts.{Does};
 ghost use Rattle.mufom_command.specs.Stop.{link_fact};
-ghost use Rattle.mufom_command.specs.WorkEnds.{AreLinkable, EndsAt, location_of};
+ghost use Rattle.mufom_command.specs.WorkEnds.{AreLinkable, EndsAt, location_of, own_kept};
 
 use crate::inputs::{Inputs, read_inputs};
-use crate::linking::{located, outcome_of_link};
+use crate::linking::{located, outcome_of_link, outcome_of_prune};
 use crate::outcome::Outcome;
 use mufom_groups::{LinkedModules, link_with_members};
 use mufom_host::Host;
@@ -34,16 +35,27 @@ use mufom_module::Module;
 use mufom_numbers::{List, NoMemory};
 use mufom_origins::Origins;
 use mufom_plan::Plan;
+use mufom_prune::{Pruned, prune_with_marks};
 use mufom_text::PrintStop;
 use mufom_words::Command;
 use std::alloc::Global;
 
+/// A module with the origins of its entries.
+#[derive(Drop)]
+struct TracedModule {
+    /// The modules of the flat list, with their files and the numbers of those of their entries that the
+    /// module has.
+    origins: Origins,
+    /// The link of the flat list, or what is kept of it.
+    object: Module,
+}
+
 /// What a map is printed from.
 #[derive(Drop)]
 struct MapInputs {
-    /// The modules of the flat list, with their files.
+    /// The modules of the flat list, as in [`TracedModule`].
     origins: Origins,
-    /// Their link.
+    /// The module that is located.
     object: Module,
     plan: Plan,
     located: Located,
@@ -89,6 +101,85 @@ fn flat_origins(
     }
 }
 
+// The origins of what is left of a module, whose own these are.
+fn left_origins(alloc: Global, origins: &Origins, left: &Pruned) -> Result<Origins, Outcome>
+    ensures ok { IfOk result (λ few. few ≡ origins_left left.now.sections.items left.now.publics.items origins.now) }
+    ensures err { IfErr result (λ stop. stop ≡ Outcome.NoMemory) }
+{
+    match origins.left(alloc, left.sections.as_slice(), left.publics.as_slice()) {
+        Ok(few) => Ok(few),
+        Err(NoMemory) => Err(Outcome::NoMemory),
+    }
+}
+
+// What remains of a module for the public symbol of a name, with the origins of what remains; or the
+// outcome of the run.
+fn pruned_part(alloc: Global, whole: &TracedModule, name: &[u8]) -> Result<TracedModule, Outcome>
+    requires names { AreDistinct (names_of whole.now.object.names.publics) }
+    requires light { weight whole.now.object < most_weight + 2 ^ 16 }
+    ensures ok { IfOk result (IsKeptPart (Some name.now) whole.now) }
+    ensures names { IfOk result (λ part. AreDistinct (names_of part.object.names.publics)) }
+    ensures light { IfOk result (λ part. weight part.object < most_weight + 2 ^ 16) }
+    ensures stops { IfErr result (EndsAt (own_kept (Some name.now) whole.now.object)) }
+{
+    let left = match prune_with_marks(alloc, &whole.object, name) {
+        Ok(left) => left,
+        Err(refusal) => return Err(outcome_of_prune(refusal)),
+    };
+    match left_origins(alloc, &whole.origins, &left) {
+        Ok(origins) => Ok(TracedModule {
+            origins,
+            object: left.module,
+        }),
+        Err(stop) => Err(stop),
+    }
+}
+
+// The module, or what remains of it where the command names a public symbol to keep; or the outcome of
+// the run.
+fn kept_part(alloc: Global, command: &Command, whole: TracedModule) -> Result<TracedModule, Outcome>
+    requires names { AreDistinct (names_of whole.object.names.publics) }
+    requires light { weight whole.object < most_weight + 2 ^ 16 }
+    ensures ok { IfOk result (IsKeptPart command.now.keep whole) }
+    ensures names { IfOk result (λ part. AreDistinct (names_of part.object.names.publics)) }
+    ensures light { IfOk result (λ part. weight part.object < most_weight + 2 ^ 16) }
+    ensures stops { IfErr result (EndsAt (own_kept command.now.keep whole.object)) }
+{
+    match &command.keep {
+        Some(name) => pruned_part(alloc, &whole, name.as_slice()),
+        None => Ok(whole),
+    }
+}
+
+// The module into which the modules of the command are linked, with the origins of its entries, where
+// those of the modules are these; or the outcome of the run.
+fn traced_link(
+    alloc: Global,
+    command: &Command,
+    origins: &Origins,
+    modules: List<Module>,
+) -> Result<TracedModule, Outcome>
+    requires linkable { AreLinkable command.now modules }
+    requires origins { origins.now ≡ origins_of (numbered modules) }
+    ensures ok { IfOk result (λ link. linked_module command.now modules (gives link.object)) }
+    ensures origins { IfOk result (λ link. AreOriginsOf command.now modules link.origins) }
+    ensures valid { IfOk result (λ link. IsValid link.object) }
+    ensures light { IfOk result (λ link. weight link.object < most_weight + 2 ^ 16) }
+    ensures stops { IfErr result (EndsAt (with_stops link_fact (linked_module command.now modules))) }
+{
+    let linked = match linked_members(alloc, command, modules) {
+        Ok(linked) => linked,
+        Err(stop) => return Err(stop),
+    };
+    match flat_origins(alloc, origins, &linked) {
+        Ok(origins) => Ok(TracedModule {
+            origins,
+            object: linked.module,
+        }),
+        Err(stop) => Err(stop),
+    }
+}
+
 // What the map of the modules of the command is printed from, whose origins are these; or the outcome of
 // the run.
 fn located_map(
@@ -99,22 +190,20 @@ fn located_map(
 ) -> Result<MapInputs, Outcome>
     requires linkable { AreLinkable command.now inputs.modules }
     requires unnamed { command.now.name ≡ None }
-    requires whole { command.now.keep ≡ None }
     requires plan { IsSoundPlan inputs.plan }
     requires origins { origins.now ≡ origins_of (numbered inputs.modules) }
     ensures ok { IfOk result (AreMapped command.now inputs.plan inputs.modules) }
     ensures stops { IfErr result (EndsAt (location_of command.now inputs.plan inputs.modules)) }
 {
     let Inputs { plan, modules } = inputs;
-    let linked = match linked_members(alloc, command, modules) {
-        Ok(linked) => linked,
+    let link = match traced_link(alloc, command, origins, modules) {
+        Ok(link) => link,
         Err(stop) => return Err(stop),
     };
-    let origins = match flat_origins(alloc, origins, &linked) {
-        Ok(origins) => origins,
+    let TracedModule { origins, object } = match kept_part(alloc, command, link) {
+        Ok(part) => part,
         Err(stop) => return Err(stop),
     };
-    let object = linked.module;
     match located(alloc, &object, &plan) {
         Ok(located) => Ok(MapInputs {
             origins,
@@ -130,7 +219,6 @@ fn located_map(
 fn map_inputs(alloc: Global, command: &Command, inputs: Inputs) -> Result<MapInputs, Outcome>
     requires linkable { AreLinkable command.now inputs.modules }
     requires unnamed { command.now.name ≡ None }
-    requires whole { command.now.keep ≡ None }
     requires plan { IsSoundPlan inputs.plan }
     requires few { length inputs.modules < 2 ^ 32 }
     ensures ok { IfOk result (AreMapped command.now inputs.plan inputs.modules) }
@@ -167,7 +255,6 @@ pub(crate) fn map<H: Host>(alloc: Global, command: &Command, host: &mut H) -> Ou
     requires sound { IsSound command.now }
     requires of_files { reads_files command.now.verb ≡ true }
     requires unnamed { command.now.name ≡ None }
-    requires whole { command.now.keep ≡ None }
     requires no_file { command.now.out ≡ None }
     ensures { Does command.now (λ files. mapping files command.now) (call_of H.meaning H.faults host.old host.new) result }
 {

@@ -35,7 +35,7 @@ pub enum Refusal {
     Plan(PlanRefusal),
     /// The files, or those of a group, can't be linked.
     Link(LinkRefusal),
-    /// The files can't be located; an address of theirs has this number of units.
+    /// The files can't be located, with the number of units in an address.
     Locate(LocateRefusal, u8),
     /// No public symbol of the modules that are linked has this name, which is to be kept.
     Keep(Bytes),

@@ -13,12 +13,10 @@ use crate::outcome::{Input, Outcome, Refusal};
 use crate::whole_file::read_whole;
 use mufom_host::Host;
 use mufom_numbers::List;
+use mufom_numbers::limits::MOST_PLAN_BYTES;
 use mufom_plan::{Plan, PlanRefusal, read_plan};
 use mufom_words::Command;
 use std::alloc::Global;
-
-// How many bytes a plan has at most.
-const MOST_PLAN_BYTES: usize = 65_536;
 
 // The plan that the bytes state, or the outcome of the run.
 fn plan_of(alloc: Global, text: &[u8]) -> Result<Plan, Outcome>
@@ -48,7 +46,7 @@ fn read_plan_file<H: Host>(alloc: Global, name: &str, host: &mut H) -> Result<Pl
     }
 }
 
-/// Reads the plan that the command names; the one without regions where it names none.
+/// Reads the plan that the command names; the one without regions if it names none.
 pub(crate) fn command_plan<H: Host>(
     alloc: Global,
     command: &Command,

@@ -2,28 +2,28 @@
 
 ghost use Rattle.mufom_groups.specs.Laws.{GroupsMakeNoDifference, LinkFactsStand, LinkedIsFlat, LinksAreSingle, LinksStandForFlat};
 
-/// Commands that differ in their brackets at most come to the same module, of whatever modules, and to
-/// a link fact both or neither.
+/// Commands that differ at most in their brackets link any modules into the same module; if one of them
+/// has a link fact, so has the other.
 pub fn groups_make_no_difference()
     ensures { GroupsMakeNoDifference }
 {}
 
-/// The list that is linked at last is the flat list, exactly where no link fact stands against it.
+/// The list that is linked last is the flat list if and only if the flat list has no link fact.
 pub fn linked_is_flat()
     ensures { LinkedIsFlat }
 {}
 
-/// A link fact against a list that is linked before stands against the flat list too.
+/// A link fact of a list that is linked before is also one of the flat list.
 pub fn link_facts_stand()
     ensures { LinkFactsStand }
 {}
 
-/// The modules of a command come to one module, or to one link fact, at most.
+/// The modules of a command have at most one result: one module, or one link fact.
 pub fn links_are_single()
     ensures { LinksAreSingle }
 {}
 
-/// The module into which modules without a defect are linked stands for their flat list: it means what
+/// The module into which modules without a defect are linked can replace their flat list: it means what
 /// the list means, whatever modules are around it and wherever its sections are placed.
 pub fn links_stand_for_flat_lists()
     ensures { LinksStandForFlat }

@@ -1,7 +1,7 @@
 //! Linking the modules of a command: by its groups, from the inside out, and with the members that its roots need.
 //!
 //! [`link_modules`] links each group as its bracket closes, then the roots, selects members for them, and links these. Its
-//! main clause is that the module that it returns is the link of the flat list, wherever the groups stand, and a refusal is
+//! main clause is that the module that it returns is the link of the flat list, wherever the groups are, and a refusal is
 //! the first link fact.
 #![tactic(auto)]
 

@@ -75,7 +75,7 @@ fn next_module(rest: &mut IntoIter<Module>) -> Module
     }
 }
 
-// The module after `count` others, which are let go; none where there are no more.
+// The module after `count` others, which are dropped; `None` if there are no more.
 fn module_after(rest: &mut IntoIter<Module>, count: usize) -> Option<Module>
     ensures item { result ≡ slice_get (into_iter_items rest.old) count }
     ensures rest { into_iter_items rest.new ≡ drop (count + 1) (into_iter_items rest.old) }
@@ -143,7 +143,7 @@ fn close_group(
     }
 }
 
-// What a mark asks for: a group begins or closes, or the next of the roots stands for a file.
+// Does what a mark says: a group begins or closes, or the next of the roots is added for a file.
 fn take_mark(
     alloc: Global,
     mark: &Mark,
@@ -192,7 +192,7 @@ fn link_groups(
     Ok(linked)
 }
 
-// 1 where the mark names a file, and 0 where it is a bracket.
+// 1 if the mark names a file, and 0 if it is a bracket.
 fn own_files(mark: &Mark) -> usize
     ensures value { result ≡ length (files_of (mark.now ∷ [])) }
     ensures few { result ≤ 1 }

@@ -19,7 +19,7 @@ use Rattle.mufom_groups.specs.Work.{Reached, gives, stops, Work}
 use Rattle.mufom_command.specs.declared.outcome.Outcome.{Outcome}
 use Rattle.mufom_command.specs.declared.outcome.Outcome.TheVariants as outcome
 use Rattle.mufom_command.specs.Stop.{Stop, locate_fact}
-use Rattle.mufom_command.specs.Commands.{Output, kept_of, located_unless, locating, absolute_file, printed_image, linking, maus_of, work_by, work_of}
+use Rattle.mufom_command.specs.Commands.{Kept, Output, kept_of, located_unless, locating, absolute_file, printed_image, linking, maus_of, work_by, work_of}
 use Rattle.mufom_command.specs.Run.{Call, PutsOut, outcome_of}
 use Rattle.mufom_command.specs.RunLaws.{Accepts, CameByStages, HasNoFact, IsSameWork, IsUndisturbed, put_out_of}
 use Rattle.mufom_command.proofs.Determined.{answers-determined}
@@ -38,22 +38,27 @@ use Rattle.mufom_headline.proofs.LinkedFiles.{file-made, flat-valid}
 
 -- the location of what is kept of the list, from which this was put out
 record IsOutputOf (output : Command → LocatedParts → Work Stop Output) (c : Command) (plan : Plan) (list : List Parts) (o : Output) : Type 0 where
-  kept : List Parts
+  kept : Kept
   keeps : kept_of c.keep list (gives kept)
   location : LocatedParts
-  is_location : IsLocation kept plan location
+  is_location : IsLocation kept.modules plan location
   puts : output c location (gives o)
 
 module _ (output : Command → LocatedParts → Work Stop Output) (c : Command) (plan : Plan) (list : List Parts) where
   output-of : (o : Output) → locating output c plan list (gives o) → IsOutputOf output c plan list o
   output-of o (kept, is_kept, (r, is_located, puts)) =
-      record { kept = kept; keeps = is_kept; location = r; is_location = location-of plan kept r is_located; puts = puts }
+      record { kept = kept; keeps = is_kept; location = r; is_location = location-of plan kept.modules r is_located; puts = puts }
 
   -- where a locate fact stands, that is the end
-  fact-end : (kept : List Parts) (f : LocateFact) → kept_of c.keep list (gives kept) → locate_answer kept plan ≡ Some f
-      → locating output c plan list (stops (locate_fact (maus_of kept) f))
+  fact-end : (kept : Kept) (f : LocateFact) → kept_of c.keep list (gives kept) → locate_answer kept.modules plan ≡ Some f
+      → locating output c plan list (stops (locate_fact (maus_of kept.modules) f))
   fact-end kept f is_kept some =
-      inr (kept, is_kept, inl (subst (λ (o : Option LocateFact). located_unless o plan kept (stops (locate_fact (maus_of kept) f))) (sym some) refl))
+      inr (
+        kept,
+        is_kept,
+        inl (subst (λ (o : Option LocateFact). located_unless o plan kept.modules (stops (locate_fact (maus_of kept.modules) f)))
+            (sym some) refl),
+      )
 
 -- ---- a run
 
@@ -83,14 +88,14 @@ module _ (files : List NamedFile) (call : Call) (result : Outcome) (c : Command)
         by (accepted-stops files c plan flat bytes accepts (λ ms. locating output) s (subst (λ (w : Work Stop Output). w (stops s)) work stopped)) where
           by : EndsAtFact flat s ⊎ ((link_answer flat ≡ None) × locating output c plan flat (stops s)) → ⊥
           by (inl fact) = no-link-fact flat plan s (links ∙ none.links) fact
-          by (inr (linkable, ends)) = no-end output c plan list (λ kept r keeps there. never r) none s ((alike (stops s)).0 ends)
+          by (inr (linkable, ends)) = no-end (λ kept. output) c plan list (λ kept r keeps there. never r) none s ((alike (stops s)).0 ends)
 
     has-located : HasLocated c plan call result list
     has-located = record {
       done = (
         (λ is. let there = came is in
             let (linkable, puts) = list-output there.output there.comes in
-            no-fact-there output c plan list there.output linkable puts),
+            no-fact-there (λ kept. output) c plan list there.output linkable puts),
         (λ none. done (none-stops none)),
       );
       output = λ is. let there = came is in
@@ -101,13 +106,13 @@ module _ (files : List NamedFile) (call : Call) (result : Outcome) (c : Command)
             keeps = of.keeps;
             location = of.location;
             is_location = of.is_location;
-            itself = absolute_is_located_as_itself of.kept plan of.location (kept-valid c.keep list of.kept valid of.keeps) of.is_location;
+            itself = absolute_is_located_as_itself of.kept.modules plan of.location (kept-valid c.keep list of.kept valid of.keeps) of.is_location;
             puts_out = subst (λ (v : Verb). PutsOutLocation v c of.location call) (sym of_verb) (shown of.location there.output of.puts there.puts_out);
           };
       refused = λ kept f linkable is_kept some.
-          let ends = (alike (stops (locate_fact (maus_of kept) f))).1 (fact-end output c plan list kept f is_kept some) in
-          answer (stops (locate_fact (maus_of kept) f)) (subst (λ (w : Work Stop Output). w (stops (locate_fact (maus_of kept) f))) (sym work)
-          (accepted-back files c plan flat bytes accepts (λ ms. locating output) (links ∙ linkable) (stops (locate_fact (maus_of kept) f)) ends));
+          let ends = (alike (stops (locate_fact (maus_of kept.modules) f))).1 (fact-end output c plan list kept f is_kept some) in
+          answer (stops (locate_fact (maus_of kept.modules) f)) (subst (λ (w : Work Stop Output). w (stops (locate_fact (maus_of kept.modules) f))) (sym work)
+          (accepted-back files c plan flat bytes accepts (λ ms. locating output) (links ∙ linkable) (stops (locate_fact (maus_of kept.modules) f)) ends));
     }
 
   locates-all : ((leaves : List Parts) → CameByStages flat leaves → IsSameWork (locating output c plan flat) (locating output c plan leaves))

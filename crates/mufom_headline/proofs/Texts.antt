@@ -26,7 +26,7 @@ use Rattle.mufom_groups.specs.Linked.{IsFlatList, linked, links}
 use Rattle.mufom_groups.specs.Work.{gives}
 use Rattle.mufom_groups.proofs.Works.{value-same}
 use Rattle.mufom_command.specs.Inputs.{ComeTo, accepted}
-use Rattle.mufom_command.specs.Commands.{modules_in, Output, run_of, work_by, kept_of, located, located_unless, locating, made, plan_in, runs_of_text}
+use Rattle.mufom_command.specs.Commands.{all_of, modules_in, Output, run_of, work_by, kept_of, located, located_unless, locating, made, plan_in, runs_of_text}
 use Rattle.mufom_command.specs.Commands.{text_in, txt_file, unless_past_limit, work_of, writes, writes_module}
 use Rattle.mufom_command.specs.declared.outcome.Outcome.{Outcome}
 use Rattle.mufom_command.specs.declared.outcome.Outcome.TheVariants as outcome
@@ -100,8 +100,8 @@ module _ (text : List ℕ) (maus : ℕ) (runs : List Run) (low : 1 ≤ maus) (hi
       is-planned : plan_in files c.plan (gives no_regions)
       is-planned = subst (λ (o : Option (List ℕ)). plan_in files o (gives no_regions)) (sym does.plan) refl
 
-      is-kept : kept_of c.keep (text_parts maus runs ∷ []) (gives (text_parts maus runs ∷ []))
-      is-kept = subst (λ (o : Option (List ℕ)). kept_of o (text_parts maus runs ∷ []) (gives (text_parts maus runs ∷ []))) (sym does.keep) refl
+      is-kept : kept_of c.keep (text_parts maus runs ∷ []) (gives (all_of (text_parts maus runs ∷ [])))
+      is-kept = subst (λ (o : Option (List ℕ)). kept_of o (text_parts maus runs ∷ []) (gives (all_of (text_parts maus runs ∷ [])))) (sym does.keep) refl
 
       is-in : modules_in files c (gives (text_parts maus runs ∷ []))
       is-in = subst (λ (names : List (List ℕ)). ComeTo (not c.no_debug) files names (accepted (text_parts maus runs ∷ []))) (sym does.files)
@@ -115,7 +115,7 @@ module _ (text : List ℕ) (maus : ℕ) (runs : List Run) (low : 1 ≤ maus) (hi
           = subst (λ (rows : List Run). writes c.out (txt_text rows) (gives (made out (txt_text runs)))) (sym same)
           (writes-gives c out (txt_text runs) does.puts_out) in
           let put-out : locating txt_file c no_regions (text_parts maus runs ∷ []) (gives (made out (txt_text runs)))
-          = (text_parts maus runs ∷ [], is-kept, (r, is-located, puts)) in
+          = (all_of (text_parts maus runs ∷ []), is-kept, (r, is-located, puts)) in
           subst (λ (v : Verb). work_of v files c (gives (made out (txt_text runs)))) (sym does.does)
           (no_regions, is-planned, (text_parts maus runs ∷ [], is-in, (text_parts maus runs ∷ [], linked-here, put-out)))
 

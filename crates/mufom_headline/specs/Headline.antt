@@ -19,7 +19,7 @@ use Rattle.mufom_command.specs.declared.outcome.Outcome.{Outcome}
 use Rattle.mufom_command.specs.declared.outcome.Outcome.TheVariants as outcome
 use Rattle.mufom_command.specs.declared.outcome.Refusal.TheVariants as refusal
 use Rattle.mufom_command.specs.LocateRefusals.{locate_refusal}
-use Rattle.mufom_command.specs.Commands.{kept_of, maus_of}
+use Rattle.mufom_command.specs.Commands.{Kept, kept_of, maus_of}
 use Rattle.mufom_command.specs.Run.{Call, Answers, PrintsText}
 use Rattle.mufom_command.specs.RunLaws.{Accepts, CameByStages, HasNoFact, IsUndisturbed}
 use Rattle.mufom_headline.specs.ReadBack.{IsPutInFile}
@@ -32,17 +32,17 @@ PutsOutLocation verb.Dump c r call = PrintsText (image_text r) call
 PutsOutLocation _ c r call = ⊥
 
 -- The output of a run over a list of modules is a location by the plan. Without `--keep`, `kept` is the list itself; with it, `kept` is the
--- part of the list's link that the named public symbol needs.
+-- part of the list's link that the named public symbol needs. Its modules are located.
 --
 -- `IsLocation` defines the location: each public, the start and each debug expression has the value of its expression at the planned bases
 -- of sections and commons; each loaded address holds the byte of the literal or field that is loaded there; nothing else is loaded.
 --
 -- Located alone, by a plan without regions, the absolute module of the location gives the same location.
 pub record IsPutOut (c : Command) (plan : Plan) (list : List Parts) (call : Call) : Type 0 where
-  pub kept : List Parts
+  pub kept : Kept
   pub keeps : kept_of c.keep list (gives kept)
   pub location : LocatedParts
-  pub is_location : IsLocation kept plan location
+  pub is_location : IsLocation kept.modules plan location
   pub itself : IsLocation (absolute_of location ∷ []) no_regions location
   pub puts_out : PutsOutLocation c.verb c location call
 
@@ -52,8 +52,8 @@ pub record IsPutOut (c : Command) (plan : Plan) (list : List Parts) (call : Call
 pub record HasLocated (c : Command) (plan : Plan) (call : Call) (result : Outcome) (list : List Parts) : Type 0 where
   pub done : (result ≡ outcome.Done) ↔ HasNoFact c.keep list plan
   pub output : result ≡ outcome.Done → IsPutOut c plan list call
-  pub refused : (kept : List Parts) (f : LocateFact) → link_answer list ≡ None → kept_of c.keep list (gives kept)
-      → locate_answer kept plan ≡ Some f → result ≡ outcome.Refused (refusal.Locate (locate_refusal f) (maus_of kept))
+  pub refused : (kept : Kept) (f : LocateFact) → link_answer list ≡ None → kept_of c.keep list (gives kept)
+      → locate_answer kept.modules plan ≡ Some f → result ≡ outcome.Refused (refusal.Locate (locate_refusal f) (maus_of kept.modules))
 
 -- The result of the run is that of locating the flat list of its modules. If earlier runs made these modules from another list by partial
 -- links, in any number of stages, it is also the result of locating that list.

@@ -16,12 +16,12 @@ To link modules, and to place their sections by a memory plan:
   locate [--no-debug] [--plan PLAN] [--keep NAME] -o OUT FILES
 To print the image, what is at which address, or the source line at one:
   dump [--no-debug] [--plan PLAN] [--keep NAME] FILES
-  map [--no-debug] [--plan PLAN] FILES
+  map [--no-debug] [--plan PLAN] [--keep NAME] FILES
   addr [--plan PLAN] --at ADDRESS FILES
 To write the image as raw bytes or as TI-TXT:
   bin [--no-debug] [--plan PLAN] [--keep NAME] [--fill BYTE] -o OUT FILES
   txt [--no-debug] [--plan PLAN] [--keep NAME] -o OUT FILES
-To make modules, of a TI-TXT text or to try the program:
+To make modules, from a TI-TXT file or for a self-test:
   fromtxt [--maus N] -o OUT FILE
   make COUNT
 For help:
@@ -188,7 +188,7 @@ Example:
 /// The text of `help map`.
 pub const MAP: &str = "map: links and locates modules, and prints what is at which address
 
-Usage: mufom map [--no-debug] [--plan PLAN] FILES
+Usage: mufom map [--no-debug] [--plan PLAN] [--keep NAME] FILES
 
 Links and locates FILES as `locate` does, and prints these lines:
   module J NAME file N         each module that was linked, and its file
@@ -210,6 +210,9 @@ FILES are files and groups, then perhaps a + and members:
 Options:
   --no-debug    skip the debug parts without reading them
   --plan PLAN   the file of the memory plan, a TOML document
+  --keep NAME   leave out all that is needed neither by the public symbol NAME,
+                nor by the start address, nor by a section with a base address;
+                the lines of the modules stay
   --            end the options; brackets and + keep their meaning
 
 Exit status:
@@ -284,11 +287,11 @@ Example:
 ";
 
 /// The text of `help fromtxt`.
-pub const FROM_TXT: &str = "fromtxt: makes a module of a TI-TXT text
+pub const FROM_TXT: &str = "fromtxt: makes a module from a TI-TXT file
 
 Usage: mufom fromtxt [--maus N] -o OUT FILE
 
-Reads a TI-TXT text and writes a module to OUT that loads its bytes at its
+Reads a TI-TXT file and writes a module to OUT that loads its bytes at its
 addresses: an absolute section for each row of neighbouring addresses, and
 nothing else. The module can be linked, located and dumped like any other.
 
@@ -339,7 +342,7 @@ Example:
 ";
 
 /// The text of `help make`.
-pub const MAKE: &str = "make: links and locates generated modules, to try out a machine
+pub const MAKE: &str = "make: links and locates generated modules, as a self-test
 
 Usage: mufom make COUNT
 

@@ -46,9 +46,10 @@ Usual causes:
 What to do:
   - Find section N: link the same files with `link -o t`, and look for the line
     `section N` that `show t` prints. A number past the last section is a
-    common: room that weak references with a size ask for. Or run `map` with a
-    plan that has room. With --keep, sections that are left out are not counted.
-  - Make the region larger, or list some names in a region that has room.
+    common: space that weak references with a size request. Or run `map` with
+    the same options and a plan that has space; with --keep, only that works,
+    since sections that are left out are not counted.
+  - Make the region larger, or list some names in a region that has space.
   - Remove what is not needed.
 ";
 
@@ -82,8 +83,8 @@ pub const UNDEFINED: &str = "Undefined: nothing defines a name that a module nee
   refused: locate: Undefined NAME
 
 A module has a strong reference to NAME, no module of the link has a public
-symbol of this name, and no weak reference asks for room for it. Other names may
-be undefined too: this is the first.
+symbol of this name, and no weak reference requests space for it. Other names
+may be undefined too: this is the first.
 
 Usual causes:
   - A file or a library is not named.
@@ -102,8 +103,8 @@ pub const COMMON_UNPLACED: &str = "CommonUnplaced: no region of the plan takes t
 
   refused: locate: CommonUnplaced NAME
 
-A weak reference with a size asks for room for NAME, and no module defines it.
-Such room is called a common. It needs a region with `common = true`.
+A weak reference with a size requests space for NAME, and no module defines it.
+Such space is called a common. It needs a region with `common = true`.
 
 Usual causes:
   - --plan is missing, or its regions leave `common` out.

@@ -6,14 +6,14 @@ ghost use Rattle.mufom_help.specs.Topics.{structure, topic_in};
 /// The text of `help Truncated`.
 pub const TRUNCATED: &str = "Truncated: a file ends before the end of its module
 
-  refused: file N at PLACE: Truncated
+  refused: file N at OFFSET: Truncated
 
-File N, counted from 0, has PLACE bytes. They may be the beginning of a module,
-but its last record (the byte E1) is missing.
+File N, counted from 0, has OFFSET bytes. They may be the beginning of a
+module, but its last record (the byte E1) is missing.
 
 Usual causes:
   - The compiler, the assembler or a copy was cut off, or the disk was full.
-  - The file is empty: PLACE is 0.
+  - The file is empty: OFFSET is 0.
   - The input is a pipe whose writer stopped early.
 
 What to do:
@@ -25,14 +25,14 @@ What to do:
 /// The text of `help BadHeader`.
 pub const BAD_HEADER: &str = "BadHeader: the header contains an unexpected record
 
-  refused: file N at PLACE: BadHeader
+  refused: file N at OFFSET: BadHeader
 
 File N, counted from 0, must begin with three kinds of records: the beginning
 of the module (E0), the address descriptor (EC), and the offsets of the parts
-(E2 D7), numbered 0 to 7. At offset PLACE there is something else.
+(E2 D7), numbered 0 to 7. At OFFSET there is something else.
 
 Usual causes:
-  - PLACE is 0: the file is not an object module of this format. It may be an
+  - OFFSET is 0: the file is not an object module of this format. It may be an
     ELF or COFF file, a library, a text, or a plan without --plan before it.
   - The writer of the file leaves out offsets, or writes them in another order.
 
@@ -45,10 +45,10 @@ What to do:
 /// The text of `help BadDescriptor`.
 pub const BAD_DESCRIPTOR: &str = "BadDescriptor: an address is of a kind that mufom does not read
 
-  refused: file N at PLACE: BadDescriptor
+  refused: file N at OFFSET: BadDescriptor
 
-The address descriptor, at offset PLACE of file N (counted from 0), must have
-8 bits in an addressable unit and 1 to 8 units in an address.
+The address descriptor, at OFFSET of file N (counted from 0), must have 8 bits
+in an addressable unit and 1 to 8 units in an address.
 
 Usual causes:
   - The file is for a processor whose smallest addressable unit is a word of
@@ -56,7 +56,7 @@ Usual causes:
   - The file is damaged.
 
 What to do:
-  - Look at the bytes there: xxd -s PLACE -l 8 FILE. After EC come the bits of
+  - Look at the bytes there: xxd -s OFFSET -l 8 FILE. After EC come the bits of
     a unit and the units of an address.
   - Modules for processors that address words cannot be read.
 ";
@@ -64,12 +64,12 @@ What to do:
 /// The text of `help OffsetOrder`.
 pub const OFFSET_ORDER: &str = "OffsetOrder: the offsets of the parts in the header are out of order
 
-  refused: file N at PLACE: OffsetOrder
+  refused: file N at OFFSET: OffsetOrder
 
-The header gives the offset of each part of the file; an offset of 0 means
-that the part is missing. In file N, counted from 0, the record at offset PLACE
-has an offset that is below an earlier one, or it is that of the end of the
-module, which must not be 0.
+The header gives the offset of each part of the file; an offset of 0 means that
+the part is missing. In file N, counted from 0, the record at OFFSET has an
+offset that is below an earlier one, or it is that of the end of the module,
+which must not be 0.
 
 Usual causes:
   - The writer of the file puts its parts in another order than the standard.
@@ -83,16 +83,16 @@ What to do:
 /// The text of `help PartGap`.
 pub const PART_GAP: &str = "PartGap: a part of the file does not begin or end where the header says
 
-  refused: file N at PLACE: PartGap
+  refused: file N at OFFSET: PartGap
 
 In file N, counted from 0, either the first part does not begin right after the
-header, and PLACE is the offset of the byte after the header; or the record at
-offset PLACE goes past the end of its part.
+header, and OFFSET is that of the byte after the header; or the record at
+OFFSET goes past the end of its part.
 
 Usual causes:
   - The file was transferred in text mode, so that bytes were added or lost.
   - A tool changed the file and did not correct the offsets in the header.
-  - Its writer leaves room between the header and the first part.
+  - Its writer leaves space between the header and the first part.
 
 What to do:
   - Compare the offsets in the header with the file: xxd FILE.
@@ -102,12 +102,12 @@ What to do:
 /// The text of `help WrongPart`.
 pub const WRONG_PART: &str = "WrongPart: a record is in a part of the file where it does not belong
 
-  refused: file N at PLACE: WrongPart
+  refused: file N at OFFSET: WrongPart
 
 Each record belongs to one part: sections to the section part, symbols and
 references to the external part, loads to the data part, the start address to
-the trailer, and so on. In file N, counted from 0, the record at offset PLACE
-is in another part, or it is at the end of the module in place of E1.
+the trailer, and so on. In file N, counted from 0, the record at OFFSET is in
+another part, or it is at the end of the module in place of E1.
 
 Usual causes:
   - The offsets in the header are wrong by a few bytes.
@@ -122,11 +122,11 @@ What to do:
 pub const DUPLICATE_INDEX: &str =
     "DuplicateIndex: a section or a symbol is declared twice under one index
 
-  refused: file N at PLACE: DuplicateIndex
+  refused: file N at OFFSET: DuplicateIndex
 
 A file numbers its sections, public symbols, references and debug names, each
-kind on its own. In file N, counted from 0, the record at offset PLACE declares
-an index that its kind already has.
+kind on its own. In file N, counted from 0, the record at OFFSET declares an
+index that its kind already has.
 
 Usual causes:
   - Two modules were joined into one file without numbering them anew.
@@ -140,12 +140,12 @@ What to do:
 /// The text of `help UnknownIndex`.
 pub const UNKNOWN_INDEX: &str = "UnknownIndex: a record names an index that nothing declares
 
-  refused: file N at PLACE: UnknownIndex
+  refused: file N at OFFSET: UnknownIndex
 
-In file N, counted from 0, the record at offset PLACE names a section, a public
+In file N, counted from 0, the record at OFFSET names a section, a public
 symbol, a reference or a debug name by an index that was not declared before.
 (The value of a public symbol may also name what is declared later in the
-external part; if nothing declares it, PLACE is the record of that value.)
+external part; if nothing declares it, OFFSET is that of the value's record.)
 
 Usual causes:
   - The writer of the file numbers from 0 in one place and from 1 in another.
@@ -153,25 +153,25 @@ Usual causes:
   - The file is damaged.
 
 What to do:
-  - Look at the record: xxd -s PLACE -l 16 FILE. The index follows the code.
+  - Look at the record: xxd -s OFFSET -l 16 FILE. The index follows the code.
   - Write the file again with all declarations before their uses.
 ";
 
 /// The text of `help DuplicateValue`.
 pub const DUPLICATE_VALUE: &str = "DuplicateValue: something is given twice that may be given once
 
-  refused: file N at PLACE: DuplicateValue
+  refused: file N at OFFSET: DuplicateValue
 
-In file N, counted from 0, the record at offset PLACE gives the value of a
-public symbol, the size of a weak reference, the alignment, size or base of a
-section, or the start address, and an earlier record has given it.
+In file N, counted from 0, the record at OFFSET gives the value of a public
+symbol, the size of a weak reference, the alignment, size or base of a section,
+or the start address, and an earlier record has given it.
 
 Usual causes:
   - The writer of the file corrects a size by a second record.
   - Two modules were joined into one file.
 
 What to do:
-  - Look at the record: xxd -s PLACE -l 16 FILE. The index follows the code.
+  - Look at the record: xxd -s OFFSET -l 16 FILE. The index follows the code.
   - Write the file again with one record for each, and link modules with
     `mufom link`.
 ";
@@ -179,10 +179,10 @@ What to do:
 /// The text of `help MissingValue`.
 pub const MISSING_VALUE: &str = "MissingValue: a public symbol has no value
 
-  refused: file N at PLACE: MissingValue
+  refused: file N at OFFSET: MissingValue
 
-In file N, counted from 0, the record at offset PLACE declares a public symbol,
-and no record of the external part gives its value.
+In file N, counted from 0, the record at OFFSET declares a public symbol, and
+no record of the external part gives its value.
 
 Usual causes:
   - The source exports a name that it does not define.
@@ -190,7 +190,7 @@ Usual causes:
     reference.
 
 What to do:
-  - Find the name: xxd -s PLACE -l 32 FILE. It follows the code E8 and the
+  - Find the name: xxd -s OFFSET -l 32 FILE. It follows the code E8 and the
     index.
   - Define it in the source, or declare it there as external.
 ";
@@ -198,18 +198,18 @@ What to do:
 /// The text of `help MissingBase`.
 pub const MISSING_BASE: &str = "MissingBase: an absolute section has no base address
 
-  refused: file N at PLACE: MissingBase
+  refused: file N at OFFSET: MissingBase
 
-In file N, counted from 0, the record at offset PLACE declares a section with
-the letters A S, of an absolute section, and no record of the section part
-gives its base address.
+In file N, counted from 0, the record at OFFSET declares a section with the
+letters A S, of an absolute section, and no record of the section part gives
+its base address.
 
 Usual causes:
   - The source has an absolute section without an address.
   - The writer of the file gives the address only in the data part.
 
 What to do:
-  - Find the name of the section: xxd -s PLACE -l 32 FILE.
+  - Find the name of the section: xxd -s OFFSET -l 32 FILE.
   - Give the section an address in the source, or make it relocatable and place
     it by the plan.
 ";
@@ -217,9 +217,9 @@ What to do:
 /// The text of `help BadAlignment`.
 pub const BAD_ALIGNMENT: &str = "BadAlignment: the alignment of a section is 0 or above 2^31
 
-  refused: file N at PLACE: BadAlignment
+  refused: file N at OFFSET: BadAlignment
 
-In file N, counted from 0, the record at offset PLACE gives the alignment of a
+In file N, counted from 0, the record at OFFSET gives the alignment of a
 section. It must be 1 to 2,147,483,648; it need not be a power of 2.
 
 Usual causes:
@@ -228,18 +228,18 @@ Usual causes:
   - The file is damaged.
 
 What to do:
-  - Look at the record: xxd -s PLACE -l 16 FILE. After E7 come the index of the
-    section and the alignment.
+  - Look at the record: xxd -s OFFSET -l 16 FILE. After E7 come the index of
+    the section and the alignment.
   - Set the alignment in the source or in the assembler's options.
 ";
 
 /// The text of `help NoSection`.
 pub const NO_SECTION: &str = "NoSection: bytes are loaded before a section is selected
 
-  refused: file N at PLACE: NoSection
+  refused: file N at OFFSET: NoSection
 
-In file N, counted from 0, the record at offset PLACE loads bytes, and no
-record before it selects the section (E5) that they belong to.
+In file N, counted from 0, the record at OFFSET loads bytes, and no record
+before it selects the section (E5) that they belong to.
 
 Usual causes:
   - The writer of the file takes the first section as selected, or selects one
@@ -255,13 +255,13 @@ What to do:
 /// The text of `help BadP`.
 pub const BAD_P: &str = "BadP: an expression uses a program counter where it has none
 
-  refused: file N at PLACE: BadP
+  refused: file N at OFFSET: BadP
 
 The variable P is allowed in two places. Where a section's program counter is
 set, P is the same section's counter before it is set. In a relocated field, P
 is the counter of the current section, which is the address of the field. In
-file N, counted from 0, the record at offset PLACE uses P elsewhere, or for
-another section.
+file N, counted from 0, the record at OFFSET uses P elsewhere, or for another
+section.
 
 Usual causes:
   - A label is defined by `here`: the writer of the file gives the value of a
@@ -271,17 +271,17 @@ Usual causes:
 What to do:
   - Write R and an offset in place of P: the base of the section plus the
     distance of the label from it.
-  - If PLACE is in the debug part, use --no-debug to skip that part.
+  - If OFFSET is in the debug part, use --no-debug to skip that part.
 ";
 
 /// The text of `help BlockNesting`.
 pub const BLOCK_NESTING: &str = "BlockNesting: debug blocks are not opened and closed in pairs
 
-  refused: file N at PLACE: BlockNesting
+  refused: file N at OFFSET: BlockNesting
 
-In file N, counted from 0, the record at offset PLACE closes a debug block
-where none is open, or closes with an expression a block of kind 3 or 5, which
-has none; or it opens a block that is still open at the end of the debug part.
+In file N, counted from 0, the record at OFFSET closes a debug block where none
+is open, or closes with an expression a block of kind 3 or 5, which has none;
+or it opens a block that is still open at the end of the debug part.
 
 Usual causes:
   - The compiler writes blocks in a way that this program does not read.
@@ -295,10 +295,10 @@ What to do:
 /// The text of `help Depth`.
 pub const DEPTH: &str = "Depth: more than 32 debug blocks are open at once
 
-  refused: file N at PLACE: Depth
+  refused: file N at OFFSET: Depth
 
-In file N, counted from 0, the record at offset PLACE opens a debug block
-inside 32 others.
+In file N, counted from 0, the record at OFFSET opens a debug block inside 32
+others.
 
 Usual causes:
   - Functions or scopes are nested deeply, as in generated code.
@@ -313,12 +313,12 @@ What to do:
 /// The text of `help AfterEnd`.
 pub const AFTER_END: &str = "AfterEnd: something follows the end of a module or of a text
 
-  refused: file N at PLACE: AfterEnd
-    In file N, counted from 0, the module ends before offset PLACE, and the
-    file goes on there. The usual causes are a checksum record after the end, a
-    file that was padded to a block size, as on a tape or by some transfers, and
-    two modules in one file. See what follows: xxd -s PLACE FILE. Cut the file
-    there: head -c PLACE FILE > NEW. If another module follows, put it into a
+  refused: file N at OFFSET: AfterEnd
+    In file N, counted from 0, the module ends before OFFSET, and the file goes
+    on there. The usual causes are a checksum record after the end, a file that
+    was padded to a block size, as on a tape or by some transfers, and two
+    modules in one file. See what follows: xxd -s OFFSET FILE. Cut the file
+    there: head -c OFFSET FILE > NEW. If another module follows, put it into a
     file of its own, and name both files.
 
   refused: text line N: AfterEnd

@@ -25,7 +25,7 @@ use mufom_module::Module;
 use mufom_plan::Plan;
 use std::alloc::Global;
 
-// The module with the bases of its sections, after which the bases of its commons stand.
+// The module with the bases of its sections, followed by the bases of its commons.
 fn placed_module<'a>(
     module: &'a Module,
     resolutions: &'a [Resolution],
@@ -43,7 +43,7 @@ fn placed_module<'a>(
     }
 }
 
-// The parts of the location of a module whose references stand for these.
+// The parts of the location of a module whose references resolve to these.
 fn located(
     alloc: Global,
     module: &Module,
@@ -77,11 +77,13 @@ fn located(
 ///
 /// No public name may occur twice in the module. The plan has fewer than 2^32 regions, no section name
 /// twice and at most one region for the commons, as [`read_plan`](mufom_plan::read_plan) gives it. Both
-/// stay. What keeps the module from being located is looked for in this order: the placement, a
-/// strong reference without a meaning, a common without room, a public that leads back to itself,
-/// more than 67,108,864 loaded bytes; then, expression by expression, in the publics, the loads, the
-/// start and the debug items, a divisor of 0, a byte outside its section, one on another, and a
-/// value that does not fit its field.
+/// are borrowed and stay as they are.
+///
+/// Errors are looked for in this order: the placement of the sections and commons, an undefined strong
+/// reference, a common that no region places, a public that leads back to itself, more than 67,108,864
+/// loaded bytes; then, expression by expression, in the publics, the loads, the start and the debug
+/// items: an item outside its section, an address that is loaded twice, a divisor of 0, and a value that
+/// does not fit its field. `NoMemory` may come at any step.
 pub fn locate(alloc: Global, module: &Module, plan: &Plan) -> Result<Located, LocateRefusal>
     requires names { AreDistinct (names_of «module».now.names.publics) }
     requires plan { IsSoundPlan plan.now }

@@ -39,7 +39,7 @@ impl<'a> ValuedModule<'a> {
     }
 }
 
-/// A module whose values stand, as what puts the number of each expression in its place.
+/// A module whose values are known, as what puts the number of each expression in its place.
 #[derive(Drop)]
 pub(crate) struct Numbers<'a> {
     pub valued: ValuedModule<'a>,

@@ -1,4 +1,4 @@
-//! References that stand for commons, publics or defaults.
+//! References that resolve to commons, publics or defaults.
 
 use crate::draft::{Draft, loads, refuses};
 use mufom_expr::FieldKind::{Either, Unsigned};

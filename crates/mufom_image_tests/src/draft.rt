@@ -1,4 +1,4 @@
-//! Modules that are made entry by entry, and what locating them comes to. Where there is no memory, a
+//! Modules that are made entry by entry, and the result of locating them. Where there is no memory, a
 //! test fails.
 
 use mufom_debug::{Block, Boxed, DebugItem};
@@ -150,7 +150,7 @@ pub(crate) fn module(rt: &impl Abort, draft: Draft) -> Module {
     }
 }
 
-/// What locating the draft by the plan of this text comes to.
+/// The result of locating the draft by the plan of this text.
 pub(crate) fn outcome(
     rt: &impl Abort,
     alloc: Global,

@@ -9,7 +9,7 @@ use mufom_image_bytes::{ImageRefusal, Stop, Values, image_of_module};
 use std::alloc::Global;
 use std::process::Abort;
 
-// The program counter, which each variable stands for.
+// The program counter, which each variable means.
 #[derive(Drop)]
 struct Counter(u64);
 

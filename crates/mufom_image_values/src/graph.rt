@@ -12,11 +12,11 @@ use mufom_names::Public;
 #[derive(Clone, Copy)]
 pub struct Graph<'a> {
     pub parts: &'a Parts,
-    /// What each reference of the module stands for.
+    /// What each reference of the module resolves to.
     pub resolutions: &'a [Resolution],
 }
 
-// The public that a reference stands for.
+// The public that a reference resolves to.
 fn public_met(resolution: Option<Resolution>) -> Option<u32>
     ensures { result ≡ public_met resolution }
 {
@@ -33,7 +33,7 @@ impl<'a> Graph<'a> {
         self.parts.names.publics.as_slice()
     }
 
-    // The position of the public that a variable mentions: I its own, X that which the reference stands
+    // The position of the public that a variable mentions: I its own, X that to which the reference resolves
     // for.
     fn named(&self, letter: Letter, position: u32) -> Option<u32>
         ensures { result ≡ public_named self.now.resolutions.now letter position }

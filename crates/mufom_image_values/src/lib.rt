@@ -1,6 +1,6 @@
 //! The values of the public names of one module, once its sections have bases.
 //!
-//! [`resolve_references`] returns what each reference stands for. [`first_undefined`], [`first_common`] and
+//! [`resolve_references`] returns what each reference resolves to. [`first_undefined`], [`first_common`] and
 //! [`first_on_cycle`] find the first name that keeps a module from being located, and
 //! [`PlacedModule::public_values`] the value of each public, each evaluated once. Their time is linear in the
 //! names and the tokens of their expressions, expected where names are hashed. The crate depends on `mufom_expr`, `mufom_names`,

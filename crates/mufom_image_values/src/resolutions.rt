@@ -1,4 +1,4 @@
-//! What each reference of a module stands for.
+//! What each reference of a module resolves to.
 
 ghost use Rattle.std.specs.Prelude.{◌≡◌, ◌&&◌, [], ◌∷◌, map, option_map, slice_get, IfOk};
 ghost use Rattle.mufom_names.specs.Index.{position_of};
@@ -12,7 +12,7 @@ use mufom_names::{NameIndex, Reference, Weak};
 use mufom_numbers::{List, NoMemory};
 use std::alloc::Global;
 
-/// What a reference stands for.
+/// What a reference resolves to.
 #[derive(Clone, Copy, Debug, PartialEq, Eq)]
 pub enum Resolution {
     /// The public at this position, the first of its name.
@@ -26,7 +26,7 @@ pub enum Resolution {
     Nothing,
 }
 
-// What a reference stands for whose name neither a public nor a common has.
+// What a reference resolves to whose name neither a public nor a common has.
 fn unresolved(weak: Option<Weak>) -> Resolution
     ensures { result ≡ resolution_without weak }
 {
@@ -51,7 +51,7 @@ fn resolution_of(
     }
 }
 
-// What references stand for, by the indexes of the names of publics and of commons.
+// What references resolve to, by the indexes of the names of publics and of commons.
 fn resolved(
     alloc: Global,
     publics: &NameIndex<'_>,
@@ -68,7 +68,7 @@ fn resolved(
     Ok(all)
 }
 
-/// What each reference of a module stands for, in order. No name is looked at where there is no reference.
+/// What each reference of a module resolves to, in order. No name is read if there is no reference.
 pub fn resolve_references(alloc: Global, module: &Module) -> Result<List<Resolution>, NoMemory>
     ensures { IfOk result (λ resolutions. resolutions ≡ resolutions_of «module».now) }
 {

@@ -27,7 +27,7 @@ pub struct Surroundings<'a> {
     pub commons: &'a [u64],
     /// The value of each public.
     pub values: &'a [Evaluation],
-    /// What each reference stands for.
+    /// What each reference resolves to.
     pub resolutions: &'a [Resolution],
     /// The program counter, where the expression finds one.
     pub counter: Option<u64>,

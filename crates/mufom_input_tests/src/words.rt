@@ -32,7 +32,7 @@ fn comes_to(rt: &impl Abort, alloc: Global, line: &str, want: &str) {
 }
 
 // Lines and the commands that they give.
-static COMMANDS: [(&str, &str); 23] = [
+static COMMANDS: [(&str, &str); 24] = [
     // Files in their order.
     (
         "show a",
@@ -156,6 +156,12 @@ static COMMANDS: [(&str, &str); 23] = [
             marks: List { items: [File(0)] }, files: List { items: [Text { text: \"a\" }] }, count: 0, listing: false, fill: 0, at: 0, \
             maus: 4, keep: Some(Bytes { held: [] }), help: None }",
     ),
+    (
+        "map a --keep=m",
+        "Command { verb: Map, no_debug: false, name: None, out: None, plan: None, marks: List { items: [File(0)] }, \
+            files: List { items: [Text { text: \"a\" }] }, count: 0, listing: false, fill: 0, at: 0, maus: 4, \
+            keep: Some(Bytes { held: [109] }), help: None }",
+    ),
     // Texts of images.
     (
         "txt a --plan=p --no-debug -o c",
@@ -187,7 +193,7 @@ fn lines_give_commands(rt: HostRuntime) {
 }
 
 // Lines that give none, and the first thing that is wrong with each.
-static FAULTS: [(&str, &str); 64] = [
+static FAULTS: [(&str, &str); 63] = [
     // Without a command.
     ("dmup a", "Usage(NoCommand)"),
     ("-- help", "Usage(NoCommand)"),
@@ -205,7 +211,6 @@ static FAULTS: [(&str, &str); 64] = [
     ("dump --keep a --keep b c", "Usage(BadWords)"),
     ("addr --at 0 --keep a b", "Usage(BadWords)"),
     ("link --keep a -oc b", "Usage(BadWords)"),
-    ("map --keep a b", "Usage(BadWords)"),
     ("map -oc a", "Usage(BadWords)"),
     ("fromtxt --maus 04 -oc a", "Usage(BadCount)"),
     ("fromtxt --maus 0 -oc a", "Usage(BadCount)"),

@@ -79,7 +79,7 @@ impl Joined {
         })
     }
 
-    // Appends the entries of a module, where these variables stand for its references.
+    // Appends the entries of a module whose references these variables replace.
     pub(crate) fn append(
         &mut self,
         alloc: Global,

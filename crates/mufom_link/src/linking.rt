@@ -36,7 +36,7 @@ fn laws()
     no_link_answer_is_linkable();
 }
 
-// The lists of the partial link, where these variables stand for the references of the modules.
+// The lists of the partial link, with these variables for the references of the modules.
 fn join_lists(
     alloc: Global,
     list: Vec<Module>,
@@ -180,7 +180,7 @@ pub fn link(alloc: Global, list: &[Module], name: &[u8]) -> Result<Module, LinkR
 }
 
 /// The partial link of a list of modules under a name, made of their entries: as [`link`], and the
-/// modules are let go.
+/// modules are dropped.
 pub fn link_owned(alloc: Global, list: Vec<Module>, name: &[u8]) -> Result<Module, LinkRefusal>
     requires { MayBeLinked list.items name.now }
     ensures joined { IfOk result (λ M. IsJoined M list.items name.now) }

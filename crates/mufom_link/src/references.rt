@@ -61,7 +61,7 @@ impl References {
         Ok(next)
     }
 
-    // The variable that stands for the reference in the link. Where no public has its name, the
+    // The variable that replaces the reference in the link. Where no public has its name, the
     // reference is kept.
     fn target(
         &mut self,
@@ -84,7 +84,7 @@ impl References {
         }
     }
 
-    // Adds the variables that stand for the references in the link, in order.
+    // Adds the variables that replace the references in the link, in order.
     pub(crate) fn resolve(
         &mut self,
         alloc: Global,

@@ -6,7 +6,7 @@ ghost use Rattle.mufom_link.specs.Renaming.{moved, target_at};
 use mufom_expr::{Letter, VarMap};
 
 /// Where the entries of a module are in a link: the numbers of its first section, public and debug
-/// name, and the variables that stand for its references. Numbers are added modulo 2^32, which
+/// name, and the variables that replace its references. Numbers are added modulo 2^32, which
 /// changes none that a valid module has.
 #[derive(Clone, Copy)]
 pub(crate) struct Renumbering<'a> {
@@ -31,7 +31,7 @@ impl<'a> Renumbering<'a> {
         self.first_name.wrapping_add(name)
     }
 
-    // The variable that stands for a reference of this module.
+    // The variable that replaces a reference of this module.
     fn target(&self, reference: u32) -> (Letter, u32)
         ensures { result ≡ target_at (slice_get self.now.targets.now reference) }
     {

@@ -1,4 +1,4 @@
-//! What the references of a list of modules come to in its link.
+//! What the references of a list of modules resolve to in its link.
 
 ghost use Rattle.std.specs.Prelude.{◌≡◌, ◌<◌, ◌≤◌, ◌^◌, None, length, IfOk, IfErr};
 ghost use Rattle.mufom_names.specs.Index.{numbered_from};
@@ -20,13 +20,13 @@ use std::alloc::Global;
 /// The references of a list of modules in its link.
 #[derive(Drop)]
 pub(crate) struct Resolved {
-    /// The variables that stand for them, module by module.
+    /// The variables that replace them, module by module.
     pub targets: List<(Letter, u32)>,
     /// The references that the link keeps.
     pub kept: List<Reference>,
 }
 
-// How many references the modules have, for the memory of what stands for them.
+// How many references the modules have, to reserve memory for their variables.
 fn reference_count(list: &[Module]) -> usize {
     let mut count: usize = 0;
     for entry in list {
@@ -44,7 +44,7 @@ fn seed_of_references(list: &[Module]) -> HashSeed {
     seed
 }
 
-// What the references of the modules come to, where these are all publics.
+// What the references of the modules resolve to, if these are all publics.
 fn resolved_by(
     alloc: Global,
     list: &[Module],
@@ -66,7 +66,7 @@ fn resolved_by(
     })
 }
 
-/// What the references of the modules come to in their link, or what keeps them from being linked.
+/// What the references of the modules resolve to in their link, or the error that keeps them from being linked.
 pub(crate) fn resolve(alloc: Global, list: &[Module]) -> Result<Resolved, LinkRefusal>
     requires { total_weight list.now < 2 ^ 32 }
     ensures resolved { IfOk result (λ all. AreResolved list.now all.targets all.kept) }

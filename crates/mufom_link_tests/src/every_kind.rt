@@ -8,7 +8,7 @@ const SECTIONS: &[u8] = b"\
     \xE6\x02\xC3\x01t\xE2\xD3\x02\x28";
 
 // Blocks of all kinds, each in the one before it: a module with the name `u`, a source file, a global function, a
-// local one, and a part of the first section. There stand the name `v`, a note of it, and a value of `u`.
+// local one, and a part of the first section. It has the name `v`, a note of it, and a value of `u`.
 const DEBUG: &[u8] = b"\
     \xF8\x03\x00\x01b\
     \xF0\x20\x01u\

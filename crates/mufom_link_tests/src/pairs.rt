@@ -272,7 +272,7 @@ const DEFAULTS_APART: Records<'static> = Records {
     trailer: b"",
 };
 
-// I 20 stands for both references.
+// I 20 replaces both references.
 const BOTH_MET: Records<'static> = Records {
     descriptor: FOUR,
     extension: b"",

@@ -17,7 +17,7 @@ pub fn listing(alloc: Global, object: &Module) -> Result<Bytes, NoMemory>
     text_bytes(alloc, TextForm::Listing, object)
 }
 
-/// Prints the listing of the module, in chunks of about 65,536 bytes but for the last. It allocates one chunk, and
+/// Prints the listing of the module, in chunks of about 65,536 bytes, the last of which may be shorter. It allocates one chunk, and
 /// nothing for the text.
 ///
 /// `NoMemory` comes before anything is printed. `Fault` comes only where a print failed and the

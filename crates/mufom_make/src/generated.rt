@@ -23,7 +23,7 @@ use std::alloc::Global;
 // How many units the section of a module has.
 const SECTION_SIZE: u64 = 16;
 
-// At which offset of its section the public of a module stands.
+// The offset in its section of the public of a module.
 const ENTRY_OFFSET: u64 = 4;
 
 // A section begins at a multiple of this.
@@ -65,7 +65,7 @@ fn code_section(alloc: Global) -> Result<Section, NoMemory>
     })
 }
 
-// Adds a token that finds its terms, where fewer than 255 stand.
+// Adds a token that finds its terms, if there are fewer than 255.
 fn add(builder: &mut Builder, token: Token) -> Result<(), NoMemory>
     requires room { length builder.old < 255 }
     requires found { FindsTooFew builder.old token → ⊥ }

@@ -55,7 +55,7 @@ fn linked(alloc: Global, list: Vec<Module>) -> Result<Module, NoMemory>
     }
 }
 
-// The link of the modules from `first` up to `end`, which are let go.
+// The link of the modules from `first` up to `end`, which are dropped.
 fn linked_between(alloc: Global, count: u32, first: u32, end: u32) -> Result<Module, NoMemory>
     requires some { first < end }
     requires few { end ≤ MOST_MODULES }

@@ -17,7 +17,7 @@ use std::alloc::Global;
 ///
 /// There are 1 to [`MOST_MODULES`](mufom_numbers::limits::MOST_MODULES) of them. Each has one section of 16 units and
 /// a public in it, and loads the address of the public of the next module. The modules of a pair are
-/// let go as soon as they are linked.
+/// dropped as soon as they are linked.
 pub fn made(alloc: Global, count: u32) -> Result<Located, LocateRefusal>
     requires some { 1 ≤ count }
     requires few { count ≤ MOST_MODULES }

@@ -37,7 +37,7 @@ fn module_of(place: Option<Place>) -> Option<usize>
     }
 }
 
-// The region of the section with a number; none past the last section.
+// The region of the section with a number; `None` past the last section.
 fn region_at(regions: &[Option<u32>], number: u32) -> Option<u32>
     ensures { result ≡ slice_index_or regions.now number None }
 {
@@ -121,12 +121,12 @@ impl<'a> Lines for Map<'a> {
     }
 }
 
-/// Prints the map of the location of a module by a plan, in chunks of about 65,536 bytes but for the
-/// last. The module is the link of those that the origins list.
+/// Prints the map of the location of a module by a plan, in chunks of about 65,536 bytes and a
+/// shorter last one. The module is the link of those that the origins list, or what is kept of it.
 ///
 /// No section name occurs twice in the plan, and it has fewer than 2^32 regions, as
-/// [`read_plan`](mufom_plan::read_plan) gives it. `NoMemory` comes before anything is printed. `Fault`
-/// comes only where a print failed and the count of such faults rose; a prefix of the text may then be
+/// [`read_plan`](mufom_plan::read_plan) gives it. `NoMemory` is returned before anything is printed. `Fault`
+/// is returned only if a print failed and the count of such faults rose; a prefix of the text may then be
 /// printed. Takes time that grows as `n log n` with the number of sections, publics and regions.
 pub fn print_map<H: Host>(
     alloc: Global,

@@ -13,6 +13,7 @@ use Rattle.mufom_module.specs.SpelledRecords.{SpelledRecord, text_in, positioned
 use Rattle.mufom_module.specs.Gathered.{answers, for_index, value_for, public_note_for, references_of}
 use Rattle.mufom_module.specs.Grammar.{Follows, FollowFrom}
 use Rattle.mufom_read.specs.declared.publics.PublicMark.{PublicMark}
+use Rattle.mufom_read.specs.declared.publics.PublicMark.TheVariants.{Declared, Valued}
 use Rattle.mufom_read.specs.declared.publics.Publics.{Publics}
 use Rattle.mufom_read.specs.declared.tables.Tables.{Tables}
 use Rattle.mufom_read.specs.Prefixes.{OffsetRecord}
@@ -40,9 +41,14 @@ abbrev pub value_start_for : ℕ → OffsetRecord → Record → Option ℕ
 value_start_for i p (r.PublicValue j value) = for_index i j p.0
 value_start_for i p _ = None
 
--- what is kept of the declaration of a public beside it: its offset, and that of its value
+-- what is kept beside a public that is declared at this offset: that of its value, where one is stated, and else the offset
+abbrev pub mark_of : ℕ → Option ℕ → PublicMark
+mark_of start None = Declared start
+mark_of start (Some valued) = Valued valued
+
+-- what is kept beside the public that a record declares
 abbrev pub public_mark_by : List OffsetRecord → OffsetRecord → Record → Option PublicMark
-public_mark_by all p (r.PublicName i name) = Some (record { start = p.0; valued = slice_get (filter_map (λ q. value_start_for i q q.1.row) all) 0 })
+public_mark_by all p (r.PublicName i name) = Some (mark_of p.0 (slice_get (filter_map (λ q. value_start_for i q q.1.row) all) 0))
 public_mark_by all p _ = None
 
 abbrev pub public_marks : List OffsetRecord → List PublicMark
@@ -50,15 +56,15 @@ public_marks all = filter_map (λ p. public_mark_by all p p.1.row) all
 
 -- ---- the fault of each public
 
--- the fault of a public with this offset and value: that none was stated, or that the value, at its offset, has a variable that
--- names no entry
-abbrev pub value_fault : Tables → ℕ → Tree → Option ℕ → Option Fault
-value_fault t start value None = Some (start, why.MissingValue)
-value_fault t start value (Some valued) = fault_if (list_any (is_unknown t) (variables_of value)) valued why.UnknownIndex
+-- the fault of a public with this value: that none was stated, or that the value, at its offset, has a variable that names no
+-- entry
+abbrev pub value_fault : Tables → Tree → PublicMark → Option Fault
+value_fault t value (Declared start) = Some (start, why.MissingValue)
+value_fault t value (Valued valued) = fault_if (list_any (is_unknown t) (variables_of value)) valued why.UnknownIndex
 
 -- the faults of publics, by what is kept beside them
 abbrev pub public_faults : Tables → List PublicMark → List Public → List (Option Fault)
-public_faults t (mark ∷ marks) (p ∷ publics) = value_fault t mark.start p.value mark.valued ∷ public_faults t marks publics
+public_faults t (mark ∷ marks) (p ∷ publics) = value_fault t p.value mark ∷ public_faults t marks publics
 public_faults t marks publics = []
 
 -- of two faults the one with the smaller offset

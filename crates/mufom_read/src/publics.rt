@@ -7,7 +7,7 @@ ghost use Rattle.mufom_expr.specs.Tree.{Tree, number};
 ghost use Rattle.mufom_names.specs.declared.name.Public as name_public;
 ghost use Rattle.mufom_module.specs.SpelledRecords as records;
 ghost use Rattle.mufom_module.specs.Gathered as gathered;
-ghost use Rattle.mufom_read.specs.declared.publics.PublicMark as mark;
+ghost use Rattle.mufom_read.specs.declared.publics.PublicMark.TheVariants.{Declared, Valued};
 ghost use Rattle.mufom_read.specs.Prefixes.{OffsetRecord};
 ghost use Rattle.mufom_read.specs.Kept.{record_of_seen, placed, HasOwnParts, indexes_by, as_fault};
 ghost use Rattle.mufom_read.specs.NamesSoFar.{ArePublicsOf, IsBefore, placed_public, value_fault, public_faults, earlier, least_from};
@@ -26,11 +26,13 @@ use mufom_sections::IndexTable;
 use std::alloc::Global;
 use std::mem;
 
-/// What is kept beside a public: the offset of its declaration, and that of its value, once one is stated.
+/// What is kept beside a public, by which a fault of it is placed. Offsets are in bytes from the file's start.
 #[derive(Clone, Copy, Debug, PartialEq, Eq)]
-pub(crate) struct PublicMark {
-    pub start: u32,
-    pub valued: Option<u32>,
+pub(crate) enum PublicMark {
+    /// No value is stated yet: the offset of the declaration.
+    Declared(u32),
+    /// The offset of the record that states its value.
+    Valued(u32),
 }
 
 /// The publics so far, whose values have the indexes of the file, and what is kept beside each.
@@ -63,10 +65,9 @@ fn push_note(publics: &mut Vec<Public>, position: usize, note: Note) -> Result<(
 // Keeps the offset of the value of the public at a position.
 fn set_valued(marks: &mut Vec<PublicMark>, position: usize, start: u32)
     requires { position < length marks.old.items }
-    ensures { (old : mark.PublicMark) → slice_get marks.old.items position ≡ Some old
-        → marks.new.items ≡ slice_set marks.old.items position (record old { valued = Some start }) }
+    ensures { marks.new.items ≡ slice_set marks.old.items position (Valued start) }
 {
-    marks[position].valued = Some(start);
+    marks[position] = PublicMark::Valued(start);
 }
 
 /// A note with a copy of its numbers.
@@ -98,12 +99,9 @@ impl Publics {
     // Adds a public of which nothing was stated, whose declaration begins at an offset.
     fn add(&mut self, alloc: Global, name: Bytes, start: u32) -> Result<(), NoMemory>
         ensures list { OnOk result (self.new.list.items ≡ self.old.list.items ++ record { name = name; value = number 0; notes = [] } ∷ []) }
-        ensures marks { OnOk result (self.new.marks.items ≡ self.old.marks.items ++ record { start = start; valued = None } ∷ []) }
+        ensures marks { OnOk result (self.new.marks.items ≡ self.old.marks.items ++ Declared start ∷ []) }
     {
-        self.marks.push(PublicMark {
-            start,
-            valued: None,
-        })?;
+        self.marks.push(PublicMark::Declared(start))?;
         self.list.push(Public {
             name,
             value: Postfix::single(Token::Number(0)),
@@ -118,8 +116,7 @@ impl Publics {
         requires marks { position < length self.old.marks.items }
         ensures list { (public : name_public.Public) → slice_get self.old.list.items position ≡ Some public
             → self.new.list.items ≡ slice_set self.old.list.items position (record public { value = value }) }
-        ensures marks { (old : mark.PublicMark) → slice_get self.old.marks.items position ≡ Some old
-            → self.new.marks.items ≡ slice_set self.old.marks.items position (record old { valued = Some start }) }
+        ensures marks { self.new.marks.items ≡ slice_set self.old.marks.items position (Valued start) }
     {
         set_value(&mut self.list, position, value);
         set_valued(&mut self.marks, position, start);
@@ -211,13 +208,13 @@ fn refusal(place: u32, reason: Reason) -> ReadRefusal
 
 // The fault of a public, by what is kept beside it and its value.
 fn public_fault(tables: &Tables, mark: PublicMark, value: &Postfix) -> Option<ReadRefusal>
-    ensures { option_map as_fault result ≡ value_fault tables.now mark.start value.now mark.valued }
+    ensures { option_map as_fault result ≡ value_fault tables.now value.now mark }
 {
-    match mark.valued {
-        None => Some(refusal(mark.start, Reason::MissingValue)),
-        Some(valued) => {
+    match mark {
+        PublicMark::Declared(start) => Some(refusal(start, Reason::MissingValue)),
+        PublicMark::Valued(start) => {
             if has_unknown_variable(tables, value) {
-                Some(refusal(valued, Reason::UnknownIndex))
+                Some(refusal(start, Reason::UnknownIndex))
             } else {
                 None
             }

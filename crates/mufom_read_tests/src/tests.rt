@@ -122,7 +122,7 @@ fn with_part(rt: &impl Abort, alloc: Global, offset: usize, part: &[u8]) -> Vec<
     stream
 }
 
-// ---- what streams come to
+// ---- what streams give
 
 /// The module of a stream that is fed in chunks of the given number of bytes, or why there is none.
 pub(crate) fn read(
@@ -168,7 +168,7 @@ pub(crate) fn text_of(rt: &impl Abort, alloc: Global, stream: &[u8], size: usize
     }
 }
 
-/// A stream that is fed in chunks of the given number of bytes comes to this: a module, if none.
+/// A stream that is fed in chunks of the given number of bytes gives this refusal, or a module if none is given.
 pub(crate) fn comes_to(
     rt: &impl Abort,
     alloc: Global,

@@ -40,7 +40,7 @@ impl<'a> Lines for Image<'a> {
     }
 }
 
-/// Prints the text of a located image, in chunks of about 65,536 bytes but for the last: a line for each
+/// Prints the text of a located image, in chunks of about 65,536 bytes, the last of which may be shorter: a line for each
 /// 16 addresses with loaded bytes, the start, each public, and each debug address.
 ///
 /// `NoMemory` comes before anything is printed. `Fault` comes only where a print failed and the

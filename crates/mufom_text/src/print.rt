@@ -55,7 +55,7 @@ fn print_all<H: Host, T: Lines>(room: Vec<u8>, host: &mut H, lines: &T) -> Resul
     printed
 }
 
-/// Prints the lines, in chunks of about 65,536 bytes but for the last.
+/// Prints the lines, in chunks of about 65,536 bytes, the last of which may be shorter.
 ///
 /// `NoMemory` comes before anything is printed. `Fault` comes only where a print failed and the
 /// count of such faults rose; a prefix of the text may then be printed.

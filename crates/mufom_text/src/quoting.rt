@@ -6,7 +6,7 @@ ghost use Rattle.mufom_text.specs.Words.{quoted, quoted_byte, stands_for_itself}
 use mufom_numbers::NoMemory;
 use std::alloc::Global;
 
-/// Whether a byte stands for itself in a quoted name: 20 to 7E but for the quote and the backslash.
+/// Whether a byte is printed as it is in a quoted name: 20 to 7E, except the quote and the backslash.
 pub(crate) fn stands_for_itself(byte: u8) -> bool
     ensures { result ≡ stands_for_itself byte }
 {

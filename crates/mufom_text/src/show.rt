@@ -53,7 +53,7 @@ impl<'a> Lines for ModuleText<'a> {
     }
 }
 
-/// Prints a text of the module, in chunks of about 65,536 bytes but for the last.
+/// Prints a text of the module, in chunks of about 65,536 bytes, the last of which may be shorter.
 ///
 /// `NoMemory` comes before anything is printed. `Fault` comes only where a print failed and the
 /// count of such faults rose; a prefix of the text may then be printed.
@@ -77,7 +77,7 @@ pub fn print_text<H: Host>(
     print_lines(alloc, host, &lines)
 }
 
-/// Prints the summary of the module, in chunks of about 65,536 bytes but for the last.
+/// Prints the summary of the module, in chunks of about 65,536 bytes, the last of which may be shorter.
 ///
 /// `NoMemory` comes before anything is printed. `Fault` comes only where a print failed and the
 /// count of such faults rose; a prefix of the text may then be printed.

@@ -6,8 +6,9 @@ use Rattle.std.proofs.lemmas.List.{length-drop}
 use Rattle.std.specs.Prelude.{◌==◌, nat_lt, if◌then◌else◌}
 use Rattle.std.specs.List.{slice_split, position_or_len, prefix_len, before_first, after_first}
 use Rattle.std.proofs.lemmas.List.Splits.{length-slice_split, slice_split_none, slice_split_first, slice_split-cons_yes}
-use Rattle.std.proofs.lemmas.List.Sums.{fails_before_first, passes_at_first}
+use Rattle.std.proofs.lemmas.List.Sums.{fails_before_first, passes_at_first, position_or_len_is}
 use Rattle.std.proofs.lemmas.List.Elements.{All-from_get_or}
+use Rattle.memchr.specs.Find.{Passes, Nowhere, NoneBefore, is_byte}
 use Rattle.mufom_meaning.proofs.Choices.{equal_numbers}
 use Rattle.mufom_titxt.specs.Scans.{begins_with_space}
 use Rattle.mufom_titxt.specs.Lines.{without_return, ended_lines, lines_of, has_bytes, words_of}
@@ -34,6 +35,26 @@ return_absent (b ∷ c ∷ bytes) (suc n) e h = ap (λ t. b ∷ t) (return_absen
 -- where nothing passes, all is one piece
 pub split_whole : (p : ℕ → Bool) (xs : List ℕ) → position_or_len p xs ≡ length xs → slice_split p xs ≡ xs ∷ []
 split_whole p xs e = slice_split_none p xs (All-from_get_or (λ x. p x ≡ false) xs 0 (λ i h. fails_before_first p xs i 0 (rw e h)))
+
+-- what is no line feed
+fed_not : (text : List ℕ) (k : ℕ) → (Passes (is_byte 10) text k → ⊥) → (get_or text k 0 == 10) ≡ false
+fed_not text k none = by_test (get_or text k 0 == 10) refl where
+  by_test : (t : Bool) → (get_or text k 0 == 10) ≡ t → t ≡ false
+  by_test true same = absurd (none same)
+  by_test false same = refl
+
+-- the first line feed, as a search finds it
+pub feed_at : (text : List ℕ) (n : ℕ) → NoneBefore (Passes (is_byte 10) text) 0 (length text) n → Passes (is_byte 10) text n
+    → position_or_len (λ b. b == 10) text ≡ n
+feed_at text n before passes =
+    let high = before.high in
+    position_or_len_is (λ b. b == 10) text n 0 (omega (arith, high)) (λ k less. fed_not text k (before.before k (omega arith) less)) (λ less. passes)
+
+-- and where it finds none
+pub feed_none : (text : List ℕ) → Nowhere (Passes (is_byte 10) text) 0 (length text) → position_or_len (λ b. b == 10) text ≡ length text
+feed_none text nowhere =
+    position_or_len_is (λ b. b == 10) text (length text) 0 (omega arith) (λ k less. fed_not text k (nowhere k (omega arith) less))
+    (λ less. absurd (omega (arith, less)))
 
 -- a piece before others ends at a line feed
 pub ended_more : (piece : List ℕ) (pieces : List (List ℕ)) → 0 < length pieces → ended_lines (piece ∷ pieces) ≡ without_return piece ∷ ended_lines pieces
@@ -82,7 +103,7 @@ word_begins [] some other = absurd (omega (arith, some))
 word_begins (b ∷ more) some other = word_some b more other
 
 -- where a space ends the first word
-words_to_space : (rest : List ℕ) → 0 < position_or_len (λ c. c == 32) rest → position_or_len (λ c. c == 32) rest < length rest
+pub words_to_space : (rest : List ℕ) → 0 < position_or_len (λ c. c == 32) rest → position_or_len (λ c. c == 32) rest < length rest
     → words_of rest ≡ take (position_or_len (λ c. c == 32) rest) rest ∷ words_of (drop (position_or_len (λ c. c == 32) rest) rest)
 words_to_space rest some within =
     let p : ℕ → Bool = λ c. c == 32 in

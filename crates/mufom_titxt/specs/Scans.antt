@@ -1,5 +1,6 @@
 -- What is left of a text while it is read.
-use Rattle.std.specs.Prelude.{ℕ, suc, length, ◌==◌, Bool, false, List, [], ◌∷◌, Option, Some, None}
+use Rattle.std.specs.Prelude.{ℕ, suc, length, ◌==◌, Bool, false, List, [], ◌∷◌, Option, Some, None, option_map}
+use Rattle.std.specs.Option.{option_and_then}
 use Rattle.mufom_titxt.specs.Lines.{Line, blank_line, address_line, byte_line, end_line, lines_of}
 use Rattle.mufom_titxt.specs.declared.shape.Shape.{Shape}
 use Rattle.mufom_titxt.specs.declared.shape.Shape.TheVariants.{Blank, Address, Bytes, End, Bad}
@@ -31,3 +32,7 @@ alone_shape (word ∷ words) shape = Bad
 abbrev pub bytes_left : Option (List ℕ) → ℕ
 bytes_left None = 0
 bytes_left (Some text) = suc (length text)
+
+-- the bytes of words of which the first spells this byte, where it spells one
+abbrev pub bytes_from : Option ℕ → Option (List ℕ) → Option (List ℕ)
+bytes_from first later = option_and_then (λ b. option_map (λ bytes. b ∷ bytes) later) first

@@ -5,10 +5,10 @@
 //! absolute section for each of them.
 //!
 //! The crate depends on `mufom_module` and the crates of its parts, on `mufom_host` for the sink, on
-//! `mufom_meaning` for rows and addresses, and on `mufom_image_bytes`, which joins bytes into rows. Its main
-//! clause is that of [`read_txt`]: the rows of a text with which nothing is wrong, or the first line that is
-//! wrong. Laws add that exactly the texts in the sense of `TxtMap` are accepted, with the bytes that they
-//! give, and that the text of rows is read back as these rows.
+//! `mufom_meaning` for rows and addresses, on `mufom_image_bytes`, which joins bytes into rows, and on `memchr`
+//! to find the ends of lines. Its main clause is that of [`read_txt`]: the rows of a text in which nothing is
+//! wrong, or the first line that is wrong. Laws add that exactly the texts in the sense of `TxtMap` are
+//! accepted, with the bytes that they give, and that the text of rows is read back as these rows.
 #![tactic(auto)]
 
 mod laws;

@@ -5,13 +5,16 @@ ghost use Rattle.std.specs.List.{position_or_len};
 ghost use Rattle.mufom_titxt.specs.Lines.{without_return, lines_of, words_of};
 ghost use Rattle.mufom_titxt.specs.Scans.{lines_later, begins_with_space};
 
-// How many bytes are before the first that equals the mark.
-fn count_before(text: &[u8], mark: u8) -> usize
-    ensures count { result ≡ position_or_len (λ b. b == mark) text.now }
+use memchr::memchr;
+
+// How many bytes are before the first space. Words are short, so that a loop is faster here than a search by
+// vectors.
+fn word_length(text: &[u8]) -> usize
+    ensures count { result ≡ position_or_len (λ b. b == 32) text.now }
     ensures within { result ≤ length text.now }
 {
     for (count, byte) in text.iter().enumerate() {
-        if *byte == mark {
+        if *byte == b' ' {
             return count;
         }
     }
@@ -36,11 +39,10 @@ pub(crate) fn next_line(text: &[u8]) -> (&[u8], Option<&[u8]>)
     ensures line { lines_of text.now ≡ result.0.now ∷ lines_later (option_map (λ rest. rest.now) result.1) }
     ensures rest { IfSome result.1 (λ rest. length rest.now < length text.now) }
 {
-    let count = count_before(text, b'\n');
-    if count == text.len() {
-        return (text, None);
+    match memchr(b'\n', text) {
+        Some(count) => (without_return(&text[..count]), Some(&text[count + 1..])),
+        None => (text, None),
     }
-    (without_return(&text[..count]), Some(&text[count + 1..]))
 }
 
 // A line without the spaces at its front.
@@ -65,5 +67,5 @@ pub(crate) fn next_word(line: &[u8]) -> Option<(&[u8], &[u8])>
     if rest.is_empty() {
         return None;
     }
-    Some(rest.split_at(count_before(rest, b' ')))
+    Some(rest.split_at(word_length(rest)))
 }

@@ -125,7 +125,7 @@ impl Reading {
         }
     }
 
-    /// Reads a line. Returns what is wrong with it, but for addresses that have two bytes.
+    /// Reads a line. Returns the error in it, except for addresses that have two bytes.
     pub(crate) fn read_line(
         &mut self,
         modulus: u128,
@@ -164,7 +164,7 @@ impl Reading {
         })
     }
 
-    /// Reads a text to the first line that is wrong, but for addresses that have two bytes.
+    /// Reads a text to the first line with an error, except for addresses that have two bytes.
     pub(crate) fn read_lines(
         &mut self,
         modulus: u128,

@@ -1,13 +1,13 @@
 //! What a line of a text states.
 
-ghost use Rattle.std.specs.Prelude.{◌≡◌, Some, ◌≤◌, ◌<◌, [], length, IsTrue, ◌↔◌, is_some, IfSome, option_map, ◌==◌, ◌&&◌, ◌||◌, not};
+ghost use Rattle.std.specs.Prelude.{◌≡◌, Some, ◌≤◌, ◌<◌, [], length, IsTrue, ◌↔◌, is_some, IfSome, option_map, ◌==◌, ◌&&◌, ◌||◌, not, ◌∷◌, MatchOption};
 ghost use Rattle.mufom_titxt.specs.Lines.{has_bytes, hex_digit, hex_after, address_of, byte_of, bytes_of, words_of, line_of, address_line, byte_line};
-ghost use Rattle.mufom_titxt.specs.Scans.{shape_of, alone_shape};
+ghost use Rattle.mufom_titxt.specs.Scans.{shape_of, alone_shape, bytes_from};
 
 use crate::lines::next_word;
 use arrayvec::ArrayVec;
 
-/// What a line states, but for its bytes.
+/// What a line states, except for its bytes.
 #[derive(Clone, Copy, Debug)]
 pub enum Shape {
     Blank,
@@ -74,6 +74,33 @@ pub(crate) fn byte_of(word: &[u8]) -> Option<u8>
     }
 }
 
+// The byte that two digits at the front of a line spell, with what is after the space that follows them. Most words
+// of a text are such digits.
+fn spaced_byte(line: &[u8]) -> Option<(u8, &[u8])>
+    ensures bytes { IfSome result (λ r. bytes_of (words_of line.now) ≡ option_map (λ bytes. r.0 ∷ bytes) (bytes_of (words_of r.1.now))) }
+    ensures rest { IfSome result (λ r. length r.1.now < length line.now) }
+{
+    let [high, low, b' ', after @ ..] = line else {
+        return None;
+    };
+    match (hex_digit(*high), hex_digit(*low)) {
+        (Some(high), Some(low)) => Some((high * 16 + low, after)),
+        _ => None,
+    }
+}
+
+// The byte that the first word of a line spells, with what is after the word, and no byte where it spells none.
+fn next_byte(line: &[u8]) -> Option<(Option<u8>, &[u8])>
+    ensures bytes { MatchOption result (words_of line.now ≡ []) (λ r. bytes_of (words_of line.now) ≡ bytes_from r.0 (bytes_of (words_of r.1.now))) }
+    ensures rest { IfSome result (λ r. length r.1.now < length line.now) }
+{
+    if let Some((byte, after)) = spaced_byte(line) {
+        return Some((Some(byte), after));
+    }
+    let (word, after) = next_word(line)?;
+    Some((byte_of(word), after))
+}
+
 /// The bytes of a line that has bytes alone, and not too many of them. Most lines of a text are such lines, and this
 /// reads one in a single pass.
 pub(crate) fn short_bytes(line: &[u8]) -> Option<ArrayVec<u8, MOST_SHORT_BYTES>>
@@ -81,8 +108,8 @@ pub(crate) fn short_bytes(line: &[u8]) -> Option<ArrayVec<u8, MOST_SHORT_BYTES>>
 {
     let mut bytes: ArrayVec<u8, MOST_SHORT_BYTES> = ArrayVec::new();
     let mut rest = line;
-    while let Some((word, after)) = next_word(rest) {
-        let Some(byte) = byte_of(word) else {
+    while let Some((byte, after)) = next_byte(rest) {
+        let Some(byte) = byte else {
             return None;
         };
         if bytes.try_push(byte).is_err() {
@@ -101,8 +128,8 @@ fn has_bytes_alone(line: &[u8]) -> bool
     ensures { result ≡ is_some (bytes_of (words_of line.now)) }
 {
     let mut rest = line;
-    while let Some((word, after)) = next_word(rest) {
-        if byte_of(word).is_none() {
+    while let Some((byte, after)) = next_byte(rest) {
+        if byte.is_none() {
             return false;
         }
         rest = after;

@@ -105,8 +105,8 @@ fn twice_refusal(
     })
 }
 
-// The bytes of a text up to the first line that is wrong, but for addresses that have two bytes, and what
-// is wrong with that line.
+// The bytes of a text up to the first line with an error, except for addresses that have two bytes, and
+// that error.
 fn loaded_of(
     alloc: Global,
     modulus: u128,

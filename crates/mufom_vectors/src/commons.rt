@@ -1,7 +1,7 @@
 //! Room that weak references ask for, over several files.
 
 use crate::drafts::{REFERENCE, SECTION};
-use crate::runs::{File, Held, Run, all_come_to};
+use crate::runs::{Case, File, Held, all_come_to};
 
 const RAM: &[u8] =
     b"[[region]]\nname = \"ram\"\nbase = 256\nsize = 64\nsections = [\"t\"]\ncommon = true\n";
@@ -37,42 +37,66 @@ const FILES: &[File] = &[
     ("untrue", Held::Bytes(NO_TRUTH)),
 ];
 
-static RUNS: [Run; 8] = [
-    // Files that ask for one name have one room.
-    (FILES, "", "dump --plan=p a b", 0, ROOM),
-    (FILES, "", "dump --plan=p [ a b ]", 0, ROOM),
-    (FILES, "link -o c a b", "dump --plan=p c", 0, ROOM),
-    // A public of the name stands for the room, and a strong reference has it.
-    (
-        FILES,
-        "",
-        "dump --plan=p a b seven",
-        0,
-        "00000100: 00 00 00 07 00 00 00 07\npublic 00000007 \"c\"\n",
-    ),
-    (FILES, "", "dump --plan=p a b strong", 0, ROOM),
+static RUNS: [Case; 8] = [
+    // Files that request space for one name have one common.
+    Case {
+        files: FILES,
+        first: "",
+        line: "dump --plan=p a b",
+        status: 0,
+        text: ROOM,
+    },
+    Case {
+        files: FILES,
+        first: "",
+        line: "dump --plan=p [ a b ]",
+        status: 0,
+        text: ROOM,
+    },
+    Case {
+        files: FILES,
+        first: "link -o c a b",
+        line: "dump --plan=p c",
+        status: 0,
+        text: ROOM,
+    },
+    // A public of the name takes the place of the common, and a strong reference resolves to it.
+    Case {
+        files: FILES,
+        first: "",
+        line: "dump --plan=p a b seven",
+        status: 0,
+        text: "00000100: 00 00 00 07 00 00 00 07\npublic 00000007 \"c\"\n",
+    },
+    Case {
+        files: FILES,
+        first: "",
+        line: "dump --plan=p a b strong",
+        status: 0,
+        text: ROOM,
+    },
     // Room that no region has.
-    (
-        FILES,
-        "",
-        "dump --plan tight a b",
-        1,
-        "refused: locate: Misfit section 2 region 0\n",
-    ),
-    (
-        FILES,
-        "",
-        "dump --plan none a b",
-        1,
-        "refused: locate: CommonUnplaced \"c\"\n",
-    ),
-    (
-        FILES,
-        "",
-        "dump --plan untrue a b",
-        1,
-        "refused: plan: Shape region 0 common\n",
-    ),
+    Case {
+        files: FILES,
+        first: "",
+        line: "dump --plan tight a b",
+        status: 1,
+        text: "refused: locate: Misfit section 2 region 0\n",
+    },
+    Case {
+        files: FILES,
+        first: "",
+        line: "dump --plan none a b",
+        status: 1,
+        text: "refused: locate: CommonUnplaced \"c\"\n",
+    },
+    Case {
+        files: FILES,
+        first: "",
+        line: "dump --plan untrue a b",
+        status: 1,
+        text: "refused: plan: Shape region 0 common\n",
+    },
 ];
 
 /// Modules that ask for 6 bytes of `c`, for 4 of `d`, and for 4 of `c`, and a plan.
@@ -97,18 +121,36 @@ const C_FIRST: &str = "00000100: 00 00 01 10 00 00 01 18 00 00 01 10\n";
 
 const D_FIRST: &str = "00000100: 00 00 01 10 00 00 01 18 00 00 01 18\n";
 
-static ORDERED: [Run; 4] = [
-    (TWO_NAMES, "", "dump --plan=p x y z", 0, C_FIRST),
-    (TWO_NAMES, "link -o c x y z", "dump --plan=p c", 0, C_FIRST),
+static ORDERED: [Case; 4] = [
+    Case {
+        files: TWO_NAMES,
+        first: "",
+        line: "dump --plan=p x y z",
+        status: 0,
+        text: C_FIRST,
+    },
+    Case {
+        files: TWO_NAMES,
+        first: "link -o c x y z",
+        line: "dump --plan=p c",
+        status: 0,
+        text: C_FIRST,
+    },
     // The order is that in which the names first appear.
-    (TWO_NAMES, "", "dump --plan=p y x z", 0, D_FIRST),
+    Case {
+        files: TWO_NAMES,
+        first: "",
+        line: "dump --plan=p y x z",
+        status: 0,
+        text: D_FIRST,
+    },
     // The size is the greatest, although a later module asks for less.
-    (
-        TWO_NAMES,
-        "",
-        "map --plan=p x y z",
-        0,
-        "module 0 \"m\" file 0\n\
+    Case {
+        files: TWO_NAMES,
+        first: "",
+        line: "map --plan=p x y z",
+        status: 0,
+        text: "module 0 \"m\" file 0\n\
             module 1 \"m\" file 1\n\
             module 2 \"m\" file 2\n\
             region 0 \"ram\" at 00000100 size 64 used 22 free 42 [######..###.##..................]\n\
@@ -118,7 +160,7 @@ static ORDERED: [Run; 4] = [
             common 3 00000110 size 6 align 8 \"c\" region 0\n\
             common 4 00000118 size 4 align 8 \"d\" region 0\n\
             sections 5 bytes 22 loaded 12\n",
-    ),
+    },
 ];
 
 #[test]

@@ -1,6 +1,6 @@
 //! Debug parts: addresses of a located one, and one of another form that is passed over.
 
-use crate::runs::{File, Held, Run, all_come_to};
+use crate::runs::{Case, File, Held, all_come_to};
 
 /// A module block with a name and a global function, which has a name with a note and a value.
 const BLOCKS: &[u8] =
@@ -45,52 +45,64 @@ const OTHER_FORM: &[File] = &[(
     ),
 )];
 
-static RUNS: [Run; 8] = [
-    (LOCAL, "", "dump --plan p a", 0, ADDRESSES),
+static RUNS: [Case; 8] = [
+    Case {
+        files: LOCAL,
+        first: "",
+        line: "dump --plan p a",
+        status: 0,
+        text: ADDRESSES,
+    },
     // An address within the function, one before its first line, and one after its end.
-    (
-        LOCAL,
-        "",
-        "addr --at 105 --plan p a",
-        0,
-        "function 4 \"main\" 00000100 0000010F\nline 12 00000102 source none\n",
-    ),
-    (
-        LOCAL,
-        "",
-        "addr --plan p --at=101 a",
-        0,
-        "function 4 \"main\" 00000100 0000010F\nline none\n",
-    ),
-    (
-        LOCAL,
-        "",
-        "addr --plan p a --at 0000000000000110",
-        0,
-        "function none\nline 12 00000102 source none\n",
-    ),
-    (LOCAL, "", "show a", 0, SHOWN),
-    (
-        LOCAL,
-        "",
-        "check a",
-        0,
-        "file 0 \"m\": sections 1 publics 0 references 0 loads 0 debug 6\n",
-    ),
-    (
-        OTHER_FORM,
-        "",
-        "dump a",
-        1,
-        "refused: file 0 at 100: UnsupportedRecord\n",
-    ),
-    (
-        OTHER_FORM,
-        "",
-        "dump --no-debug a",
-        0,
-        "00001000: 4E 71 4E 75\nstart 00001000\n",
-    ),
+    Case {
+        files: LOCAL,
+        first: "",
+        line: "addr --at 105 --plan p a",
+        status: 0,
+        text: "function 4 \"main\" 00000100 0000010F\nline 12 00000102 source none\n",
+    },
+    Case {
+        files: LOCAL,
+        first: "",
+        line: "addr --plan p --at=101 a",
+        status: 0,
+        text: "function 4 \"main\" 00000100 0000010F\nline none\n",
+    },
+    Case {
+        files: LOCAL,
+        first: "",
+        line: "addr --plan p a --at 0000000000000110",
+        status: 0,
+        text: "function none\nline 12 00000102 source none\n",
+    },
+    Case {
+        files: LOCAL,
+        first: "",
+        line: "show a",
+        status: 0,
+        text: SHOWN,
+    },
+    Case {
+        files: LOCAL,
+        first: "",
+        line: "check a",
+        status: 0,
+        text: "file 0 \"m\": sections 1 publics 0 references 0 loads 0 debug 6\n",
+    },
+    Case {
+        files: OTHER_FORM,
+        first: "",
+        line: "dump a",
+        status: 1,
+        text: "refused: file 0 at 100: UnsupportedRecord\n",
+    },
+    Case {
+        files: OTHER_FORM,
+        first: "",
+        line: "dump --no-debug a",
+        status: 0,
+        text: "00001000: 4E 71 4E 75\nstart 00001000\n",
+    },
 ];
 
 #[test]

@@ -1,5 +1,5 @@
 //! Modules that are put together from the records of their parts.
-//! Where there is no memory, a test fails.
+//! If memory runs out, a test fails.
 
 use std::alloc::Global;
 use std::process::Abort;

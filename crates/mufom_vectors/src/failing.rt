@@ -147,7 +147,7 @@ fn begins_with(whole: &[u8], bytes: &[u8]) -> bool {
     }
 }
 
-// Whether what stands of the output, printed or being made, is a prefix of the whole.
+// Whether what there is of the output, printed or being made, is a prefix of the whole.
 fn has_prefix(host: &MemHost, whole: &[u8]) -> bool {
     let begun = match host.making() {
         Some((_, bytes)) => bytes,

@@ -1,5 +1,5 @@
-//! Module files that were made by hand, from the format's tables, and the runs of tests over them. Where there
-//! is no memory, a test fails.
+//! Module files that were made by hand, from the format's tables, and the runs of tests over them. If memory
+//! runs out, a test fails.
 
 ghost use Rattle.std.specs.Prelude.{◌<◌, ◌^◌, length, vec_len};
 

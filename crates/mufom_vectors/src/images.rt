@@ -1,21 +1,27 @@
 //! Modules of one file that are located, and what keeps them from that.
 
 use crate::files::EMPTY;
-use crate::runs::{Held, Run, all_come_to, makes};
+use crate::runs::{Case, Held, all_come_to, makes};
 
-static IMAGES: [Run; 6] = [
-    (&[("a", Held::Empty)], "", "dump a", 0, ""),
+static IMAGES: [Case; 6] = [
+    Case {
+        files: &[("a", Held::Empty)],
+        first: "",
+        line: "dump a",
+        status: 0,
+        text: "",
+    },
     // A located module has the image of its source.
-    (
-        &[("m", Held::Absolute)],
-        "locate -o c m",
-        "dump c",
-        0,
-        "00001000: 4E 71 4E 75\nstart 00001000\n",
-    ),
+    Case {
+        files: &[("m", Held::Absolute)],
+        first: "locate -o c m",
+        line: "dump c",
+        status: 0,
+        text: "00001000: 4E 71 4E 75\nstart 00001000\n",
+    },
     // An empty section inside another, and one that ends with the addresses.
-    (
-        &[(
+    Case {
+        files: &[(
             "a",
             Held::Section(
                 b"\xE6\x01\xC1\xD3\x01t\xE2\xD3\x01\x10\xE2\xCC\x01\x82\x01\x00\xE6\x02\xC1\xD3\x01t\xE2\xCC\x02\x82\x01\x00",
@@ -23,13 +29,13 @@ static IMAGES: [Run; 6] = [
                 b"",
             ),
         )],
-        "",
-        "dump a",
-        0,
-        "",
-    ),
-    (
-        &[(
+        first: "",
+        line: "dump a",
+        status: 0,
+        text: "",
+    },
+    Case {
+        files: &[(
             "a",
             Held::Section(
                 b"\xE6\x01\xC1\xD3\x01t\xE2\xD3\x01\x10\xE2\xCC\x01\x84\xFF\xFF\xFF\xF0",
@@ -37,14 +43,14 @@ static IMAGES: [Run; 6] = [
                 b"",
             ),
         )],
-        "",
-        "dump a",
-        0,
-        "",
-    ),
+        first: "",
+        line: "dump a",
+        status: 0,
+        text: "",
+    },
     // Addresses of one byte, and four bytes up to the last address of eight bytes.
-    (
-        &[(
+    Case {
+        files: &[(
             "a",
             Held::Records(
                 1,
@@ -53,13 +59,13 @@ static IMAGES: [Run; 6] = [
                 b"\xE5\x01\xF7\x04\xE4\xBC\xD0\x01\x90\x01\xBD",
             ),
         )],
-        "",
-        "dump a",
-        0,
-        "FC: FC FD FE FF\n",
-    ),
-    (
-        &[(
+        first: "",
+        line: "dump a",
+        status: 0,
+        text: "FC: FC FD FE FF\n",
+    },
+    Case {
+        files: &[(
             "a",
             Held::Records(
                 8,
@@ -68,11 +74,11 @@ static IMAGES: [Run; 6] = [
                 b"\xE5\x01\xE4\xBA\xD2\x01\x90\x04\xBB",
             ),
         )],
-        "",
-        "dump a",
-        0,
-        "FFFFFFFFFFFFFFFC: FF FF FF FC\n",
-    ),
+        first: "",
+        line: "dump a",
+        status: 0,
+        text: "FFFFFFFFFFFFFFFC: FF FF FF FC\n",
+    },
 ];
 
 #[test]
@@ -80,10 +86,10 @@ fn modules_have_their_images(rt: HostRuntime) {
     all_come_to(&rt, rt.alloc(), &IMAGES);
 }
 
-static REFUSED: [Run; 8] = [
+static REFUSED: [Case; 8] = [
     // Past the last address.
-    (
-        &[(
+    Case {
+        files: &[(
             "a",
             Held::Section(
                 b"\xE6\x01\xC1\xD3\x01t\xE2\xD3\x01\x11\xE2\xCC\x01\x84\xFF\xFF\xFF\xF0",
@@ -91,13 +97,13 @@ static REFUSED: [Run; 8] = [
                 b"",
             ),
         )],
-        "",
-        "dump a",
-        1,
-        "refused: locate: Misfit section 0\n",
-    ),
-    (
-        &[(
+        first: "",
+        line: "dump a",
+        status: 1,
+        text: "refused: locate: Misfit section 0\n",
+    },
+    Case {
+        files: &[(
             "a",
             Held::Section(
                 b"\xE6\x01\xC1\xD3\x01t\xE2\xCC\x01\x85\x01\x00\x00\x00\x00",
@@ -105,13 +111,13 @@ static REFUSED: [Run; 8] = [
                 b"",
             ),
         )],
-        "",
-        "dump a",
-        1,
-        "refused: locate: Misfit section 0\n",
-    ),
-    (
-        &[(
+        first: "",
+        line: "dump a",
+        status: 1,
+        text: "refused: locate: Misfit section 0\n",
+    },
+    Case {
+        files: &[(
             "a",
             Held::Records(
                 8,
@@ -120,14 +126,14 @@ static REFUSED: [Run; 8] = [
                 b"",
             ),
         )],
-        "",
-        "dump a",
-        1,
-        "refused: locate: Misfit section 0\n",
-    ),
+        first: "",
+        line: "dump a",
+        status: 1,
+        text: "refused: locate: Misfit section 0\n",
+    },
     // Bytes outside of their section, which has two at 16, and twice.
-    (
-        &[(
+    Case {
+        files: &[(
             "a",
             Held::Section(
                 b"\xE6\x01\xC1\xD3\x01t\xE2\xD3\x01\x02\xE2\xCC\x01\x10",
@@ -135,13 +141,13 @@ static REFUSED: [Run; 8] = [
                 b"\xE5\x01\xED\x03abc",
             ),
         )],
-        "",
-        "dump a",
-        1,
-        "refused: locate: LoadOutside section 0 at 00000012\n",
-    ),
-    (
-        &[(
+        first: "",
+        line: "dump a",
+        status: 1,
+        text: "refused: locate: LoadOutside section 0 at 00000012\n",
+    },
+    Case {
+        files: &[(
             "a",
             Held::Section(
                 b"\xE6\x01\xC1\xD3\x01t\xE2\xD3\x01\x02\xE2\xCC\x01\x10",
@@ -149,36 +155,36 @@ static REFUSED: [Run; 8] = [
                 b"\xE5\x01\xED\x01a\xE2\xD0\x01\x10\xED\x01b",
             ),
         )],
-        "",
-        "dump a",
-        1,
-        "refused: locate: LoadedTwice 00000010\n",
-    ),
+        first: "",
+        line: "dump a",
+        status: 1,
+        text: "refused: locate: LoadedTwice 00000010\n",
+    },
     // Names without a value.
-    (
-        &[("a", Held::Section(b"", b"\xE9\x0B\x01q", b""))],
-        "",
-        "dump a",
-        1,
-        "refused: locate: Undefined \"q\"\n",
-    ),
-    (
-        &[(
+    Case {
+        files: &[("a", Held::Section(b"", b"\xE9\x0B\x01q", b""))],
+        first: "",
+        line: "dump a",
+        status: 1,
+        text: "refused: locate: Undefined \"q\"\n",
+    },
+    Case {
+        files: &[(
             "a",
             Held::Section(b"", b"\xE8\x20\x01d\xE2\xC9\x20\x01\x00\xA7", b""),
         )],
-        "",
-        "dump a",
-        1,
-        "refused: locate: DivideByZero public \"d\"\n",
-    ),
-    (
-        &[("a", Held::Section(b"", b"\xE9\x0B\x01c\xF4\x0B\x04", b""))],
-        "",
-        "dump a",
-        1,
-        "refused: locate: CommonUnplaced \"c\"\n",
-    ),
+        first: "",
+        line: "dump a",
+        status: 1,
+        text: "refused: locate: DivideByZero public \"d\"\n",
+    },
+    Case {
+        files: &[("a", Held::Section(b"", b"\xE9\x0B\x01c\xF4\x0B\x04", b""))],
+        first: "",
+        line: "dump a",
+        status: 1,
+        text: "refused: locate: CommonUnplaced \"c\"\n",
+    },
 ];
 
 #[test]

@@ -1,6 +1,7 @@
 //! What a public symbol needs is kept, and all else is left out.
 
-use crate::runs::{File, Held, Run, all_come_to, makes};
+use crate::drafts::SECTION;
+use crate::runs::{Case, File, Held, all_come_to, makes};
 
 /// Three sections of four bytes. `main` is in the first, which names the third; the second names `q`, which
 /// nothing defines.
@@ -15,75 +16,124 @@ const PLAN: &[u8] = b"[[region]]\nname = \"r\"\nbase = 0\nsize = 16\nsections = 
 /// What `main` needs: its section, and the one that this names.
 const IMAGE: &str = "00000000: 00 00 00 04 01 02 03 04\npublic 00000000 \"main\"\n";
 
-/// The module, its plan, and one that is linked only if it is needed.
+/// The map of what `main` needs, where another module is linked before its own: that one has a line, and no
+/// section of it is there.
+const MAP: &str = "module 0 \"m\" file 0\n\
+        module 1 \"m\" file 1\n\
+        region 0 \"r\" at 00000000 size 16 used 8 free 8 [.#.#.#.#.#.#.#.#................]\n\
+        section 0 00000000 size 4 align 1 \"a\" module 1 region 0\n\
+        section 1 00000004 size 4 align 1 \"c\" module 1 region 0\n\
+        public 00000000 \"main\" module 1\n\
+        sections 2 bytes 8 loaded 8\n";
+
+/// The module, its plan, one that is linked only if it is needed, and one with a section and a public that
+/// nothing needs.
 const FILES: &[File] = &[
     ("a", MODULE),
     ("p", Held::Bytes(PLAN)),
     ("n", Held::Names(b"\xE8\x20\x01z\xE2\xC9\x20\x07")),
+    (
+        "w",
+        Held::Section(SECTION, b"\xE8\x20\x01z\xE2\xC9\x20\xD2\x01", b""),
+    ),
 ];
 
-static RUNS: [Run; 10] = [
-    (FILES, "", "dump --plan p --keep main a", 0, IMAGE),
-    (FILES, "", "dump --plan p --keep=main [ a ] + n", 0, IMAGE),
-    (
-        FILES,
-        "link -o c a",
-        "dump --plan p --keep main c",
-        0,
-        IMAGE,
-    ),
-    (
-        FILES,
-        "locate --plan p --keep main -o c a",
-        "dump c",
-        0,
-        IMAGE,
-    ),
+static RUNS: [Case; 13] = [
+    Case {
+        files: FILES,
+        first: "",
+        line: "dump --plan p --keep main a",
+        status: 0,
+        text: IMAGE,
+    },
+    Case {
+        files: FILES,
+        first: "",
+        line: "dump --plan p --keep=main [ a ] + n",
+        status: 0,
+        text: IMAGE,
+    },
+    Case {
+        files: FILES,
+        first: "link -o c a",
+        line: "dump --plan p --keep main c",
+        status: 0,
+        text: IMAGE,
+    },
+    Case {
+        files: FILES,
+        first: "locate --plan p --keep main -o c a",
+        line: "dump c",
+        status: 0,
+        text: IMAGE,
+    },
+    // A map counts what is kept, and its modules are all that are linked.
+    Case {
+        files: FILES,
+        first: "",
+        line: "map --plan p --keep main w a",
+        status: 0,
+        text: MAP,
+    },
+    Case {
+        files: FILES,
+        first: "",
+        line: "map --plan p --keep=main [ w a ] + n",
+        status: 0,
+        text: MAP,
+    },
+    Case {
+        files: FILES,
+        first: "",
+        line: "map --plan p --keep q a",
+        status: 1,
+        text: "refused: keep: Unknown \"q\"\n",
+    },
     // All is located where no name is given.
-    (
-        FILES,
-        "",
-        "dump --plan p a",
-        1,
-        "refused: locate: Undefined \"q\"\n",
-    ),
+    Case {
+        files: FILES,
+        first: "",
+        line: "dump --plan p a",
+        status: 1,
+        text: "refused: locate: Undefined \"q\"\n",
+    },
     // A name that no public of the list has, an empty one, and one of a member that nothing needs.
-    (
-        FILES,
-        "",
-        "dump --plan p --keep q a",
-        1,
-        "refused: keep: Unknown \"q\"\n",
-    ),
-    (
-        FILES,
-        "",
-        "dump --keep= a",
-        1,
-        "refused: keep: Unknown \"\"\n",
-    ),
-    (
-        FILES,
-        "",
-        "dump --plan p --keep z a + n",
-        1,
-        "refused: keep: Unknown \"z\"\n",
-    ),
+    Case {
+        files: FILES,
+        first: "",
+        line: "dump --plan p --keep q a",
+        status: 1,
+        text: "refused: keep: Unknown \"q\"\n",
+    },
+    Case {
+        files: FILES,
+        first: "",
+        line: "dump --keep= a",
+        status: 1,
+        text: "refused: keep: Unknown \"\"\n",
+    },
+    Case {
+        files: FILES,
+        first: "",
+        line: "dump --plan p --keep z a + n",
+        status: 1,
+        text: "refused: keep: Unknown \"z\"\n",
+    },
     // It is looked for after the link and before the location.
-    (
-        FILES,
-        "",
-        "dump --keep z a a",
-        1,
-        "refused: link: Duplicate \"main\"\n",
-    ),
-    (
-        FILES,
-        "",
-        "dump --keep main a",
-        1,
-        "refused: locate: Unplaced section 0\n",
-    ),
+    Case {
+        files: FILES,
+        first: "",
+        line: "dump --keep z a a",
+        status: 1,
+        text: "refused: link: Duplicate \"main\"\n",
+    },
+    Case {
+        files: FILES,
+        first: "",
+        line: "dump --keep main a",
+        status: 1,
+        text: "refused: locate: Unplaced section 0\n",
+    },
 ];
 
 #[test]

@@ -1,6 +1,6 @@
 //! Lists of modules that are linked.
 
-use crate::runs::{File, Held, Run, all_come_to, makes};
+use crate::runs::{Case, File, Held, all_come_to, makes};
 
 /// A module `a` with the public `f`, and a field of the reference `g`.
 pub(crate) static FIRST: [u8; 109] = [
@@ -71,28 +71,28 @@ const UNLIKE: &[File] = &[
     ("m1", Held::Absolute),
 ];
 
-static REFUSED: [Run; 3] = [
-    (
-        UNLIKE,
-        "",
-        "link -o c a [ a ]",
-        1,
-        "refused: link: Duplicate \"f\"\n",
-    ),
-    (
-        UNLIKE,
-        "",
-        "link -o c a s",
-        1,
-        "refused: link: Mismatch 4 M 2 M\n",
-    ),
-    (
-        UNLIKE,
-        "",
-        "link -o c m1 m1",
-        1,
-        "refused: link: DuplicateStart\n",
-    ),
+static REFUSED: [Case; 3] = [
+    Case {
+        files: UNLIKE,
+        first: "",
+        line: "link -o c a [ a ]",
+        status: 1,
+        text: "refused: link: Duplicate \"f\"\n",
+    },
+    Case {
+        files: UNLIKE,
+        first: "",
+        line: "link -o c a s",
+        status: 1,
+        text: "refused: link: Mismatch 4 M 2 M\n",
+    },
+    Case {
+        files: UNLIKE,
+        first: "",
+        line: "link -o c m1 m1",
+        status: 1,
+        text: "refused: link: DuplicateStart\n",
+    },
 ];
 
 #[test]

@@ -1,7 +1,7 @@
-//! What a list of modules comes to, wherever its groups stand.
+//! What a list of modules results in, wherever its groups are.
 
 use crate::locate::PAGE;
-use crate::runs::{File, Held, Run, all_come_to};
+use crate::runs::{Case, File, Held, all_come_to};
 
 /// Two modules that need each other, each at its place on the page.
 const PAGED: &[File] = &[
@@ -32,46 +32,70 @@ const NAMESAKES: &[File] = &[
     ("c", Held::Names(b"")),
 ];
 
-static GROUPS: [Run; 9] = [
-    (PAGED, "", "dump --plan=p a b", 0, PAGE_TEXT),
-    (PAGED, "", "dump --plan=p [ a b ]", 0, PAGE_TEXT),
-    (PAGED, "", "dump --plan=p [ [ a ] b ]", 0, PAGE_TEXT),
-    (CIRCLE, "", "dump a b", 1, "refused: locate: Cycle \"a\"\n"),
-    (
-        CIRCLE,
-        "",
-        "dump [ a ] b",
-        1,
-        "refused: locate: Cycle \"a\"\n",
-    ),
-    (
-        CIRCLE,
-        "",
-        "dump [ a b ]",
-        1,
-        "refused: locate: Cycle \"a\"\n",
-    ),
-    (
-        NAMESAKES,
-        "",
-        "dump a b",
-        1,
-        "refused: link: Duplicate \"main\"\n",
-    ),
-    (
-        NAMESAKES,
-        "",
-        "dump a [ b ]",
-        1,
-        "refused: link: Duplicate \"main\"\n",
-    ),
-    (
-        NAMESAKES,
-        "",
-        "dump [ a b ] c",
-        1,
-        "refused: link: Duplicate \"main\"\n",
-    ),
+static GROUPS: [Case; 9] = [
+    Case {
+        files: PAGED,
+        first: "",
+        line: "dump --plan=p a b",
+        status: 0,
+        text: PAGE_TEXT,
+    },
+    Case {
+        files: PAGED,
+        first: "",
+        line: "dump --plan=p [ a b ]",
+        status: 0,
+        text: PAGE_TEXT,
+    },
+    Case {
+        files: PAGED,
+        first: "",
+        line: "dump --plan=p [ [ a ] b ]",
+        status: 0,
+        text: PAGE_TEXT,
+    },
+    Case {
+        files: CIRCLE,
+        first: "",
+        line: "dump a b",
+        status: 1,
+        text: "refused: locate: Cycle \"a\"\n",
+    },
+    Case {
+        files: CIRCLE,
+        first: "",
+        line: "dump [ a ] b",
+        status: 1,
+        text: "refused: locate: Cycle \"a\"\n",
+    },
+    Case {
+        files: CIRCLE,
+        first: "",
+        line: "dump [ a b ]",
+        status: 1,
+        text: "refused: locate: Cycle \"a\"\n",
+    },
+    Case {
+        files: NAMESAKES,
+        first: "",
+        line: "dump a b",
+        status: 1,
+        text: "refused: link: Duplicate \"main\"\n",
+    },
+    Case {
+        files: NAMESAKES,
+        first: "",
+        line: "dump a [ b ]",
+        status: 1,
+        text: "refused: link: Duplicate \"main\"\n",
+    },
+    Case {
+        files: NAMESAKES,
+        first: "",
+        line: "dump [ a b ] c",
+        status: 1,
+        text: "refused: link: Duplicate \"main\"\n",
+    },
 ];
 
 #[test]
@@ -131,54 +155,66 @@ const MEMBERS: &[File] = &[
 const TWO_REFERENCES: &str = "module \"m\" processor \"68000\" maus 4 order M\n\
     reference 0 \"q\"\nreference 1 \"q\"\nnote type 1 attribute 2 3\n";
 
-static REFERRED: [Run; 8] = [
+static REFERRED: [Case; 8] = [
     // Weak references keep their defaults until a public meets them.
-    (WEAK, "", "dump --plan p a b", 0, "00000000: 01 02\n"),
-    (
-        WEAK,
-        "link -o c a b",
-        "dump --plan p c",
-        0,
-        "00000000: 01 02\n",
-    ),
-    (
-        WEAK,
-        "",
-        "dump --plan p a b x",
-        0,
-        "00000000: 07 07\npublic 00000007 \"x\"\n",
-    ),
-    (
-        WEAK,
-        "link -o c a b",
-        "dump --plan p c x",
-        0,
-        "00000000: 07 07\npublic 00000007 \"x\"\n",
-    ),
+    Case {
+        files: WEAK,
+        first: "",
+        line: "dump --plan p a b",
+        status: 0,
+        text: "00000000: 01 02\n",
+    },
+    Case {
+        files: WEAK,
+        first: "link -o c a b",
+        line: "dump --plan p c",
+        status: 0,
+        text: "00000000: 01 02\n",
+    },
+    Case {
+        files: WEAK,
+        first: "",
+        line: "dump --plan p a b x",
+        status: 0,
+        text: "00000000: 07 07\npublic 00000007 \"x\"\n",
+    },
+    Case {
+        files: WEAK,
+        first: "link -o c a b",
+        line: "dump --plan p c x",
+        status: 0,
+        text: "00000000: 07 07\npublic 00000007 \"x\"\n",
+    },
     // Equal references are one in a link, and a note keeps them apart.
-    (
-        REFERENCES,
-        "link -o c a b",
-        "show c",
-        0,
-        "module \"m\" processor \"68000\" maus 4 order M\nreference 0 \"q\"\n",
-    ),
-    (REFERENCES, "link -o c a n", "show c", 0, TWO_REFERENCES),
+    Case {
+        files: REFERENCES,
+        first: "link -o c a b",
+        line: "show c",
+        status: 0,
+        text: "module \"m\" processor \"68000\" maus 4 order M\nreference 0 \"q\"\n",
+    },
+    Case {
+        files: REFERENCES,
+        first: "link -o c a n",
+        line: "show c",
+        status: 0,
+        text: TWO_REFERENCES,
+    },
     // Members that define one name clash, and one that nothing needs is passed over.
-    (
-        MEMBERS,
-        "",
-        "dump r + a b",
-        1,
-        "refused: link: Duplicate \"f\"\n",
-    ),
-    (
-        MEMBERS,
-        "",
-        "dump r + h b",
-        0,
-        "public 00000000 \"f\"\npublic 00000000 \"g\"\n",
-    ),
+    Case {
+        files: MEMBERS,
+        first: "",
+        line: "dump r + a b",
+        status: 1,
+        text: "refused: link: Duplicate \"f\"\n",
+    },
+    Case {
+        files: MEMBERS,
+        first: "",
+        line: "dump r + h b",
+        status: 0,
+        text: "public 00000000 \"f\"\npublic 00000000 \"g\"\n",
+    },
 ];
 
 #[test]

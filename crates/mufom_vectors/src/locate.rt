@@ -1,6 +1,6 @@
 //! Programs that are located by a plan.
 
-use crate::runs::{File, Held, Run, all_come_to, made_of};
+use crate::runs::{Case, File, Held, all_come_to, made_of};
 
 /// A region for the sections of the program and its library.
 const BOARD: &[u8] =
@@ -37,41 +37,59 @@ const BOARDED: &[File] = &[
     ("l", Held::Library),
 ];
 
-/// A module and a plan, and what is no plan.
+/// A module, a plan, and a file that is not a plan.
 const ALONE: &[File] = &[
     ("a", Held::First),
     ("p", Held::Bytes(PAGE)),
     ("bad", Held::Bytes(b"[[")),
 ];
 
-static RUNS: [Run; 6] = [
-    (BOARDED, "", "dump --plan p m l", 0, BOARD_TEXT),
+static RUNS: [Case; 6] = [
+    Case {
+        files: BOARDED,
+        first: "",
+        line: "dump --plan p m l",
+        status: 0,
+        text: BOARD_TEXT,
+    },
     // The located module is the file `c` here.
-    (BOTH, "locate --plan p -o d a b", "dump c", 0, PAGE_TEXT),
+    Case {
+        files: BOTH,
+        first: "locate --plan p -o d a b",
+        line: "dump c",
+        status: 0,
+        text: PAGE_TEXT,
+    },
     // The plan is read before the files.
-    (ALONE, "", "dump --plan none none", 3, "read fault: plan\n"),
-    (
-        ALONE,
-        "",
-        "dump --plan bad none",
-        1,
-        "refused: plan: Syntax\n",
-    ),
+    Case {
+        files: ALONE,
+        first: "",
+        line: "dump --plan none none",
+        status: 3,
+        text: "read fault: plan\n",
+    },
+    Case {
+        files: ALONE,
+        first: "",
+        line: "dump --plan bad none",
+        status: 1,
+        text: "refused: plan: Syntax\n",
+    },
     // What is not defined or not placed.
-    (
-        ALONE,
-        "",
-        "dump --plan=p a",
-        1,
-        "refused: locate: Undefined \"g\"\n",
-    ),
-    (
-        ALONE,
-        "",
-        "dump a",
-        1,
-        "refused: locate: Unplaced section 0\n",
-    ),
+    Case {
+        files: ALONE,
+        first: "",
+        line: "dump --plan=p a",
+        status: 1,
+        text: "refused: locate: Undefined \"g\"\n",
+    },
+    Case {
+        files: ALONE,
+        first: "",
+        line: "dump a",
+        status: 1,
+        text: "refused: locate: Unplaced section 0\n",
+    },
 ];
 
 #[test]

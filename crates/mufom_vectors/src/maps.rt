@@ -1,7 +1,7 @@
 //! What is at which address, and which modules and files it comes from.
 
 use crate::drafts::{REFERENCE, SECTION};
-use crate::runs::{File, Held, Run, all_come_to};
+use crate::runs::{Case, File, Held, all_come_to};
 
 const RAM: &[u8] =
     b"[[region]]\nname = \"ram\"\nbase = 256\nsize = 64\nsections = [\"t\"]\ncommon = true\n";
@@ -42,60 +42,78 @@ const MEMBERS: &[File] = &[
     ("m1", Held::Names(b"\xE8\x20\x01g\xE2\xC9\x20\x00")),
 ];
 
-static RUNS: [Run; 8] = [
-    (
-        &[("a", Held::Absolute)],
-        "",
-        "map a",
-        0,
-        "module 0 \"A\" file 0\n\
+static RUNS: [Case; 8] = [
+    Case {
+        files: &[("a", Held::Absolute)],
+        first: "",
+        line: "map a",
+        status: 0,
+        text: "module 0 \"A\" file 0\n\
             section 0 00001000 size 4 align 2 \"code\" module 0\n\
             start 00001000 module 0\n\
             sections 1 bytes 4 loaded 4\n",
-    ),
-    (FILES, "", "map --plan p a b", 0, TEXT),
-    (FILES, "", "map --plan p --no-debug [ a b ]", 0, TEXT),
+    },
+    Case {
+        files: FILES,
+        first: "",
+        line: "map --plan p a b",
+        status: 0,
+        text: TEXT,
+    },
+    Case {
+        files: FILES,
+        first: "",
+        line: "map --plan p --no-debug [ a b ]",
+        status: 0,
+        text: TEXT,
+    },
     // Of a partial link the map knows one module.
-    (
-        FILES,
-        "link -o c a b",
-        "map --plan p c",
-        0,
-        "module 0 \"m\" file 0\n\
+    Case {
+        files: FILES,
+        first: "link -o c a b",
+        line: "map --plan p c",
+        status: 0,
+        text: "module 0 \"m\" file 0\n\
             region 0 \"ram\" at 00000100 size 64 used 14 free 50 [#######.........................]\n\
             section 0 00000100 size 4 align 1 \"t\" module 0 region 0\n\
             section 1 00000104 size 4 align 1 \"t\" module 0 region 0\n\
             common 2 00000108 size 6 align 8 \"c\" region 0\n\
             public 00000108 \"end\" module 0\n\
             sections 3 bytes 14 loaded 8\n",
-    ),
+    },
     // A member has the number of its file.
-    (
-        MEMBERS,
-        "",
-        "map r + m0 m1",
-        0,
-        "module 0 \"m\" file 0\n\
+    Case {
+        files: MEMBERS,
+        first: "",
+        line: "map r + m0 m1",
+        status: 0,
+        text: "module 0 \"m\" file 0\n\
             module 1 \"m\" file 2\n\
             public 00000000 \"f\" module 0\n\
             public 00000000 \"g\" module 1\n\
             sections 0 bytes 0 loaded 0\n",
-    ),
-    (
-        FILES,
-        "",
-        "map b",
-        1,
-        "refused: locate: Unplaced section 0\n",
-    ),
-    (
-        MEMBERS,
-        "",
-        "map r r",
-        1,
-        "refused: link: Duplicate \"f\"\n",
-    ),
-    (FILES, "", "map -o c a", 2, "usage: bad words\n"),
+    },
+    Case {
+        files: FILES,
+        first: "",
+        line: "map b",
+        status: 1,
+        text: "refused: locate: Unplaced section 0\n",
+    },
+    Case {
+        files: MEMBERS,
+        first: "",
+        line: "map r r",
+        status: 1,
+        text: "refused: link: Duplicate \"f\"\n",
+    },
+    Case {
+        files: FILES,
+        first: "",
+        line: "map -o c a",
+        status: 2,
+        text: "usage: bad words\n",
+    },
 ];
 
 #[test]

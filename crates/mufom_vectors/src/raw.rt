@@ -1,6 +1,6 @@
 //! Raw images, the listing of a module, and the texts of the program itself.
 
-use crate::runs::{File, Held, Run, all_come_to, makes};
+use crate::runs::{Case, File, Held, all_come_to, makes};
 use mufom_help::command_list;
 
 /// Two sections of one byte, at 16 and 19, with a byte each.
@@ -40,10 +40,16 @@ fn raw_images_are_filled_between_runs(rt: HostRuntime) {
 }
 
 // What is listed of a repeat, and refused of an image that is too long.
-static RUNS: [Run; 5] = [
-    (FAR, "", "bin -o c a", 1, "refused: bin: TooLong 67108865\n"),
-    (
-        &[(
+static RUNS: [Case; 5] = [
+    Case {
+        files: FAR,
+        first: "",
+        line: "bin -o c a",
+        status: 1,
+        text: "refused: bin: TooLong 67108865\n",
+    },
+    Case {
+        files: &[(
             "a",
             Held::Section(
                 b"\xE6\x01\xC1\xD3\x01t\xE2\xD3\x01\x04\xE2\xCC\x01\x10",
@@ -51,28 +57,53 @@ static RUNS: [Run; 5] = [
                 b"\xE5\x01\xF7\x02\xED\x01\x09",
             ),
         )],
-        "",
-        "show --listing a",
-        0,
-        "module \"m\" processor \"68000\" maus 4 order M\n\
+        first: "",
+        line: "show --listing a",
+        status: 0,
+        text: "module \"m\" processor \"68000\" maus 4 order M\n\
             section 0 \"t\" AS size 4 align 1 base 16\n\
             select 0\n\
             repeat 2\n\
             \x20\x20bytes 1 09\n\
             end\n",
-    ),
-    (&[], "", "version", 0, "mufom 1.0.0\n"),
-    (&[], "", "--version", 0, "mufom 1.0.0\n"),
-    (&[], "", "help nothing", 2, "usage: bad words\n"),
+    },
+    Case {
+        files: &[],
+        first: "",
+        line: "version",
+        status: 0,
+        text: "mufom 1.0.0\n",
+    },
+    Case {
+        files: &[],
+        first: "",
+        line: "--version",
+        status: 0,
+        text: "mufom 1.0.0\n",
+    },
+    Case {
+        files: &[],
+        first: "",
+        line: "help nothing",
+        status: 2,
+        text: "usage: bad words\n",
+    },
 ];
 
-// The words that ask for the list of commands.
+// The arguments that ask for the list of commands.
 static ASKED: [&str; 3] = ["help", "--help", "-h"];
 
 #[test]
 fn texts_are_printed(rt: HostRuntime) {
     all_come_to(&rt, rt.alloc(), &RUNS);
     for line in &ASKED {
-        all_come_to(&rt, rt.alloc(), &[(&[], "", line, 0, command_list())]);
+        let case = Case {
+            files: &[],
+            first: "",
+            line,
+            status: 0,
+            text: command_list(),
+        };
+        all_come_to(&rt, rt.alloc(), &[case]);
     }
 }

@@ -1,4 +1,4 @@
-//! Runs of the program in tables: words over files, and what they come to. Where there is no memory, a
+//! Runs of the program in tables: arguments over files, and what they result in. If memory runs out, a
 //! test fails.
 
 use crate::drafts::{Records, module};
@@ -36,16 +36,19 @@ pub(crate) enum Held {
 /// A file's name and what it holds.
 pub(crate) type File = (&'static str, Held);
 
-/// Files; the words of a run that first makes the file `c` of them, if any; the words of the run; the status
-/// that it ends with; and what it prints: to the output if it is done, else to the errors. Nothing is printed
-/// to the other.
-pub(crate) type Run = (
-    &'static [File],
-    &'static str,
-    &'static str,
-    u8,
-    &'static str,
-);
+/// A run of the program over files, as a row of a table.
+#[derive(Clone, Copy)]
+pub(crate) struct Case {
+    pub(crate) files: &'static [File],
+    /// The arguments of a run that first makes the file `c` of them; empty if there is none.
+    pub(crate) first: &'static str,
+    /// The arguments of the run.
+    pub(crate) line: &'static str,
+    /// The status that it ends with.
+    pub(crate) status: u8,
+    /// What it prints: to the output if the status is 0, else to the errors. Nothing is printed to the other.
+    pub(crate) text: &'static str,
+}
 
 // What the whole files hold that were made by hand.
 fn whole(held: &Held) -> &'static [u8] {
@@ -128,7 +131,7 @@ fn host_of(rt: &impl Abort, alloc: Global, files: List<(Text, Bytes)>) -> MemHos
     MemHost::new(alloc, files, List::new(alloc), List::new(alloc), ROOM).expect(rt, "memory")
 }
 
-// The words of a line, with one blank between each two.
+// The arguments of a line, with one space between each two.
 fn words_of(rt: &impl Abort, alloc: Global, line: &str) -> Vec<String> {
     let mut words = Vec::new(alloc);
     for word in line.split(' ') {
@@ -138,14 +141,14 @@ fn words_of(rt: &impl Abort, alloc: Global, line: &str) -> Vec<String> {
     words
 }
 
-/// The status that the words of a line end with.
+/// The status that a run with the arguments of a line ends with.
 pub(crate) fn status_of(rt: &impl Abort, alloc: Global, host: &mut MemHost, line: &str) -> u8 {
     let words = words_of(rt, alloc, line);
     assert!(rt; words.len() < 1 << 32);
     run(alloc, words.as_slice(), host).status()
 }
 
-/// The bytes of the file that the words of a line make of these files. They print nothing.
+/// The bytes of the file that a run with the arguments of a line makes of these files. It prints nothing.
 pub(crate) fn made_of(rt: &impl Abort, alloc: Global, files: &[File], line: &str) -> Vec<u8> {
     let files = listed(rt, alloc, files);
     let mut host = host_of(rt, alloc, files);
@@ -154,8 +157,8 @@ pub(crate) fn made_of(rt: &impl Abort, alloc: Global, files: &[File], line: &str
     made_bytes(rt, alloc, &host)
 }
 
-/// The bytes of the file that the words of the second line make of these files and of the file `c`, which
-/// those of the first line make.
+/// The bytes of the file that the second line of arguments makes of these files and of the file `c`, which
+/// the first line makes.
 pub(crate) fn made_twice(
     rt: &impl Abort,
     alloc: Global,
@@ -177,7 +180,7 @@ fn is_done(rt: &impl Abort, host: &MemHost, text: &str) {
     assert!(rt; host.err().is_empty());
 }
 
-// A run that is not done complains by this text alone, and no file is made or begun.
+// A run that is not done prints this error line alone, and no file is made or begun.
 fn is_not_done(rt: &impl Abort, host: &MemHost, text: &str) {
     assert_eq!(rt; host.err(), text.as_bytes());
     assert!(rt; host.out().is_empty());
@@ -185,30 +188,34 @@ fn is_not_done(rt: &impl Abort, host: &MemHost, text: &str) {
     assert!(rt; host.making().is_none());
 }
 
-// A run comes to what stands with it.
-fn comes_to(rt: &impl Abort, alloc: Global, run: &Run) {
-    let (files, link, line, status, text) = run;
-    let mut list = listed(rt, alloc, files);
-    if !link.is_empty() {
-        let linked = made_of(rt, alloc, files, link);
-        add(rt, alloc, &mut list, "c", &linked);
+// A run ends with the status and the text of its row.
+fn comes_to(rt: &impl Abort, alloc: Global, case: &Case) {
+    let line = case.line;
+    let mut list = listed(rt, alloc, case.files);
+    if !case.first.is_empty() {
+        let made = made_of(rt, alloc, case.files, case.first);
+        add(rt, alloc, &mut list, "c", &made);
     }
     let mut host = host_of(rt, alloc, list);
-    assert_eq!(rt; status_of(rt, alloc, &mut host, line), *status, "{line}");
-    match status {
-        0 => is_done(rt, &host, text),
-        _ => is_not_done(rt, &host, text),
+    assert_eq!(rt;
+        status_of(rt, alloc, &mut host, line),
+        case.status,
+        "{line}"
+    );
+    match case.status {
+        0 => is_done(rt, &host, case.text),
+        _ => is_not_done(rt, &host, case.text),
     }
 }
 
-/// Each of these runs comes to what stands with it.
-pub(crate) fn all_come_to(rt: &impl Abort, alloc: Global, runs: &[Run]) {
-    for run in runs {
-        comes_to(rt, alloc, run);
+/// Each of these runs ends with the status and the text of its row.
+pub(crate) fn all_come_to(rt: &impl Abort, alloc: Global, cases: &[Case]) {
+    for case in cases {
+        comes_to(rt, alloc, case);
     }
 }
 
-/// These words make a file of these bytes.
+/// These arguments make a file of these bytes.
 pub(crate) fn makes(rt: &impl Abort, alloc: Global, files: &[File], line: &str, bytes: &[u8]) {
     let made = made_of(rt, alloc, files, line);
     assert!(rt; made.as_slice() == bytes, "{line}");
@@ -221,7 +228,7 @@ pub(crate) fn complains_of(rt: &impl Abort, alloc: Global, line: &str, status: u
     is_not_done(rt, &host, text);
 }
 
-/// No words are a usage fault, with this complaint alone.
+/// A run without arguments is a usage error, with this error line alone.
 pub(crate) fn complains_of_no_words(rt: &impl Abort, alloc: Global, text: &str) {
     let mut host = host_of(rt, alloc, List::new(alloc));
     assert_eq!(rt; run(alloc, &[], &mut host).status(), 2);

@@ -1,6 +1,6 @@
-//! Texts of modules, and words that show none.
+//! Texts of modules, and arguments that show none.
 
-use crate::runs::{Held, Run, all_come_to, complains_of_no_words};
+use crate::runs::{Case, Held, all_come_to, complains_of_no_words};
 
 pub(crate) const ABSOLUTE_TEXT: &str = "\
       module \"A\" processor \"68000\" maus 4 order M\n\
@@ -25,31 +25,43 @@ pub(crate) const RELOCATABLE_TEXT: &str = "\
       field signed 4 = (X0 - P0)\n\
       start = (R0 + 4)\n";
 
-static SHOWN: [Run; 5] = [
-    (&[("m1", Held::Absolute)], "", "show m1", 0, ABSOLUTE_TEXT),
-    (
-        &[("m1", Held::Absolute)],
-        "",
-        "show m1 --no-debug",
-        0,
-        ABSOLUTE_TEXT,
-    ),
-    (
-        &[("a", Held::Relocatable)],
-        "",
-        "show a",
-        0,
-        RELOCATABLE_TEXT,
-    ),
+static SHOWN: [Case; 5] = [
+    Case {
+        files: &[("m1", Held::Absolute)],
+        first: "",
+        line: "show m1",
+        status: 0,
+        text: ABSOLUTE_TEXT,
+    },
+    Case {
+        files: &[("m1", Held::Absolute)],
+        first: "",
+        line: "show m1 --no-debug",
+        status: 0,
+        text: ABSOLUTE_TEXT,
+    },
+    Case {
+        files: &[("a", Held::Relocatable)],
+        first: "",
+        line: "show a",
+        status: 0,
+        text: RELOCATABLE_TEXT,
+    },
     // Names after two dashes, and a dash alone.
-    (
-        &[("-x", Held::Absolute)],
-        "",
-        "show -- -x",
-        0,
-        ABSOLUTE_TEXT,
-    ),
-    (&[("-", Held::Absolute)], "", "show -", 0, ABSOLUTE_TEXT),
+    Case {
+        files: &[("-x", Held::Absolute)],
+        first: "",
+        line: "show -- -x",
+        status: 0,
+        text: ABSOLUTE_TEXT,
+    },
+    Case {
+        files: &[("-", Held::Absolute)],
+        first: "",
+        line: "show -",
+        status: 0,
+        text: ABSOLUTE_TEXT,
+    },
 ];
 
 #[test]
@@ -57,45 +69,51 @@ fn modules_are_shown(rt: HostRuntime) {
     all_come_to(&rt, rt.alloc(), &SHOWN);
 }
 
-static USAGE: [Run; 6] = [
+static USAGE: [Case; 6] = [
     // Without a command or a file.
-    (
-        &[("m1", Held::Absolute)],
-        "",
-        "dmup a",
-        2,
-        "usage: no command\n",
-    ),
-    (&[("m1", Held::Absolute)], "", "dump", 2, "usage: no file\n"),
+    Case {
+        files: &[("m1", Held::Absolute)],
+        first: "",
+        line: "dmup a",
+        status: 2,
+        text: "usage: no command\n",
+    },
+    Case {
+        files: &[("m1", Held::Absolute)],
+        first: "",
+        line: "dump",
+        status: 2,
+        text: "usage: no file\n",
+    },
     // Not one file.
-    (
-        &[("m1", Held::Absolute)],
-        "",
-        "show m1 m1",
-        2,
-        "usage: file count\n",
-    ),
-    (
-        &[("m1", Held::Absolute)],
-        "",
-        "show [",
-        2,
-        "usage: stray bracket\n",
-    ),
-    (
-        &[("m1", Held::Absolute)],
-        "",
-        "show --help",
-        2,
-        "usage: bad words\n",
-    ),
-    (
-        &[("m1", Held::Absolute)],
-        "",
-        "show --no-debug --no-debug m1",
-        2,
-        "usage: bad words\n",
-    ),
+    Case {
+        files: &[("m1", Held::Absolute)],
+        first: "",
+        line: "show m1 m1",
+        status: 2,
+        text: "usage: file count\n",
+    },
+    Case {
+        files: &[("m1", Held::Absolute)],
+        first: "",
+        line: "show [",
+        status: 2,
+        text: "usage: stray bracket\n",
+    },
+    Case {
+        files: &[("m1", Held::Absolute)],
+        first: "",
+        line: "show --help",
+        status: 2,
+        text: "usage: bad words\n",
+    },
+    Case {
+        files: &[("m1", Held::Absolute)],
+        first: "",
+        line: "show --no-debug --no-debug m1",
+        status: 2,
+        text: "usage: bad words\n",
+    },
 ];
 
 #[test]

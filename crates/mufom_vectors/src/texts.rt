@@ -1,6 +1,6 @@
 //! Images as TI-TXT texts, both ways.
 
-use crate::runs::{File, Held, Run, all_come_to, made_twice, makes};
+use crate::runs::{Case, File, Held, all_come_to, made_twice, makes};
 
 /// The text of four bytes at 4096.
 const IMAGE: &[u8] = b"@1000\n4E 71 4E 75\nq\n";
@@ -34,47 +34,53 @@ fn images_are_written_as_texts(rt: HostRuntime) {
     );
 }
 
-// What modules of texts come to, and why a module has no text.
-static RUNS: [Run; 6] = [
-    (
-        TEXT,
-        "fromtxt -o c t",
-        "check c",
-        0,
-        "file 0 \"text\": sections 1 publics 0 references 0 loads 2 debug 0\n",
-    ),
-    (
-        TEXT,
-        "fromtxt -o c t",
-        "dump c",
-        0,
-        "00001000: 4E 71 4E 75\n",
-    ),
-    (
-        TEXT,
-        "fromtxt --maus 2 -o c t",
-        "show c",
-        0,
-        "module \"text\" processor \"TXT\" maus 2 order M\n\
+// What modules of texts give, and why a module has no text.
+static RUNS: [Case; 6] = [
+    Case {
+        files: TEXT,
+        first: "fromtxt -o c t",
+        line: "check c",
+        status: 0,
+        text: "file 0 \"text\": sections 1 publics 0 references 0 loads 2 debug 0\n",
+    },
+    Case {
+        files: TEXT,
+        first: "fromtxt -o c t",
+        line: "dump c",
+        status: 0,
+        text: "00001000: 4E 71 4E 75\n",
+    },
+    Case {
+        files: TEXT,
+        first: "fromtxt --maus 2 -o c t",
+        line: "show c",
+        status: 0,
+        text: "module \"text\" processor \"TXT\" maus 2 order M\n\
             section 0 \"txt\" AS size 4 align 1 base 4096\n\
             select 0\n\
             bytes 4 4E714E75\n",
-    ),
-    (
-        &[("t", Held::Bytes(b"@f000\r\n4e\r\nq\r\n"))],
-        "fromtxt -o c t",
-        "dump c",
-        0,
-        "0000F000: 4E\n",
-    ),
-    (
-        &[("a", Held::Relocatable)],
-        "",
-        "txt -o c a",
-        1,
-        "refused: locate: Unplaced section 0\n",
-    ),
-    (&[], "", "fromtxt -o c t", 3, "read fault: file 0\n"),
+    },
+    Case {
+        files: &[("t", Held::Bytes(b"@f000\r\n4e\r\nq\r\n"))],
+        first: "fromtxt -o c t",
+        line: "dump c",
+        status: 0,
+        text: "0000F000: 4E\n",
+    },
+    Case {
+        files: &[("a", Held::Relocatable)],
+        first: "",
+        line: "txt -o c a",
+        status: 1,
+        text: "refused: locate: Unplaced section 0\n",
+    },
+    Case {
+        files: &[],
+        first: "",
+        line: "fromtxt -o c t",
+        status: 3,
+        text: "read fault: file 0\n",
+    },
 ];
 
 #[test]
@@ -90,70 +96,70 @@ fn texts_have_modules(rt: HostRuntime) {
 }
 
 // Texts, and the first line of each that is wrong.
-static WRONG: [Run; 9] = [
-    (
-        &[("t", Held::Bytes(b"00 11\nq\n"))],
-        "",
-        "fromtxt -o c t",
-        1,
-        "refused: text line 1: NoAddress\n",
-    ),
-    (
-        &[("t", Held::Bytes(b"@0\n00\n@0\n01\nq\n"))],
-        "",
-        "fromtxt -o c t",
-        1,
-        "refused: text line 4: Twice 0\n",
-    ),
-    (
-        &[("t", Held::Bytes(b"@FFFFFFFF\n00 01\nq\n"))],
-        "",
-        "fromtxt -o c t",
-        1,
-        "refused: text line 2: Beyond\n",
-    ),
-    (
-        &[("t", Held::Bytes(b"@10\n"))],
-        "",
-        "fromtxt -o c t",
-        1,
-        "refused: text line 2: NoEnd\n",
-    ),
-    (
-        &[("t", Held::Bytes(b""))],
-        "",
-        "fromtxt -o c t",
-        1,
-        "refused: text line 1: NoEnd\n",
-    ),
-    (
-        &[("t", Held::Bytes(b"@10\n0\nq\n"))],
-        "",
-        "fromtxt -o c t",
-        1,
-        "refused: text line 2: BadLine\n",
-    ),
-    (
-        &[("t", Held::Bytes(b"q\n\n@10\n"))],
-        "",
-        "fromtxt -o c t",
-        1,
-        "refused: text line 3: AfterEnd\n",
-    ),
-    (
-        &[("t", Held::Bytes(b"@FFFFFFFF\n00\n@FFFFFFFF\n00\nq\n"))],
-        "",
-        "fromtxt -o c t",
-        1,
-        "refused: text line 4: Twice 4294967295\n",
-    ),
-    (
-        &[("t", Held::Bytes(b"@0\n00\n@0\n01\nx\nq\n"))],
-        "",
-        "fromtxt -o c t",
-        1,
-        "refused: text line 4: Twice 0\n",
-    ),
+static WRONG: [Case; 9] = [
+    Case {
+        files: &[("t", Held::Bytes(b"00 11\nq\n"))],
+        first: "",
+        line: "fromtxt -o c t",
+        status: 1,
+        text: "refused: text line 1: NoAddress\n",
+    },
+    Case {
+        files: &[("t", Held::Bytes(b"@0\n00\n@0\n01\nq\n"))],
+        first: "",
+        line: "fromtxt -o c t",
+        status: 1,
+        text: "refused: text line 4: Twice 0\n",
+    },
+    Case {
+        files: &[("t", Held::Bytes(b"@FFFFFFFF\n00 01\nq\n"))],
+        first: "",
+        line: "fromtxt -o c t",
+        status: 1,
+        text: "refused: text line 2: Beyond\n",
+    },
+    Case {
+        files: &[("t", Held::Bytes(b"@10\n"))],
+        first: "",
+        line: "fromtxt -o c t",
+        status: 1,
+        text: "refused: text line 2: NoEnd\n",
+    },
+    Case {
+        files: &[("t", Held::Bytes(b""))],
+        first: "",
+        line: "fromtxt -o c t",
+        status: 1,
+        text: "refused: text line 1: NoEnd\n",
+    },
+    Case {
+        files: &[("t", Held::Bytes(b"@10\n0\nq\n"))],
+        first: "",
+        line: "fromtxt -o c t",
+        status: 1,
+        text: "refused: text line 2: BadLine\n",
+    },
+    Case {
+        files: &[("t", Held::Bytes(b"q\n\n@10\n"))],
+        first: "",
+        line: "fromtxt -o c t",
+        status: 1,
+        text: "refused: text line 3: AfterEnd\n",
+    },
+    Case {
+        files: &[("t", Held::Bytes(b"@FFFFFFFF\n00\n@FFFFFFFF\n00\nq\n"))],
+        first: "",
+        line: "fromtxt -o c t",
+        status: 1,
+        text: "refused: text line 4: Twice 4294967295\n",
+    },
+    Case {
+        files: &[("t", Held::Bytes(b"@0\n00\n@0\n01\nx\nq\n"))],
+        first: "",
+        line: "fromtxt -o c t",
+        status: 1,
+        text: "refused: text line 4: Twice 0\n",
+    },
 ];
 
 #[test]

@@ -1,28 +1,76 @@
-//! Words that are no command, and numbers and groups that a command does not take.
+//! Arguments that give no command, and numbers and groups that a command does not take.
 
-use crate::runs::{Run, all_come_to, complains_of};
+use crate::runs::{Case, all_come_to, complains_of};
 use std::alloc::Global;
 use std::process::Abort;
 
-static RUNS: [Run; 9] = [
+static RUNS: [Case; 9] = [
     // Groups and members that are not whole.
-    (&[], "", "dump [ ]", 2, "usage: empty group\n"),
-    (&[], "", "dump ]", 2, "usage: stray bracket\n"),
-    (&[], "", "dump [ a", 2, "usage: open group\n"),
-    (&[], "", "dump a +", 2, "usage: bad members\n"),
+    Case {
+        files: &[],
+        first: "",
+        line: "dump [ ]",
+        status: 2,
+        text: "usage: empty group\n",
+    },
+    Case {
+        files: &[],
+        first: "",
+        line: "dump ]",
+        status: 2,
+        text: "usage: stray bracket\n",
+    },
+    Case {
+        files: &[],
+        first: "",
+        line: "dump [ a",
+        status: 2,
+        text: "usage: open group\n",
+    },
+    Case {
+        files: &[],
+        first: "",
+        line: "dump a +",
+        status: 2,
+        text: "usage: bad members\n",
+    },
     // Words of other kinds.
-    (&[], "", "locate a", 2, "usage: bad words\n"),
-    (&[], "", "show a b", 2, "usage: file count\n"),
-    (&[], "", "make 0", 2, "usage: bad count\n"),
-    (&[], "", "make", 2, "usage: file count\n"),
+    Case {
+        files: &[],
+        first: "",
+        line: "locate a",
+        status: 2,
+        text: "usage: bad words\n",
+    },
+    Case {
+        files: &[],
+        first: "",
+        line: "show a b",
+        status: 2,
+        text: "usage: file count\n",
+    },
+    Case {
+        files: &[],
+        first: "",
+        line: "make 0",
+        status: 2,
+        text: "usage: bad count\n",
+    },
+    Case {
+        files: &[],
+        first: "",
+        line: "make",
+        status: 2,
+        text: "usage: file count\n",
+    },
     // Two generated modules are located.
-    (
-        &[],
-        "",
-        "make 2",
-        0,
-        "modules 2\npublics 2\nbytes 32\nsum 103\n",
-    ),
+    Case {
+        files: &[],
+        first: "",
+        line: "make 2",
+        status: 0,
+        text: "modules 2\npublics 2\nbytes 32\nsum 103\n",
+    },
 ];
 
 #[test]

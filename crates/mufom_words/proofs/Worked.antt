@@ -321,6 +321,11 @@ map_printed : answer_of (codes "map" ∷ codes "--plan=p" ∷ codes "a" ∷ code
 unfolding clap_on_literals
 map_printed = refl
 
+map_of_what_is_kept : answer_of (codes "map" ∷ codes "--keep" ∷ codes "main" ∷ codes "a" ∷ [])
+    ≡ Ok (record (of_files verb.Map false (codes "a" ∷ [])) { keep = Some (codes "main") })
+unfolding clap_on_literals
+map_of_what_is_kept = refl
+
 no_file_of_a_map : answer_of (codes "map" ∷ codes "-oc" ∷ codes "a" ∷ []) ≡ Err (stop.Usage fault.BadWords)
 unfolding clap_on_literals
 no_file_of_a_map = refl

@@ -43,8 +43,12 @@ usage_of form.Dump = record {
   settings = setting.NoDebug ∷ setting.Plan ∷ setting.Keep ∷ [];
   operands = operands.GroupedFiles;
 }
-usage_of form.Map =
-    record { verb = verb.Map; name = codes "map"; settings = setting.NoDebug ∷ setting.Plan ∷ []; operands = operands.GroupedFiles }
+usage_of form.Map = record {
+  verb = verb.Map;
+  name = codes "map";
+  settings = setting.NoDebug ∷ setting.Plan ∷ setting.Keep ∷ [];
+  operands = operands.GroupedFiles;
+}
 usage_of form.Make = record { verb = verb.Make; name = codes "make"; settings = []; operands = operands.OneCount }
 usage_of form.Addr = record { verb = verb.Addr; name = codes "addr"; settings = setting.Plan ∷ setting.At ∷ []; operands = operands.GroupedFiles }
 usage_of form.Bin = record {
@@ -102,6 +106,7 @@ names_module _ = false
 abbrev pub keeps_what_is_needed : Verb → Bool
 keeps_what_is_needed verb.Locate = true
 keeps_what_is_needed verb.Dump = true
+keeps_what_is_needed verb.Map = true
 keeps_what_is_needed verb.Bin = true
 keeps_what_is_needed verb.Txt = true
 keeps_what_is_needed _ = false

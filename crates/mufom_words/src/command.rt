@@ -89,11 +89,11 @@ pub struct Command {
     pub out: Option<Text>,
     /// The name of the plan's file, where one is given.
     pub plan: Option<Text>,
-    /// The tree of the files that are no members: groups in brackets, files by their numbers.
+    /// The tree of the files that are not members: groups in brackets, files by their numbers.
     pub marks: List<Mark>,
     /// The names of the files in the order of their arguments. The members follow those of the tree.
     pub files: List<Text>,
-    /// How many modules are generated; 0 where the command generates none.
+    /// How many modules are generated; 0 if the command generates none.
     pub count: u32,
     /// A module is printed in the form from which it can be built.
     pub listing: bool,

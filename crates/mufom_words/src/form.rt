@@ -1,4 +1,4 @@
-//! The table of commands: which options each takes, and what its other words are.
+//! The table of commands: which options each takes, and what its operands are.
 
 ghost use Rattle.std.specs.Prelude.{◌≡◌};
 ghost use Rattle.mufom_words.specs.Options.{form_of, takes, usage_of};
@@ -6,7 +6,7 @@ ghost use Rattle.mufom_words.specs.Options.{form_of, takes, usage_of};
 use crate::command::Verb;
 use crate::options::Setting;
 
-/// What the arguments of a command are that are no option.
+/// What the operands of a command are.
 #[derive(Clone, Copy, Debug, PartialEq, Eq)]
 pub(crate) enum Operands {
     /// The name of one file.
@@ -104,7 +104,7 @@ impl Form {
             Form::Link => &[Setting::NoDebug, Setting::Name, Setting::Out],
             Form::Locate => &[Setting::NoDebug, Setting::Plan, Setting::Keep, Setting::Out],
             Form::Dump => &[Setting::NoDebug, Setting::Plan, Setting::Keep],
-            Form::Map => &[Setting::NoDebug, Setting::Plan],
+            Form::Map => &[Setting::NoDebug, Setting::Plan, Setting::Keep],
             Form::Make => &[],
             Form::Addr => &[Setting::Plan, Setting::At],
             Form::Bin => &[
@@ -119,7 +119,7 @@ impl Form {
         }
     }
 
-    /// What its other words are.
+    /// What its operands are.
     pub(crate) fn operands(self) -> Operands
         ensures { result ≡ (usage_of self).operands }
     {

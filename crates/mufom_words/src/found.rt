@@ -27,7 +27,7 @@ pub(crate) fn matches_in<'a>(
     command.try_get_matches_from(words)
 }
 
-/// The value of an option, where the command has the option and the words give it.
+/// The value of an option, if the command has the option and the arguments give it.
 pub(crate) fn value_in<'b, 'a: 'b>(
     matches: &'b ArgMatches<'a>,
     form: Form,
@@ -41,7 +41,7 @@ pub(crate) fn value_in<'b, 'a: 'b>(
     matches.get_str(setting.id())
 }
 
-/// Whether an option that takes no value is among the words.
+/// Whether an option that takes no value is among the arguments.
 pub(crate) fn is_given(matches: &ArgMatches<'_>, form: Form, setting: Setting) -> bool
     ensures { result ≡ is_true (valued (usage_of form).settings (rows_of (found_of matches.now)) setting) }
 {
@@ -51,7 +51,7 @@ pub(crate) fn is_given(matches: &ArgMatches<'_>, form: Form, setting: Setting) -
     }
 }
 
-/// The arguments that are no option.
+/// The operands.
 pub(crate) fn operands_in<'b, 'a: 'b>(matches: &'b ArgMatches<'a>) -> Option<&'b [&'a str]>
     ensures some { IfSome result (λ words. map (λ word. word.now) words.now ≡ operands_of (rows_of (found_of matches.now))) }
     ensures none { IsNone result → operands_of (rows_of (found_of matches.now)) ≡ [] }

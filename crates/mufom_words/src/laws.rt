@@ -9,7 +9,7 @@ pub fn trees_are_spelled()
     ensures { (tree : Forest) → tree_of (spelling tree) ≡ tree }
 {}
 
-/// Each command that words give has the marks of a tree over the first of its files, the options
+/// Each command that arguments give has the marks of a tree over the first of its files, the options
 /// of its verb, and is within the limits of a run.
 pub fn commands_are_sound()
     ensures { CommandsAreSound }

@@ -1,9 +1,9 @@
 //! The command that the arguments of a command line give.
 //!
-//! The first word names the command, and `clap` reads the others, as one simple command for each
+//! The first argument names the command, and `clap` reads the others, as one simple command for each
 //! name: options, and files in groups and after them members. Its main clause is that of
 //! [`read_words`]: the command that it returns is the one that the arguments give, and a stop other
-//! than out of memory is the first thing that is wrong with them, in a fixed order.
+//! than out of memory is the first error in them, in a fixed order.
 #![tactic(auto)]
 
 mod command;

@@ -139,7 +139,7 @@ fn grouped_fault(words: &[&str]) -> Option<UsageFault>
     end_fault(walk)
 }
 
-/// What is wrong with brackets, members and that there is no file.
+/// An error in the brackets or the members, or that there is no file.
 pub(crate) fn operands_fault(operands: Operands, words: &[&str]) -> Option<UsageFault>
     requires { length words.now < 2 ^ 32 }
     ensures { result ≡ wrong_operand operands (map (λ word. word.now) words.now) }
@@ -151,7 +151,7 @@ pub(crate) fn operands_fault(operands: Operands, words: &[&str]) -> Option<Usage
     }
 }
 
-/// Another number of words than the command is for.
+/// The error for another number of operands than the command takes.
 pub(crate) fn number_fault(operands: Operands, words: &[&str]) -> Option<UsageFault>
     ensures { result ≡ wrong_number operands (map (λ word. word.now) words.now) }
 {
@@ -174,7 +174,7 @@ fn first_count(words: &[&str]) -> Option<u32>
     count_of(words.first()?)
 }
 
-/// A count that is none, where the command is for one.
+/// The error for a count that is invalid, if the command takes one.
 pub(crate) fn count_fault(operands: Operands, words: &[&str]) -> Option<UsageFault>
     ensures { result ≡ wrong_count operands (map (λ word. word.now) words.now) }
 {
@@ -186,7 +186,7 @@ pub(crate) fn count_fault(operands: Operands, words: &[&str]) -> Option<UsageFau
 
 // ---- what the arguments give
 
-/// The count, and 0 where the command is for none.
+/// The count, or 0 if the command takes none.
 pub(crate) fn number_of(operands: Operands, words: &[&str]) -> u32
     ensures { result ≡ number_by operands (map (λ word. word.now) words.now) }
 {
@@ -209,7 +209,7 @@ fn name_count(words: &[&str]) -> u32
     count
 }
 
-/// How many files the words name, members included.
+/// How many files the arguments name, members included.
 pub(crate) fn file_count(operands: Operands, words: &[&str]) -> u32
     requires { length words.now < 2 ^ 32 }
     ensures { result ≡ length (files_by operands (map (λ word. word.now) words.now)) }

@@ -73,7 +73,7 @@ fn option_of<'a>(alloc: Global, setting: Setting) -> Arg<'a>
     }
 }
 
-// All words that are no option.
+// All operands.
 fn operands<'a>(alloc: Global) -> Arg<'a>
     ensures rule { rule_of result ≡ operands_rule }
     ensures local { result.global ≡ false }
@@ -81,7 +81,7 @@ fn operands<'a>(alloc: Global) -> Arg<'a>
     Arg::new(alloc, "files").action(ArgAction::Append)
 }
 
-/// The command of `clap` that reads the words of a command. It has no help option.
+/// The command of `clap` that reads the arguments of a command. It has no help option.
 pub(crate) fn command_of<'a>(alloc: Global, form: Form) -> Result<clap::Command<'a>, AllocError>
     ensures { IfOk result (λ command. app_of command ≡ app_for form) }
 {

@@ -55,7 +55,7 @@ fn missing_fault(form: Form, setting: Setting, value: Option<&str>) -> Option<Us
     None
 }
 
-// The first thing that is wrong with words that `clap` takes.
+// The first error in arguments that `clap` accepts.
 fn usage_fault(
     form: Form,
     out: Option<&str>,
@@ -156,7 +156,7 @@ fn maus_in(matches: &ArgMatches<'_>, form: Form) -> u8
     }
 }
 
-// The command of words with which nothing is wrong.
+// The command of arguments without an error.
 fn command_from(
     alloc: Global,
     form: Form,
@@ -192,7 +192,7 @@ fn command_from(
     })
 }
 
-// The first thing that is wrong with words that `clap` takes, the limits of a run aside.
+// The first error in arguments that `clap` accepts, except for the limits of a run.
 fn given_fault(form: Form, matches: &ArgMatches<'_>, words: &[&str]) -> Option<UsageFault>
     requires few { length words.now < 2 ^ 32 }
     requires own { map (λ word. word.now) words.now ≡ operands_of (rows_of (found_of matches.now)) }
@@ -212,7 +212,7 @@ fn given_fault(form: Form, matches: &ArgMatches<'_>, words: &[&str]) -> Option<U
     value_fault(count, fill, at)
 }
 
-// The command of words that `clap` takes.
+// The command of arguments that `clap` accepts.
 fn command_of_taken(
     alloc: Global,
     form: Form,
@@ -255,10 +255,10 @@ pub(crate) fn command_for(alloc: Global, form: Form, words: &[String]) -> Result
     }
 }
 
-/// The command that the arguments give, or the first thing that is wrong with them.
+/// The command that the arguments give, or the first error in them.
 ///
-/// `words` are the command line's words without the program's name, fewer than 2^32. The first
-/// names the command, and `clap` reads the others, but for those of `help` and `version`, which are
+/// `words` are the command line's arguments without the program's name, fewer than 2^32. The first
+/// names the command, and `clap` reads the others, except those of `help` and `version`, which are
 /// compared letter by letter. Errors are looked for in this order, and the first is returned: no
 /// command; the options; brackets and `+` from left to right, then those that the end leaves open,
 /// then that there is no file; the number of files; the name; the count; the values of `--maus`,
@@ -270,7 +270,7 @@ pub fn read_words(alloc: Global, words: &[String]) -> Result<Command, WordsStop>
     ensures refused { IfErr result (λ stop. stop ≢ WordsStop.NoMemory → answer_of (map (λ word. string_bytes word) words.now) ≡ Err stop) }
     // Its marks are those of a tree over the first files, its options are those of its verb, and the limits hold.
     ensures sound { IfOk result IsSound }
-    // A command that prints a text of the program needs no memory.
+    // A command that prints a text of the program does not allocate.
     ensures memory { PrintsHelp (map (λ word. string_bytes word) words.now) → result ≢ Err WordsStop.NoMemory }
 {
     let [first, others @ ..] = words else {

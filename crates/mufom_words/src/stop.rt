@@ -2,10 +2,10 @@
 
 use thiserror::Error;
 
-/// Why the words of a run are no command.
+/// An error in the arguments.
 #[derive(Clone, Copy, Debug, PartialEq, Eq, Error)]
 pub enum UsageFault {
-    /// No word, or a first word that names no command.
+    /// No argument, or a first argument that names no command.
     #[error("no such command")]
     NoCommand,
     /// An option that the command does not have, that occurs twice, that lacks its value or has one
@@ -21,17 +21,17 @@ pub enum UsageFault {
     /// A group that is not closed.
     #[error("a group is not closed")]
     OpenGroup,
-    /// A bracket that closes no group, or where the command is for no groups.
+    /// A bracket that closes no group, or a bracket for a command without groups.
     #[error("unexpected bracket")]
     StrayBracket,
     /// A `+` where no members may follow, a bracket that opens a group after it, or no member
     /// after it.
     #[error("misplaced +")]
     BadMembers,
-    /// Another number of files, or of counts, than the command is for.
+    /// Another number of files, or of counts, than the command takes.
     #[error("wrong number of files")]
     FileCount,
-    /// A count that is no decimal number from 1 to 65,536, or a value of `--maus` that is not one digit from
+    /// A count that is not a decimal number from 1 to 65,536, or a value of `--maus` that is not one digit from
     /// 1 to 8.
     #[error("invalid count")]
     BadCount,
@@ -46,7 +46,7 @@ pub enum UsageFault {
     LongName,
 }
 
-/// Why words are no command of a run.
+/// Why the arguments give no command.
 #[derive(Clone, Copy, Debug, PartialEq, Eq, Error)]
 pub enum WordsStop {
     /// The arguments are not a command.

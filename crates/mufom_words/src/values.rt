@@ -52,7 +52,7 @@ pub(crate) fn maus_of(word: &str) -> Option<u8>
     }
 }
 
-// A number of bytes in an address that is none.
+// The error for a value of `--maus` that is not a number from 1 to 8.
 fn maus_fault(count: Option<&str>) -> Option<UsageFault>
     ensures { result ≡ unless_read maus UsageFault.BadCount (option_map (λ text. text.now) count.entry) }
 {
@@ -62,7 +62,7 @@ fn maus_fault(count: Option<&str>) -> Option<UsageFault>
     }
 }
 
-// A byte that is none.
+// The error for a value of `--fill` that is not a byte.
 fn byte_fault(fill: Option<&str>) -> Option<UsageFault>
     ensures { result ≡ unless_read byte UsageFault.BadByte (option_map (λ text. text.now) fill.entry) }
 {
@@ -72,7 +72,7 @@ fn byte_fault(fill: Option<&str>) -> Option<UsageFault>
     }
 }
 
-// An address that is none.
+// The error for a value of `--at` that is not an address.
 fn address_fault(at: Option<&str>) -> Option<UsageFault>
     ensures { result ≡ unless_read address UsageFault.BadAddress (option_map (λ text. text.now) at.entry) }
 {
@@ -82,7 +82,7 @@ fn address_fault(at: Option<&str>) -> Option<UsageFault>
     }
 }
 
-/// What is wrong with the values of `--maus`, `--fill` and `--at`, the first in this order.
+/// The first error in the values of `--maus`, `--fill` and `--at`, in this order.
 pub(crate) fn value_fault(
     count: Option<&str>,
     fill: Option<&str>,

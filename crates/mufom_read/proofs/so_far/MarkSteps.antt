@@ -12,9 +12,10 @@ use Rattle.mufom_module.specs.SpelledRecords.{SpelledRecord, tree_in, public, de
 use Rattle.mufom_module.specs.SpelledRecords.{is_same_statement, assigned_by, is_assigned}
 use Rattle.mufom_module.specs.Gathered.{value_for}
 use Rattle.mufom_read.specs.declared.publics.PublicMark.{PublicMark}
+use Rattle.mufom_read.specs.declared.publics.PublicMark.TheVariants.{Valued}
 use Rattle.mufom_read.specs.Prefixes.{OffsetRecord}
 use Rattle.mufom_read.specs.Kept.{as_record}
-use Rattle.mufom_read.specs.NamesSoFar.{value_start_for, public_mark_by, public_marks, records_in}
+use Rattle.mufom_read.specs.NamesSoFar.{value_start_for, mark_of, public_mark_by, public_marks, records_in}
 use Rattle.mufom_read.proofs.so_far.InPlace.{changed_at, changed-there}
 use Rattle.mufom_read.proofs.so_far.ReferenceSteps.{one_more_none, same_each, same_count, same_index}
 use Rattle.mufom_read.proofs.so_far.PublicSteps.{is_of_public}
@@ -84,13 +85,13 @@ module _ (placed : List OffsetRecord) (start i : ℕ) (name : Span) (bytes : Lis
   added = (start, as_record (r.PublicName i name) bytes)
 
   abbrev mark_with : List ℕ → PublicMark
-  mark_with starts = record { start = start; valued = slice_get starts 0 }
+  mark_with starts = mark_of start (slice_get starts 0)
 
   same_starts : (j : ℕ) → filter_map (λ p. value_start_for j p p.1.row) (placed ++ added ∷ []) ≡ filter_map (λ p. value_start_for j p p.1.row) placed
   same_starts j = one_more_none (λ p. value_start_for j p p.1.row) placed added refl
 
   same : (p : OffsetRecord) (row : Record) → public_mark_by (placed ++ added ∷ []) p row ≡ public_mark_by placed p row
-  same p (r.PublicName j other) = (λ k. Some (record { start = p.0; valued = slice_get (same_starts j k) 0 }))
+  same p (r.PublicName j other) = (λ k. Some (mark_of p.0 (slice_get (same_starts j k) 0)))
   same p row = refl
 
   pub mark-added : filter_map (λ p. value_for i p p.row) (records_in placed) ≡ [] → public_marks (placed ++ added ∷ []) ≡ public_marks placed
@@ -102,11 +103,10 @@ module _ (placed : List OffsetRecord) (start i : ℕ) (name : Span) (bytes : Lis
 
 -- ---- its value
 
-chosen_mark : (b : Bool) (start : ℕ) (t v : Option ℕ) → let old : PublicMark = record { start = start; valued = v } in let new : PublicMark =
-    record { start = start; valued = t } in
-    let both : PublicMark = record { start = start; valued = cond b t v } in Some both ≡ Some (cond b new old)
-chosen_mark true start t v = refl
-chosen_mark false start t v = refl
+chosen_mark : (b : Bool) (start valued : ℕ) (v : Option ℕ) → Some (mark_of start (cond b (Some valued) v))
+    ≡ Some (cond b (Valued valued) (mark_of start v))
+chosen_mark true start valued v = refl
+chosen_mark false start valued v = refl
 
 first_start : (b : Bool) (starts : List ℕ) (start : ℕ) → (b ≡ true → starts ≡ []) → slice_get (starts ++ cons_option (cond b (Some start) None) []) 0
     ≡ cond b (Some start) (slice_get starts 0)
@@ -119,7 +119,7 @@ module _ (placed : List OffsetRecord) (start i : ℕ) (span : Span) (bytes : Lis
   given = (start, as_record (r.PublicValue i span) bytes)
 
   abbrev with_start : PublicMark → PublicMark
-  with_start old = record old { valued = Some start }
+  with_start old = Valued start
 
   stated : (j : ℕ) → slice_get (filter_map (λ p. value_start_for j p p.1.row) (placed ++ given ∷ [])) 0
       ≡ cond (j == i) (Some start) (slice_get (filter_map (λ p. value_start_for j p p.1.row) placed) 0)
@@ -129,13 +129,13 @@ module _ (placed : List OffsetRecord) (start i : ℕ) (span : Span) (bytes : Lis
 
   changed : (p : OffsetRecord) (row : Record) → public_mark_by (placed ++ given ∷ []) p row
       ≡ changed_at i with_start (of_kind public (declared_by row)) (public_mark_by placed p row)
-  changed p (r.PublicName j name) = (λ k. Some (record { start = p.0; valued = stated j k }))
-      ∙ chosen_mark (j == i) p.0 (Some start) (slice_get (filter_map (λ q. value_start_for j q q.1.row) placed) 0)
+  changed p (r.PublicName j name) = (λ k. Some (mark_of p.0 (stated j k)))
+      ∙ chosen_mark (j == i) p.0 start (slice_get (filter_map (λ q. value_start_for j q q.1.row) placed) 0)
   changed p row = refl
 
   pub mark-in-place : (place : ℕ) (old : PublicMark) → IsDistinct nat_eq (declared public (records_in placed))
       → slice_get (declared public (records_in placed)) place ≡ Some i → slice_get (public_marks placed) place ≡ Some old
-      → public_marks (placed ++ given ∷ []) ≡ slice_set (public_marks placed) place (record old { valued = Some start })
+      → public_marks (placed ++ given ∷ []) ≡ slice_set (public_marks placed) place (Valued start)
   mark-in-place place old distinct there is_old =
       let keys = map_asks (λ p. of_kind public (declared_by p.row)) placed in
       one_more_none (λ p. public_mark_by (placed ++ given ∷ []) p p.1.row) placed given refl
@@ -163,11 +163,8 @@ marks_same placed q silent none =
     ∙ same_each (λ p. public_mark_by placed p p.1.row) (λ p. public_mark_by (placed ++ q ∷ []) p p.1.row) (λ p. same_by p p.1.row) placed
   where
     same_by : (p : OffsetRecord) (row : Record) → public_mark_by (placed ++ q ∷ []) p row ≡ public_mark_by placed p row
-    same_by p (r.PublicName j name) = (λ k. Some (record {
-      start = p.0;
-      valued =
-          slice_get (one_more_none (λ x. value_start_for j x x.1.row) placed q (silent j) k) 0;
-    }))
+    same_by p (r.PublicName j name) =
+        (λ k. Some (mark_of p.0 (slice_get (one_more_none (λ x. value_start_for j x x.1.row) placed q (silent j) k) 0)))
     same_by p row = refl
 
 -- a record that speaks of no public leaves the marks as they are

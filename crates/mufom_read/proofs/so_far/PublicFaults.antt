@@ -24,7 +24,7 @@ use Rattle.mufom_read.specs.Prefixes.{OffsetRecord}
 use Rattle.mufom_read.specs.Faults.{Fault, fault_if, first_fault, external_fault}
 use Rattle.mufom_read.specs.Kept.{tables_of, statements, has, is_unknown, external_fault_in}
 use Rattle.mufom_read.specs.NamesSoFar.{unplaced_value, unplaced_by, unplaced_publics, value_start_for, public_mark_by, public_marks, value_fault}
-use Rattle.mufom_read.specs.NamesSoFar.{public_faults, earlier, least_from, AreRising, records_in}
+use Rattle.mufom_read.specs.NamesSoFar.{mark_of, public_faults, earlier, least_from, AreRising, records_in}
 use Rattle.mufom_read.proofs.TableLaws.{value-has}
 use Rattle.mufom_read.proofs.WholeLaws.{external_fault-tables}
 use Rattle.mufom_read.proofs.ended.Trees.{named_known}
@@ -47,14 +47,14 @@ values i placed = filter_map (λ p. value_for i p p.row) (records_in placed)
 module _ (t : Tables) (all : List OffsetRecord) where
   -- the fault of the public that a record declares
   abbrev entry_fault : OffsetRecord → Record → Option (Option Fault)
-  entry_fault p (r.PublicName i name) = Some (value_fault t p.0 (unplaced_value i (records_in all)) (slice_get (starts i all) 0))
+  entry_fault p (r.PublicName i name) = Some (value_fault t (unplaced_value i (records_in all)) (mark_of p.0 (slice_get (starts i all) 0)))
   entry_fault p _ = None
 
   listed_row : (p : OffsetRecord) (row : Record) (marks : List PublicMark) (publics : List Public) (faults : List (Option Fault))
       → public_faults t marks publics ≡ faults
       → public_faults t (cons_option (public_mark_by all p row) marks) (cons_option (unplaced_by (records_in all) p.1 row) publics)
       ≡ cons_option (entry_fault p row) faults
-  listed_row p (r.PublicName i name) marks publics faults h = ap (λ l. value_fault t p.0 (unplaced_value i (records_in all)) (slice_get (starts i all) 0) ∷ l) h
+  listed_row p (r.PublicName i name) marks publics faults h = ap (λ l. value_fault t (unplaced_value i (records_in all)) (mark_of p.0 (slice_get (starts i all) 0)) ∷ l) h
   listed_row p row marks publics faults h = h
 
   listed : (placed : List OffsetRecord) → public_faults t (filter_map (λ p. public_mark_by all p p.1.row) placed)
@@ -116,7 +116,7 @@ module _ (all : List OffsetRecord) where
       (start, record { row = row; bytes = bytes }) in
       IsAmong f (cons_option (entry_fault ts all p row) more) → (fault p ≡ Some f) ⊎ (HasFault fault f all ⊎ IsAmong f more)
   sound_row f start (r.PublicName i name) bytes more (inl e) = by_valued (slice_get (starts i all) 0) refl e where
-    by_valued : (o : Option ℕ) → slice_get (starts i all) 0 ≡ o → value_fault ts start (unplaced_value i (records_in all)) o ≡ Some f
+    by_valued : (o : Option ℕ) → slice_get (starts i all) 0 ≡ o → value_fault ts (unplaced_value i (records_in all)) (mark_of start o) ≡ Some f
         → (fault (start, record { row = r.PublicName i name; bytes = bytes }) ≡ Some f) ⊎ (HasFault fault f all ⊎ IsAmong f more)
     by_valued None none h = inl (ap (λ b. fault_if (not b) start why.MissingValue) (has_start i ∙ ap is_some none) ∙ h)
     by_valued (Some valued) some h = inr (inl (giver i valued f all some h))
@@ -152,11 +152,11 @@ module _ (all : List OffsetRecord) where
       → IsAmong f (cons_option (entry_fault ts all p row) more)
   declared_row f i valued p (r.PublicName j name) indexes more here e there rest = by_test (j == i) refl there where
     by_test : (test : Bool) → (j == i) ≡ test → (test || list_any (λ n. n == i) indexes) ≡ true
-        → IsAmong f (value_fault ts p.0 (unplaced_value j (records_in all)) (slice_get (starts j all) 0) ∷ more)
+        → IsAmong f (value_fault ts (unplaced_value j (records_in all)) (mark_of p.0 (slice_get (starts j all) 0)) ∷ more)
     by_test true is h =
         let same : j ≡ i = same_index j i is in
-        inl (ap (λ n. value_fault ts p.0 (unplaced_value n (records_in all)) (slice_get (starts n all) 0)) same
-        ∙ ap (value_fault ts p.0 (unplaced_value i (records_in all))) here ∙ e)
+        inl (ap (λ n. value_fault ts (unplaced_value n (records_in all)) (mark_of p.0 (slice_get (starts n all) 0))) same
+        ∙ ap (λ o. value_fault ts (unplaced_value i (records_in all)) (mark_of p.0 o)) here ∙ e)
     by_test false is h = inr (rest h)
   declared_row f i valued p (r.SectionType a b c d x y z) indexes more here e there rest = rest there
   declared_row f i valued p (r.ReferenceName j name) indexes more here e there rest = rest there
@@ -200,8 +200,8 @@ module _ (all : List OffsetRecord) where
       let p : OffsetRecord = (start, record { row = r.PublicName i name; bytes = bytes }) in
       let lacks : has ts.values i ≡ false = not_true (has ts.values i) (no_test (not (has ts.values i)) start why.MissingValue f e) in
       let none : slice_get (starts i all) 0 ≡ None = no_some (slice_get (starts i all) 0) (sym (has_start i) ∙ lacks) in
-      let same : value_fault ts start (unplaced_value i (records_in all)) (slice_get (starts i all) 0) ≡ Some f =
-      ap (value_fault ts start (unplaced_value i (records_in all))) none ∙ sym (ap (λ b. fault_if (not b) start why.MissingValue) lacks) ∙ e in
+      let same : value_fault ts (unplaced_value i (records_in all)) (mark_of start (slice_get (starts i all) 0)) ≡ Some f =
+      ap (λ o. value_fault ts (unplaced_value i (records_in all)) (mark_of start o)) none ∙ sym (ap (λ b. fault_if (not b) start why.MissingValue) lacks) ∙ e in
       subst (λ (l : List OffsetRecord). IsAmong f (filter_map (λ q. entry_fault ts all q q.1.row) l)) whole
       (among_there f before p after (ap (λ o. Some o) same))
     where
@@ -272,7 +272,7 @@ module _ (all : List OffsetRecord) where
 -- the least with one more public is the least of all from that one on
 pub faults-step : (t : Tables) (marks : List PublicMark) (publics : List Public) (i : ℕ) (m : PublicMark) (p : Public) (a : Option Fault)
     → i < length marks → i < length publics → m ≡ get_or marks i m → p ≡ get_or publics i p
-    → least_from (earlier a (value_fault t m.start p.value m.valued)) (public_faults t (drop (i + 1) marks) (drop (i + 1) publics))
+    → least_from (earlier a (value_fault t p.value m)) (public_faults t (drop (i + 1) marks) (drop (i + 1) publics))
     ≡ least_from a (public_faults t (drop i marks) (drop i publics))
 faults-step t marks publics i m p a in_marks in_publics is_mark is_public = sym ((λ k. least_from a (public_faults t (from_mark k) (from_public k)))) where
   next : suc i ≡ i + 1

@@ -16,6 +16,7 @@ use Rattle.mufom_module.specs.SpelledRecords.{SpelledRecord, text_in, tree_in, t
 use Rattle.mufom_module.specs.Grammar.{declares_again, states_again}
 use Rattle.mufom_module.specs.Gathered.{note_of, value_for, public_note_for, weak_for, reference_note_for, references_of}
 use Rattle.mufom_read.specs.declared.publics.PublicMark.{PublicMark}
+use Rattle.mufom_read.specs.declared.publics.PublicMark.TheVariants.{Declared, Valued}
 use Rattle.mufom_read.specs.declared.publics.Publics.{Publics}
 use Rattle.mufom_read.specs.Prefixes.{OffsetRecord}
 use Rattle.mufom_read.specs.Kept.{as_record}
@@ -94,7 +95,7 @@ module _ (n new : Publics) (table : List ℕ) (all : List OffsetRecord) (start :
 
   pub name-taken : (i : ℕ) (name : Span) (text : List ℕ) → p.row ≡ r.PublicName i name → text ≡ text_in p name
       → new.list.items ≡ n.list.items ++ record { name = text; value = number 0; notes = [] } ∷ [] → new.marks.items ≡ n.marks.items
-      ++ record { start = start; valued = None } ∷ [] → ArePublicsOf new (all ++ (start, p) ∷ [])
+      ++ Declared start ∷ [] → ArePublicsOf new (all ++ (start, p) ∷ [])
   name-taken i name text is same list marks =
       let undeclared : is_declared ps (public, i) ≡ false = ap (declares_again ps) (sym is) ∙ before.next.new in
       let unvalued = nothing-stated public i (λ q. value_for i q q.row) (λ q no_. value_silent i q q.row no_) [] ps before.follow undeclared in
@@ -102,13 +103,12 @@ module _ (n new : Publics) (table : List ℕ) (all : List OffsetRecord) (start :
       grown (r.PublicName i name) is
       (list ∙ (λ k. before.publics.list k ++ record { name = same k; value = number 0; notes = [] } ∷ [])
       ∙ sym (public_steps.public-added ps i name p.bytes unvalued unnoted))
-      (marks ∙ (λ k. before.publics.marks k ++ record { start = start; valued = None } ∷ []) ∙ sym (mark-added all start i name p.bytes unvalued))
+      (marks ∙ (λ k. before.publics.marks k ++ Declared start ∷ []) ∙ sym (mark-added all start i name p.bytes unvalued))
 
   pub value-taken : (i : ℕ) (span : Span) (value : Tree) (position : ℕ) → p.row ≡ r.PublicValue i span → tree_of_record p ≡ Some value
       → slice_get table position ≡ Some i → IsDistinct nat_eq table → position < length table
       → ((public : Public) → slice_get n.list.items position ≡ Some public → new.list.items ≡ slice_set n.list.items position (record public { value = value }))
-      → ((old : PublicMark) → slice_get n.marks.items position ≡ Some old → new.marks.items
-      ≡ slice_set n.marks.items position (record old { valued = Some start })) → ArePublicsOf new (all ++ (start, p) ∷ [])
+      → new.marks.items ≡ slice_set n.marks.items position (Valued start) → ArePublicsOf new (all ++ (start, p) ∷ [])
   value-taken i span value position is tree there distinct within list marks =
       let unvalued = value-unstated i ps (ap (states_again ps) (sym is) ∙ before.next.once) in
       let its : value ≡ tree_in p span = ap (λ (o : Option Tree). unwrap_or o value) (sym tree
@@ -121,7 +121,7 @@ module _ (n new : Publics) (table : List ℕ) (all : List OffsetRecord) (start :
       (list public_.0 public_.1 ∙ (λ k. slice_set (before.publics.list k) position (record public_.0 { value = its k }))
       ∙ sym (public_steps.value-in-place ps i span p.bytes unvalued position public_.0 apart at
       (sym (ap (λ l. slice_get l position) before.publics.list) ∙ public_.1)))
-      (marks mark_.0 mark_.1 ∙ (λ k. slice_set (before.publics.marks k) position (record mark_.0 { valued = Some start }))
+      (marks ∙ (λ k. slice_set (before.publics.marks k) position (Valued start))
       ∙ sym (mark-in-place all start i span p.bytes unvalued position mark_.0 apart at (sym (ap (λ l. slice_get l position) before.publics.marks) ∙ mark_.1)))
 
   pub note-taken : (i a b : ℕ) (ns : ArrayVec ℕ) (note : Note) (position : ℕ) → p.row ≡ r.PublicNote i a b ns → note ≡ note_of a b ns

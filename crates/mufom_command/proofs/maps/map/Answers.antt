@@ -2,7 +2,7 @@ use Rattle.std.proofs.Common.{ap}
 use Rattle.mufom_map.specs.Mapped.{Mapped}
 use Rattle.mufom_map.specs.MapText.{map_text}
 use Rattle.mufom_groups.specs.Work.{gives}
-use Rattle.mufom_command.specs.Commands.{locating, mapping, printed, printed_map}
+use Rattle.mufom_command.specs.Commands.{locating_kept, mapping, printed, printed_map}
 use Rattle.mufom_command.specs.InputsRead.{inputs_in}
 use Rattle.mufom_command.specs.MapInputs.{shown_of}
 use Rattle.mufom_command.specs.WorkEnds.{location_of}
@@ -17,7 +17,7 @@ returns-in-Err g c =
     let read = c.in-Err.ensures in let command = c.args.command.now in
     stopped-does command (λ files. mapping files command) (g.H.World.meaning c.args.host.now) (g.H.World.meaning c.read_inputs.new.host)
     (g.H.World.faults c.args.host.now) (g.H.World.faults c.read_inputs.new.host) read.only
-    c.requires.of_files (λ fs. inputs_in fs command) (linking_of-begins (λ ms c plan flat. locating (printed_map ms plan) c plan flat) command)
+    c.requires.of_files (λ fs. inputs_in fs command) (linking_of-begins (λ ms c plan flat. locating_kept (printed_map ms plan) c plan flat) command)
     c.in-Err.stop read.stops read.opened
 
 pub returns-in-Ok-map_inputs : goal.returns-in-Ok-map_inputs
@@ -29,8 +29,8 @@ returns-in-Ok-map_inputs g c =
     g.H.World.faults c.print_mapped.new.host in
     printed-does command (λ files. mapping files command) old mid before between read.only read.all new now put.only.1 put.only.2 text
     (over-map c.requires.of_files (λ fs. inputs_in fs command (gives (inputs.plan, inputs.modules))) (λ fs. mapping fs command (gives (printed text))) old.files
-    (λ fs is. locating_of-gives printed_map command inputs.plan inputs.modules fs is m.located (printed text) are.location
-    (are.flat, are.files, ap (λ (shown : Mapped). printed (map_text shown)) are.shows)) read.read)
+    (λ fs is. locating_of-gives printed_map command inputs.plan inputs.modules fs is are.list are.links are.kept are.keeps m.located (printed text)
+    are.location (are.flat, are.files, ap (λ (shown : Mapped). printed (map_text shown)) are.shows)) read.read)
     c.requires.no_file put.only.0 c.print_mapped.result put.answer
 
 pub returns-in-Err-map_inputs : goal.returns-in-Err-map_inputs

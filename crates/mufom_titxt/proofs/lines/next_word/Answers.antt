@@ -9,11 +9,11 @@ use Rattle.mufom_titxt.proofs.lines.next_word.Goals as goal
 pub returns : goal.returns
 returns c =
     let rest : List ℕ = c.without_spaces-rest.result.now in
-    let n : ℕ = c.count_before.result in
-    let same : n ≡ position_or_len (λ b. b == 32) rest = c.count_before.ensures.count in
+    let n : ℕ = c.word_length.result in
+    let same : n ≡ position_or_len (λ b. b == 32) rest = c.word_length.ensures.count in
     let more : 0 < length rest = not_zero (length rest) (sym c.is_empty.ensures ∙ c.if-is_empty.false) in
     let some : 0 < position_or_len (λ b. b == 32) rest = word_begins rest more c.without_spaces-rest.ensures.first in
-    let within : position_or_len (λ b. b == 32) rest ≤ length rest = omega (arith, same, c.count_before.ensures.within) in
+    let within : position_or_len (λ b. b == 32) rest ≤ length rest = omega (arith, same, c.word_length.ensures.within) in
     let left = length-drop n rest in
     let back = ap length c.split_at.ensures.back in (
       sym c.without_spaces-rest.ensures.words
