@@ -1,5 +1,5 @@
 -- The lines of entries that are read one by one.
-use Rattle.std.proofs.Common.{◌≡◌, ℕ, ◌+◌, List, [], ◌∷◌, ◌++◌, length, map, flat_map, codes, Option, Some, None, MatchOption}
+use Rattle.std.proofs.Common.{◌≡◌, ℕ, List, [], ◌∷◌, ◌++◌, length, map, flat_map, codes, Option, Some, None, MatchOption}
 use Rattle.std.proofs.Common.{Result, Ok, Err, IfOk, ◌≢◌, ◌≤◌, ◌^◌, refl, sym, ap, subst, ◌∙◌, zero-add, append_assoc}
 use Rattle.std.specs.Str.Parse.{digits_value}
 use Rattle.std.proofs.lemmas.List.{map-append}

@@ -1,33 +1,31 @@
 -- No two lines of a listing that state something else have the same bytes.
 use Rattle.std.proofs.Common.{◌≡◌, ℕ, ◌==◌, Bool, true, false, List, [], ◌∷◌, ◌++◌, length, codes, Option, Some, None}
-use Rattle.std.proofs.Common.{refl, sym, ap, subst, ◌∙◌, inl, inr, ◌⊎◌, append_assoc, arith}
+use Rattle.std.proofs.Common.{refl, ap, subst, ◌∙◌, append_assoc, arith}
 use Rattle.mufom_expr.specs.declared.token.FieldKind.{FieldKind}
 use Rattle.mufom_expr.specs.declared.token.FieldKind.TheVariants as kinds
 use Rattle.mufom_expr.specs.Tree.{Tree, tokens_of}
 use Rattle.mufom_sections.specs.declared.section.Section.{Section}
 use Rattle.mufom_sections.specs.declared.section.Purpose.{Purpose}
 use Rattle.mufom_sections.specs.declared.section.Purpose.TheVariants as purposes
-use Rattle.mufom_names.specs.declared.name.Note.{Note}
 use Rattle.mufom_names.specs.declared.name.Weak.{Weak}
 use Rattle.mufom_debug.specs.declared.item.BlockHead.{BlockHead}
 use Rattle.mufom_debug.specs.declared.item.BlockHead.TheVariants as blocks
 use Rattle.mufom_debug.specs.Marks.{kind_number}
 use Rattle.mufom_module.specs.declared.module.Order.{Order}
 use Rattle.mufom_module.specs.declared.module.Order.TheVariants as orders
-use Rattle.mufom_text.specs.Words.{Text}
 use Rattle.mufom_text.specs.Show.{order_letter, type_letters, purpose_letter, kind_text}
-use Rattle.mufom_build_text.specs.Pieces.{Piece, byte, gap, figure, position, count, name, digits, expression, words, infix_pieces, value_pieces}
+use Rattle.mufom_build_text.specs.Pieces.{Piece, gap, figure, name, digits, expression, words, infix_pieces, value_pieces}
 use Rattle.mufom_build_text.specs.Pieces.{MOST_BYTE, MOST_POSITION, MOST_NUMBER}
-use Rattle.mufom_build.specs.Lines.{base_pieces, spaced_pieces, note_pieces, weak_pieces, scope_pieces, part_pieces, head_pieces}
+use Rattle.mufom_build.specs.Lines.{base_pieces, weak_pieces, scope_pieces, part_pieces, head_pieces}
 use Rattle.mufom_build.specs.Marked.{end_value_pieces, spaced_digits}
-use Rattle.mufom_build.proofs.OnePiece.{Both, no, no_space, no_figure, byte_both, expression_both}
+use Rattle.mufom_build.proofs.OnePiece.{Both, no_space, no_figure}
 use Rattle.mufom_build.proofs.OneWord.{words_both, words_differ, number_is_no_word, nothing_is_no_word, turned}
 use Rattle.mufom_build.proofs.OneWord.{past_gap, past_figure, past_position, past_count, past_name}
-use Rattle.mufom_build.proofs.OneTree.{changed, tree_both, infix_no_space}
+use Rattle.mufom_build.proofs.OneTree.{changed, infix_no_space}
 use Rattle.mufom_build.proofs.OneRow.{Keyword, on_module, on_extension, on_environment, on_section, on_public, on_note, on_reference, on_block}
 use Rattle.mufom_build.proofs.OneRow.{on_end}
-use Rattle.mufom_build.proofs.OneRow.{on_name, on_value, on_select, on_counter, on_bytes, on_field, on_repeat, on_start, word_of, word_tight}
-use Rattle.mufom_build.proofs.OneRow.{one_keyword, Payload, named_note, rest_pieces, IsTail, tail_no_figure, tail_is_no_more, nothing_is_no_figure}
+use Rattle.mufom_build.proofs.OneRow.{on_name, on_value, on_select, on_counter, on_bytes, on_field, on_repeat, on_start}
+use Rattle.mufom_build.proofs.OneRow.{Payload, named_note, rest_pieces, IsTail, tail_no_figure, tail_is_no_more}
 use Rattle.mufom_build.proofs.OneRow.{nothing_is_no_digits, tail_digits, valued, assigned, numbered, noted}
 
 -- ---- words of which one has to be chosen

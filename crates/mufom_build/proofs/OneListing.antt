@@ -1,8 +1,7 @@
 -- A text is the listing of one module's parts at most.
-use Rattle.std.proofs.Common.{◌≡◌, ℕ, ◌+◌, ◌≤◌, ◌==◌, nat_le, Bool, true, false, List, [], ◌∷◌, ◌++◌, length, map, flat_map, codes, Option, Some}
+use Rattle.std.proofs.Common.{◌≡◌, ℕ, ◌+◌, List, [], ◌∷◌, ◌++◌, length, map, flat_map, codes, Option, Some}
 use Rattle.std.proofs.Common.{None}
-use Rattle.std.proofs.Common.{refl, sym, ap, subst, ◌∙◌, inl, inr, ◌⊎◌, append_assoc, arith}
-use Rattle.mufom_expr.specs.declared.token.FieldKind.{FieldKind}
+use Rattle.std.proofs.Common.{refl, sym, ap, subst, ◌∙◌, inl, inr, ◌⊎◌, append_assoc}
 use Rattle.mufom_expr.specs.declared.token.FieldKind.TheVariants as kinds
 use Rattle.mufom_expr.specs.Tree.{Tree}
 use Rattle.mufom_sections.specs.declared.section.Section.{Section}
@@ -14,7 +13,6 @@ use Rattle.mufom_loads.specs.declared.load.Item.TheVariants.{Literal, Field}
 use Rattle.mufom_loads.specs.declared.load.Load.{Load}
 use Rattle.mufom_loads.specs.declared.load.Load.TheVariants.{SetSection, SetPc, One, Repeat}
 use Rattle.mufom_debug.specs.Marks.{DebugMark, block_begin, block_end, name_mark, note_mark, value_mark, marks_of, open_after, names_after}
-use Rattle.mufom_debug.proofs.Rebuilt.{same_items}
 use Rattle.mufom_module.specs.declared.module.Parts.{Parts}
 use Rattle.mufom_text.specs.Words.{Text}
 use Rattle.mufom_text.specs.Show.{type_letters, purpose_letter}
@@ -23,12 +21,10 @@ use Rattle.mufom_build_text.specs.Places.{SpellsLines}
 use Rattle.mufom_build.specs.Lines.{Line, module_pieces, raw_lines, base_pieces, section_pieces, section_lines, note_line, public_lines}
 use Rattle.mufom_build.specs.Lines.{reference_lines}
 use Rattle.mufom_build.specs.Lines.{mark_pieces, mark_lines, item_pieces, load_lines, start_lines, each_lines, listing_lines}
-use Rattle.mufom_build.proofs.OnePiece.{no}
-use Rattle.mufom_build.proofs.OneRow.{Keyword, on_module, on_extension, on_environment, on_section, on_public, on_note, on_reference, on_block}
+use Rattle.mufom_build.proofs.OneRow.{on_module, on_extension, on_environment, on_section, on_public, on_note, on_reference, on_block}
 use Rattle.mufom_build.proofs.OneRow.{on_end}
-use Rattle.mufom_build.proofs.OneRow.{on_name, on_value, on_select, on_counter, on_bytes, on_field, on_repeat, on_start, word_of, rest_pieces}
-use Rattle.mufom_build.proofs.OneLine.{unlike}
-use Rattle.mufom_build.proofs.OneText.{Row, line_of, SpellsRow, SpellsRows, one_rows}
+use Rattle.mufom_build.proofs.OneRow.{on_name, on_value, on_select, on_counter, on_bytes, on_field, on_repeat, on_start}
+use Rattle.mufom_build.proofs.OneText.{Row, line_of, SpellsRow, SpellsRows}
 
 -- ---- the lines of a module, by what they state
 

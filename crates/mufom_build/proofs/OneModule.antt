@@ -1,6 +1,6 @@
 -- What lines state determines the parts of a module.
-use Rattle.std.proofs.Common.{◌≡◌, ℕ, ◌≤◌, ◌==◌, nat_le, Bool, true, false, List, [], ◌∷◌, ◌++◌, map, flat_map, Option, Some, None}
-use Rattle.std.proofs.Common.{refl, sym, ap, subst, ◌∙◌, append_assoc, arith}
+use Rattle.std.proofs.Common.{◌≡◌, ℕ, ◌≤◌, nat_le, Bool, true, false, List, [], ◌∷◌, ◌++◌, map, flat_map, Option, Some, None}
+use Rattle.std.proofs.Common.{refl, sym, ap, ◌∙◌, append_assoc, arith}
 use Rattle.mufom_expr.specs.Tree.{Tree}
 use Rattle.mufom_sections.specs.declared.section.Section.{Section}
 use Rattle.mufom_names.specs.declared.name.Note.{Note}
@@ -20,7 +20,7 @@ use Rattle.mufom_build_text.specs.Pieces.{loose}
 use Rattle.mufom_build_text.specs.Places.{SpellsLines}
 use Rattle.mufom_build.specs.Lines.{listing_lines}
 use Rattle.mufom_build.proofs.OnePiece.{no}
-use Rattle.mufom_build.proofs.OneRow.{Keyword, on_module, on_extension, on_environment, on_section, on_public, on_note, on_reference, on_block}
+use Rattle.mufom_build.proofs.OneRow.{on_module, on_extension, on_environment, on_section, on_public, on_note, on_reference, on_block}
 use Rattle.mufom_build.proofs.OneRow.{on_end}
 use Rattle.mufom_build.proofs.OneRow.{on_name, on_value, on_select, on_counter, on_bytes, on_field, on_repeat, on_start}
 use Rattle.mufom_build.proofs.OneLine.{unlike}

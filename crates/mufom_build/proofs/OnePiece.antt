@@ -1,13 +1,13 @@
 -- What bytes spell, where two lists of pieces are spelled by the same bytes and begin with pieces of one kind.
-use Rattle.std.proofs.Common.{◌≡◌, ℕ, ◌<◌, ◌/◌, ◌%◌, ◌==◌, ◌&&◌, not, nat_lt, Bool, true, false, List, [], ◌∷◌, ◌++◌, length, Option, Some}
-use Rattle.std.proofs.Common.{refl, sym, ap, subst, ◌∙◌, inl, inr, ◌⊎◌, eqb-true, arith, append_assoc, append-nil, if◌then◌else◌}
+use Rattle.std.proofs.Common.{◌≡◌, ℕ, ◌<◌, ◌/◌, ◌%◌, ◌==◌, ◌&&◌, not, nat_lt, Bool, true, false, List, [], ◌∷◌, ◌++◌, length, Some}
+use Rattle.std.proofs.Common.{refl, sym, ap, subst, ◌∙◌, inl, inr, arith, append_assoc}
 use Rattle.std.specs.List.{AllByRecursion}
 use Rattle.std.specs.Str.Parse.{AllDigits, IsNumeral, digits_value}
 use Rattle.std.specs.Char.{digit_value}
 use Rattle.hex.specs.Hex.{hex_digit_value}
 use Rattle.mufom_text.specs.Words.{Text, stands_for_itself}
-use Rattle.mufom_build_text.specs.Pieces.{Piece, byte, gap, figure, position, count, name, digits, expression, block, loose, Spells, words}
-use Rattle.mufom_build_text.specs.Pieces.{word_piece, AreDigitsOf, SpellsDigits, SpellsNameByte, SpellsNameBytes}
+use Rattle.mufom_build_text.specs.Pieces.{Piece, byte, gap, figure, position, count, name, digits, expression, block, loose, Spells}
+use Rattle.mufom_build_text.specs.Pieces.{AreDigitsOf, SpellsDigits, SpellsNameByte, SpellsNameBytes}
 
 -- the same bytes spell each of the two
 pub record Both (xs ys : List Piece) : Type 0 where

@@ -1,30 +1,25 @@
 -- A line of a listing by its first word and what else it states, and that no two lines that state something else have the same bytes.
-use Rattle.std.proofs.Common.{◌≡◌, ℕ, zero, suc, ◌==◌, ◌&&◌, ◌||◌, not, Bool, true, false, List, [], ◌∷◌, ◌++◌, get_or, length, codes, Option, Some}
+use Rattle.std.proofs.Common.{◌≡◌, ℕ, zero, suc, ◌==◌, ◌&&◌, ◌||◌, Bool, true, false, List, [], ◌∷◌, ◌++◌, get_or, length, codes, Option, Some}
 use Rattle.std.proofs.Common.{None}
 use Rattle.std.proofs.Common.{refl, sym, ap, subst, ◌∙◌, inl, inr, ◌⊎◌, eqb-true, ◌<◌, arith}
 use Rattle.mufom_expr.specs.declared.token.FieldKind.{FieldKind}
-use Rattle.mufom_expr.specs.declared.token.FieldKind.TheVariants as kinds
 use Rattle.mufom_expr.specs.Tree.{Tree, tokens_of}
 use Rattle.mufom_sections.specs.declared.section.Section.{Section}
-use Rattle.mufom_sections.specs.declared.section.Purpose.{Purpose}
-use Rattle.mufom_sections.specs.declared.section.Purpose.TheVariants as purposes
 use Rattle.mufom_names.specs.declared.name.Note.{Note}
 use Rattle.mufom_names.specs.declared.name.Weak.{Weak}
 use Rattle.mufom_debug.specs.declared.item.BlockHead.{BlockHead}
-use Rattle.mufom_debug.specs.declared.item.BlockHead.TheVariants as blocks
 use Rattle.mufom_debug.specs.Marks.{kind_number}
 use Rattle.mufom_module.specs.declared.module.Order.{Order}
-use Rattle.mufom_module.specs.declared.module.Order.TheVariants as orders
 use Rattle.mufom_text.specs.Words.{Text}
 use Rattle.mufom_text.specs.Show.{order_letter, type_letters, purpose_letter, kind_text}
-use Rattle.mufom_build_text.specs.Pieces.{Piece, byte, gap, figure, position, count, name, digits, expression, words, word_piece, infix_pieces}
+use Rattle.mufom_build_text.specs.Pieces.{Piece, gap, figure, position, count, name, digits, expression, words, infix_pieces}
 use Rattle.mufom_build_text.specs.Pieces.{value_pieces}
-use Rattle.mufom_build_text.specs.Pieces.{MOST_BYTE, MOST_POSITION, MOST_NUMBER, loose, Spells}
-use Rattle.mufom_build.specs.Lines.{base_pieces, spaced_pieces, note_pieces, weak_pieces, scope_pieces, part_pieces, head_pieces}
+use Rattle.mufom_build_text.specs.Pieces.{MOST_BYTE, MOST_POSITION, MOST_NUMBER}
+use Rattle.mufom_build.specs.Lines.{base_pieces, spaced_pieces, note_pieces, weak_pieces, head_pieces}
 use Rattle.mufom_build.specs.Marked.{end_value_pieces, spaced_digits}
-use Rattle.mufom_build.proofs.OnePiece.{Both, both_true, no, no_space, no_figure, byte_both, expression_both, no_hex, digits_both}
-use Rattle.mufom_build.proofs.OneWord.{tight, clash, words_both, words_differ, number_is_no_word, nothing_is_no_word, turned}
-use Rattle.mufom_build.proofs.OneWord.{past_gap, past_figure, past_position, past_count, past_name}
+use Rattle.mufom_build.proofs.OnePiece.{Both, both_true, no_space, no_figure, expression_both, no_hex, digits_both}
+use Rattle.mufom_build.proofs.OneWord.{tight, clash, words_both, words_differ, nothing_is_no_word, turned}
+use Rattle.mufom_build.proofs.OneWord.{past_gap, past_figure}
 use Rattle.mufom_build.proofs.OneTree.{tree_both, infix_no_space}
 
 -- ---- the first word of a line

@@ -1,29 +1,24 @@
 -- The lines of a text by what they state: no two lists of lines that state something else have the same bytes.
-use Rattle.std.proofs.Common.{◌≡◌, ℕ, ◌<◌, ◌==◌, ◌&&◌, not, Bool, true, false, List, [], ◌∷◌, ◌++◌, length, codes, Option, Some, None}
+use Rattle.std.proofs.Common.{◌≡◌, ℕ, ◌<◌, ◌==◌, ◌&&◌, not, Bool, true, false, List, [], ◌∷◌, ◌++◌, codes, Option, Some, None}
 use Rattle.std.proofs.Common.{refl, sym, ap, subst, ◌∙◌, inl, inr, ◌⊎◌, append_assoc, append-nil, arith}
 use Rattle.std.specs.List.{AllByRecursion}
 use Rattle.std.specs.Char.{digit_value}
 use Rattle.hex.specs.Hex.{hex_digit_value}
-use Rattle.mufom_expr.specs.declared.token.FieldKind.{FieldKind}
 use Rattle.mufom_expr.specs.declared.token.FieldKind.TheVariants as kinds
 use Rattle.mufom_expr.specs.Tree.{Tree, number, variable, one, two, function_of_one, function_of_two}
 use Rattle.mufom_expr.specs.InfixText.{letter_text, opening_text, middle_text}
 use Rattle.mufom_sections.specs.declared.section.Purpose.{Purpose}
 use Rattle.mufom_sections.specs.declared.section.Purpose.TheVariants as purposes
-use Rattle.mufom_names.specs.declared.name.Weak.{Weak}
 use Rattle.mufom_debug.specs.declared.item.BlockHead.{BlockHead}
 use Rattle.mufom_debug.specs.declared.item.BlockHead.TheVariants as blocks
-use Rattle.mufom_module.specs.declared.module.Order.{Order}
 use Rattle.mufom_module.specs.declared.module.Order.TheVariants as orders
 use Rattle.mufom_text.specs.Words.{Text, stands_for_itself}
-use Rattle.mufom_text.specs.Show.{order_letter, type_letters, purpose_letter, kind_text}
+use Rattle.mufom_text.specs.Show.{type_letters, purpose_letter}
 use Rattle.mufom_build_text.specs.Pieces.{Piece, byte, gap, figure, position, count, name, digits, expression, block, loose, Spells, words}
-use Rattle.mufom_build_text.specs.Pieces.{word_piece}
-use Rattle.mufom_build_text.specs.Pieces.{AreSpaces, AreDigitsOf, SpellsDigits, SpellsNameByte, SpellsNameBytes, infix_pieces, value_pieces}
-use Rattle.mufom_build_text.specs.Places.{AreBlank, SpellsLines}
+use Rattle.mufom_build_text.specs.Pieces.{AreSpaces, SpellsDigits, SpellsNameByte, SpellsNameBytes, infix_pieces}
+use Rattle.mufom_build_text.specs.Places.{AreBlank}
 use Rattle.mufom_build_text.proofs.Spelling.{spells-append}
-use Rattle.mufom_build.specs.Lines.{Line, base_pieces, spaced_pieces, weak_pieces, head_pieces}
-use Rattle.mufom_build.specs.Marked.{end_value_pieces, spaced_digits}
+use Rattle.mufom_build.specs.Lines.{Line, base_pieces, spaced_pieces, head_pieces}
 use Rattle.mufom_build.proofs.OnePiece.{Both, Avoids, no, both_true, one_run, all_figures, IsFigure}
 use Rattle.mufom_build.proofs.OneWord.{word_first, words_both}
 use Rattle.mufom_build.proofs.OneTree.{changed, Head, of_letter, of_one, of_two, text_of, middle_of, each_head}

@@ -1,10 +1,9 @@
 -- What follows the same words, and words that the same bytes do not spell.
 use Rattle.std.proofs.Common.{◌≡◌, ℕ, ◌<◌, ◌==◌, ◌&&◌, not, nat_lt, Bool, true, false, List, [], ◌∷◌, ◌++◌, length}
 use Rattle.std.proofs.Common.{refl, sym, ap, subst, ◌∙◌, eqb-true, arith, if◌then◌else◌}
-use Rattle.std.specs.Str.Parse.{IsNumeral}
 use Rattle.std.specs.Char.{digit_value}
 use Rattle.mufom_text.specs.Words.{Text}
-use Rattle.mufom_build_text.specs.Pieces.{Piece, byte, gap, figure, position, count, name, digits, loose, Spells, words, word_piece, AreSpaces}
+use Rattle.mufom_build_text.specs.Pieces.{Piece, byte, gap, figure, position, count, name, loose, Spells, words, word_piece, AreSpaces}
 use Rattle.mufom_build.proofs.OnePiece.{Both, both_true, no, no_space, no_figure, byte_both, gap_both, first_is, numeral_first, below}
 use Rattle.mufom_build.proofs.OnePiece.{figure_both, position_both, count_both, name_both}
 

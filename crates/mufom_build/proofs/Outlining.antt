@@ -1,5 +1,5 @@
 -- Lines of entries that are added one by one, and debug items of which some blocks are open.
-use Rattle.std.proofs.Common.{◌≡◌, ℕ, ◌+◌, ◌<◌, List, [], ◌∷◌, ◌++◌, length, map, flat_map, Option, refl, sym, ap, ◌∙◌}
+use Rattle.std.proofs.Common.{◌≡◌, ℕ, ◌+◌, List, [], ◌∷◌, ◌++◌, length, map, flat_map, Option, refl, sym, ap, ◌∙◌}
 use Rattle.std.proofs.Common.{arith, append_assoc, append-nil, add-zero, length-append, ◌-◌, rules}
 use Rattle.std.proofs.lemmas.List.{map-append}
 use Rattle.mufom_expr.specs.Tree.{Tree}
@@ -7,7 +7,6 @@ use Rattle.mufom_names.specs.declared.name.Note.{Note}
 use Rattle.mufom_debug.specs.declared.item.BlockHead.{BlockHead}
 use Rattle.mufom_debug.specs.declared.item.DebugItem.{DebugItem, Block as block_case, Name as name_case, Note as note_case}
 use Rattle.mufom_debug.specs.declared.item.DebugItem.{Value as value_case, the_lemmas}
-use Rattle.mufom_debug.specs.declared.item.DebugItem.TheOpen.{Block-F}
 use Rattle.mufom_debug.specs.Marks.{DebugMark, block_begin, block_end, name_mark, note_mark, value_mark, joined}
 use Rattle.mufom_debug.specs.Marks.{marks_of_item, marks_of, open_after, names_after, names_after_all}
 use Rattle.mufom_debug.proofs.MarksLemmas.{marks-Block, joined-append}

@@ -1,5 +1,4 @@
 use Rattle.std.proofs.Common.{◌∷◌, ◌++◌, [], refl, ap, ◌∙◌}
-use Rattle.mufom_debug.specs.declared.item.Block.{Block}
 use Rattle.mufom_debug.specs.declared.item.DebugItem.{Block as block_case}
 use Rattle.mufom_build.specs.declared.outline.Outline.{Outline}
 use Rattle.mufom_build.proofs.Outlining.{ended, ended_kept}

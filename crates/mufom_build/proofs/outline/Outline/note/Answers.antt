@@ -1,8 +1,8 @@
 use Rattle.std.proofs.Common.{refl}
-use Rattle.mufom_debug.specs.declared.item.DebugItem.{DebugItem, Note as note_case, Value as value_case}
-use Rattle.mufom_debug.specs.Marks.{note_mark, value_mark}
+use Rattle.mufom_debug.specs.declared.item.DebugItem.{Note as note_case}
+use Rattle.mufom_debug.specs.Marks.{note_mark}
 use Rattle.mufom_build.specs.declared.outline.Outline.{Outline}
-use Rattle.mufom_build.proofs.Outlining.{added, note_marks, value_marks, kept_after}
+use Rattle.mufom_build.proofs.Outlining.{added, note_marks, kept_after}
 use Rattle.mufom_build.proofs.outline.Outline.note.Goals as goal
 
 pub returns-clause-marks : goal.returns-clause-marks

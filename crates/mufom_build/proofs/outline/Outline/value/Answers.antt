@@ -1,8 +1,8 @@
 use Rattle.std.proofs.Common.{refl}
-use Rattle.mufom_debug.specs.declared.item.DebugItem.{DebugItem, Note as note_case, Value as value_case}
-use Rattle.mufom_debug.specs.Marks.{note_mark, value_mark}
+use Rattle.mufom_debug.specs.declared.item.DebugItem.{Value as value_case}
+use Rattle.mufom_debug.specs.Marks.{value_mark}
 use Rattle.mufom_build.specs.declared.outline.Outline.{Outline}
-use Rattle.mufom_build.proofs.Outlining.{added, note_marks, value_marks, kept_after}
+use Rattle.mufom_build.proofs.Outlining.{added, value_marks, kept_after}
 use Rattle.mufom_build.proofs.outline.Outline.value.Goals as goal
 
 pub returns-clause-marks : goal.returns-clause-marks
