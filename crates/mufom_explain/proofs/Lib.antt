@@ -6,4 +6,5 @@ pub mod UndefinedLaws
 pub mod RegionLaws
 pub mod LinkLaws
 pub mod PlacedLaws
+pub mod AlikeLaws
 mod Rows

@@ -5,3 +5,4 @@ pub mod Noting
 pub mod Region
 pub mod Details
 pub mod Explained
+pub mod Laws

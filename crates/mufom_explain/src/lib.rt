@@ -10,6 +10,7 @@
 mod details;
 mod entries;
 mod finding;
+mod laws;
 mod lines;
 mod link;
 mod locate;
@@ -26,6 +27,7 @@ mod undefined;
 mod wanted;
 
 pub use details::{LinkDetails, LocateContext, LocateDetails, NameDetails};
+pub use laws::explanations_are_alike;
 pub use lines::{file_line, plan_line};
 pub use link::explain_link;
 pub use locate::explain_locate;
