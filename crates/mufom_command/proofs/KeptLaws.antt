@@ -25,7 +25,7 @@ use Rattle.mufom_prune.proofs.PrunedValid.{pruned_valid}
 use Rattle.mufom_groups.specs.Linked.{first_name}
 use Rattle.mufom_groups.specs.Work.{Reached, gives, stops}
 use Rattle.mufom_command.specs.Stop.{Stop, keep_unknown}
-use Rattle.mufom_command.specs.Commands.{Kept, kept_of, kept_unless, located, rest_of}
+use Rattle.mufom_command.specs.Commands.{Kept, all_of, kept_of, kept_unless, located, rest_of}
 use Rattle.mufom_command.specs.WorkEnds.{EndsAt, outcome_of_prune, own_kept, own_location, own_rest}
 
 -- ---- the names of what remains
@@ -154,6 +154,13 @@ module _ (name : List ℕ) (rest M : Parts) (pruned : IsPruned rest M name) (kno
 
   pub rest-stops : (plan : Plan) (s : Stop) → located plan (rest ∷ []) (stops s) → own_location (Some name) plan M (stops s)
   rest-stops plan s there = inr (kept_rest, rest-own, subst (λ (m : Parts). located plan (m ∷ []) (stops s)) pruned.is there)
+
+-- without a name it is what the module comes to
+pub whole-gives : (plan : Plan) (M : Parts) (r : LocatedParts) → located plan (M ∷ []) (gives r) → own_location None plan M (gives r)
+whole-gives plan M r there = (all_of (M ∷ []), refl, there)
+
+pub whole-stops : (plan : Plan) (M : Parts) (s : Stop) → located plan (M ∷ []) (stops s) → own_location None plan M (stops s)
+whole-stops plan M s there = inr (all_of (M ∷ []), refl, there)
 
 -- a name that no public has ends it
 pub prune-ends : (name : List ℕ) (M : Parts) (e : PruneRefusal) → IsRefusalOf M name e → EndsAt (own_kept (Some name) M) (outcome_of_prune e)

@@ -21,7 +21,7 @@ use Rattle.mufom_groups.specs.Linked.{linked_module, members, roots}
 use Rattle.mufom_groups.specs.Work.{gives, stops, IsSingle, one_with}
 use Rattle.mufom_groups.proofs.Works.{one_with-single}
 use Rattle.mufom_origins.specs.declared.origins.Origin.{Origin}
-use Rattle.mufom_origins.specs.Origins.{FileModule, numbered, origin_of, origins_left, origins_of}
+use Rattle.mufom_origins.specs.Origins.{numbered, origin_of, origins_left, origins_of}
 use Rattle.mufom_origins.specs.Places.{at_positions, with_chosen}
 use Rattle.mufom_origins.proofs.FlatLaws.{chosen-map}
 use Rattle.mufom_map.specs.Mapped.{mapped_by}
@@ -30,7 +30,7 @@ use Rattle.mufom_prune.specs.declared.pruning.Pruned.{Pruned}
 use Rattle.mufom_prune.specs.Marked.{IsPrunedWithMarks}
 use Rattle.mufom_prune.specs.Pruned.{Remains, remains}
 use Rattle.mufom_command.specs.declared.maps.TracedModule.{TracedModule}
-use Rattle.mufom_command.specs.Commands.{Kept, kept_origins, located, mapped_kept, rest_of}
+use Rattle.mufom_command.specs.Commands.{Kept, all_of, kept_origins, located, mapped_kept, rest_of}
 use Rattle.mufom_command.specs.FlatFiles.{AreFlatFiles, files_with}
 use Rattle.mufom_command.specs.MapInputs.{AreMapped, AreOriginsOf, IsKeptPart}
 use Rattle.mufom_command.specs.Stop.{Stop}
@@ -114,6 +114,10 @@ part-is name whole left origins is known same =
       modules = ap (λ (m : Parts). m ∷ []) (sym is.pruned.is);
       origins = same ∙ (λ i. origins_left (is.sections i) (is.publics i) whole.origins);
     }
+
+-- without a name that is all of it
+pub whole-kept : (whole : TracedModule) → IsKeptPart None whole whole
+whole-kept whole = record { kept = all_of (whole.object ∷ []); keeps = refl; modules = refl; origins = refl }
 
 -- the origins of the members and roots that are linked are those of the flat list
 pub flat-origins : (c : Command) → HasTree c → (ms : List Parts) (chosen : List ℕ) (count : ℕ) (all origins : List Origin)

@@ -30,8 +30,7 @@ use Rattle.mufom_command.specs.Commands.{printed_hit, printed_image, printed_map
 use Rattle.mufom_command.specs.RunLaws.{CameByStages, IsLinking, IsSameWork, LeadsTo, MapsAreAlike, MapsOfStages, PutOutAlike, RunsOfStages}
 use Rattle.mufom_command.specs.RunLaws.{StagesMakeNoDifference, put_out_of}
 use Rattle.mufom_command.proofs.LocatingLaws.{located-back, located-forth}
-use Rattle.mufom_origins.specs.declared.origins.Origin.{Origin}
-use Rattle.mufom_origins.specs.Origins.{FileModule, origins_of}
+use Rattle.mufom_origins.specs.Origins.{origins_of}
 use Rattle.mufom_map.specs.Mapped.{Mapped}
 use Rattle.mufom_map.specs.MapText.{map_text}
 use Rattle.mufom_command.specs.FlatFiles.{AreFlatFiles}

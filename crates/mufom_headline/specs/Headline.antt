@@ -39,8 +39,8 @@ PutsOutLocation verb.Dump c origins plan kept r call = PrintsText (image_text r)
 PutsOutLocation verb.Map c origins plan kept r call = PrintsText (map_text (mapped_kept origins plan kept r)) call
 PutsOutLocation _ c origins plan kept r call = ⊥
 
--- The output of a run over a list of modules is a location by the plan. Without `--keep`, `kept` is the list itself; with it, `kept` is the
--- part of the list's link that the named public symbol needs. Its modules are located.
+-- The output of a run over a list of modules is a location, by the plan, of what is kept of the list. Without `--keep`, that is the list
+-- itself; with it, it is one module: the part of the list's link that the named public symbol needs.
 --
 -- `IsLocation` defines the location: each public, the start and each debug expression has the value of its expression at the planned bases
 -- of sections and commons; each loaded address holds the byte of the literal or field that is loaded there; nothing else is loaded.
