@@ -262,17 +262,16 @@ the-headline words files call result c plan flat is calm named locating accepts 
   own = flat-files c accepts.modules flat accepts.is_flat
 
   -- what a command puts out that needs the location alone
-  module _ (v : Verb) (of_verb : c.verb ≡ v) (output : Command → LocatedParts → Work Stop Output)
-      (puts : put_out_of v ≡ locating output) (works : work_of v files c ≡ linking (locating output) files c)
-      (limit : HasLimit v c (λ kept. output))
-      (shown : (kept : Kept) (r : LocatedParts) (o : Output) → output c r (gives o) → PutsOut o call
-      → PutsOutLocation v c (origins_of own.0) plan kept r call) where
-    by-location : LocatesAll c plan call result accepts.modules flat
-    by-location =
-        locates-all files call result c plan flat bytes accepts calm own.0 own.1 v of_verb (λ ms plan kept. output) works (λ kept. output) limit shown
-        came done answer (same-work (locating output c plan flat))
-        (λ leaves stages. subst (λ (out : Command → Plan → List Parts → Work Stop Output). IsSameWork (out c plan flat) (out c plan leaves)) puts
-        (put_out-alike c plan flat leaves (means-same flat leaves stages) v))
+  by-location : (v : Verb) → c.verb ≡ v → (output : Command → LocatedParts → Work Stop Output) → put_out_of v ≡ locating output
+      → work_of v files c ≡ linking (locating output) files c → HasLimit v c (λ kept. output)
+      → ((kept : Kept) (r : LocatedParts) (o : Output) → output c r (gives o) → PutsOut o call
+      → PutsOutLocation v c (origins_of own.0) plan kept r call)
+      → LocatesAll c plan call result accepts.modules flat
+  by-location v of_verb output puts works limit shown =
+      locates-all files call result c plan flat bytes accepts calm own.0 own.1 v of_verb (λ ms plan kept. output) works (λ kept. output) limit shown
+      came done answer (same-work (locating output c plan flat))
+      (λ leaves stages. subst (λ (out : Command → Plan → List Parts → Work Stop Output). IsSameWork (out c plan flat) (out c plan leaves)) puts
+      (put_out-alike c plan flat leaves (means-same flat leaves stages) v))
 
   by : (v : Verb) → c.verb ≡ v → IsLocating v → LocatesAll c plan call result accepts.modules flat
   by verb.Show same never = absurd never
