@@ -3,3 +3,14 @@ pub mod PrintedLines
 pub mod Matching
 pub mod Worked
 pub mod Shapes
+pub mod Outlining
+pub mod Entries
+pub mod OnePiece
+pub mod OneWord
+pub mod OneTree
+pub mod OneRow
+pub mod OneLine
+pub mod OneText
+pub mod OneListing
+pub mod OneModule
+pub mod Whole

@@ -6,9 +6,10 @@ use Rattle.std.specs.Str.Parse.{AllDigits, digits_value}
 use Rattle.std.specs.Char.{digit_value}
 use Rattle.hex.specs.Hex.{hex_digit_value}
 use Rattle.mufom_text.specs.Words.{Text, stands_for_itself}
-use Rattle.mufom_build_text.specs.Pieces.{Piece, byte, gap, figure, position, count, name, digits, expression, block, Reading, exact, loose, SpellsNumber}
-use Rattle.mufom_build_text.specs.Pieces.{SpellsStated, AreDigitsOf, SpellsDigits, SpellsNameByte, SpellsNameBytes, SpellsName, AreSpaces, SpellsPiece}
-use Rattle.mufom_build_text.specs.Pieces.{Spells}
+use Rattle.mufom_build_text.specs.Pieces.{Piece, byte, gap, figure, position, count, name, digits, expression, block}
+use Rattle.mufom_build_text.specs.Pieces.{Reading, exact, loose, SpellsNumber}
+use Rattle.mufom_build_text.specs.Pieces.{SpellsStated, AreDigitsOf, SpellsDigits, SpellsNameByte, SpellsNameBytes, SpellsName}
+use Rattle.mufom_build_text.specs.Pieces.{AreSpaces, SpellsPiece, Spells}
 use Rattle.mufom_build_text.specs.Places.{AreBlank, SpellsLines}
 
 -- what follows from a test, where it passes
@@ -102,7 +103,18 @@ by_itself b c text = then (same c b) (λ e. passing (stands_for_itself b) (λ it
 
 abbrev by_digits : (b c : ℕ) (text : Text) → Option (Front (SpellsNameByte b) (c ∷ text))
 by_digits b c (x ∷ high ∷ low ∷ text) = then (same c 0x5C) (λ e. then (same x 0x78) (λ k. then (two_digits b high low)
-    (λ are. Some (c ∷ x ∷ high ∷ low ∷ [], text, refl, inr (high, low, ap (λ y. y ∷ x ∷ high ∷ low ∷ []) e ∙ ap (λ y. 0x5C ∷ y ∷ high ∷ low ∷ []) k, are)))))
+    (λ are. Some (
+      c ∷ x ∷ high ∷ low ∷ [],
+      text,
+      refl,
+      inr (
+        high,
+        low,
+        ap (λ y. y ∷ x ∷ high ∷ low ∷ []) e
+            ∙ ap (λ y. 0x5C ∷ y ∷ high ∷ low ∷ []) k,
+        are,
+      ),
+    ))))
 by_digits b c _ = None
 
 abbrev name_byte_in : (b : ℕ) (text : Text) → Option (Front (SpellsNameByte b) text)
@@ -120,7 +132,8 @@ name_bytes_in [] text = Some ([], text, refl, refl)
 name_bytes_in (b ∷ bytes) text = then (name_byte_in b text) (λ one.
     joined (SpellsNameByte b) (SpellsNameBytes bytes) (SpellsNameBytes (b ∷ bytes)) (λ s t p q. (s, t, refl, p, q)) text one (name_bytes_in bytes))
 
-abbrev closing_quote : (c : ℕ) (bytes : List ℕ) (text : Text) → c ≡ 0x22 → Front (SpellsNameBytes bytes) text → Option (Front (SpellsName bytes) (c ∷ text))
+abbrev closing_quote : (c : ℕ) (bytes : List ℕ) (text : Text) → c ≡ 0x22 → Front (SpellsNameBytes bytes) text
+    → Option (Front (SpellsName bytes) (c ∷ text))
 closing_quote c bytes text e (inside, [], is, spelled) = None
 closing_quote c bytes text e (inside, q ∷ rest, is, spelled) = then (same q 0x22) (λ k.
     Some (
@@ -173,7 +186,8 @@ ended reading (x ∷ lines) [] next = None
 ended reading lines (b ∷ more) next = then (same b 10) (λ e. then (next more) (λ found. Some (inr (more, ap (λ y. y ∷ more) e, found))))
 
 abbrev all_blank : (text : Text) → Front AreBlank text → Option (AreBlank text)
-all_blank text (first, [], is, blank) = Some (subst (λ (l : Text). AreBlank l) (sym is) (subst (λ (l : Text). AreBlank l) (sym (append-nil first)) blank))
+all_blank text (first, [], is, blank) = Some (subst (λ (l : Text). AreBlank l) (sym is)
+    (subst (λ (l : Text). AreBlank l) (sym (append-nil first)) blank))
 all_blank text (first, b ∷ rest, is, blank) = None
 
 -- The proof that the text spells the lines, where this way to read it finds one.
@@ -183,7 +197,17 @@ lines_in reading (pieces ∷ lines) text = let start = blanks_of text in
     then (pieces_in reading pieces start.1) (λ body.
     let space = spaces_of body.1 in
     then (ended reading lines space.1 (lines_in reading lines)) (λ end.
-    Some (start.0, body.0, space.0, space.1, start.2 ∙ ap (λ l. start.0 ++ l) (body.2 ∙ ap (λ l. body.0 ++ l) space.2), start.3, body.3, space.3, end)))
+    Some (
+      start.0,
+      body.0,
+      space.0,
+      space.1,
+      start.2 ∙ ap (λ l. start.0 ++ l) (body.2 ∙ ap (λ l. body.0 ++ l) space.2),
+      start.3,
+      body.3,
+      space.3,
+      end,
+    )))
 
 -- The proof, where there is one.
 pub found : {A : Type 0} (o : Option A) → is_some o ≡ true → A

@@ -71,7 +71,8 @@ in_infix (one f a) all =
 in_infix (two f a b) all =
     let operands = (ranges-split (tokens_of a ++ tokens_of b) (Fun (function_of_two f) ∷ []) all).0 in
     let parts = ranges-split (tokens_of a) (tokens_of b) operands in
-    in_words (opening_text (function_of_two f)) ▸ in_infix a parts.0 ▸ in_words (middle_text (function_of_two f)) ▸ in_infix b parts.1 ▸ in_words (codes ")")
+    in_words (opening_text (function_of_two f)) ▸ in_infix a parts.0 ▸ in_words (middle_text (function_of_two f))
+    ▸ in_infix b parts.1 ▸ in_words (codes ")")
 
 pub in_value : (t : Tree) → IsMadeTree t → Printed (value_pieces t) (infix_text t)
 in_value t made = record { spelled = ([], infix_text t, refl, refl, (in_infix t made.1).spelled) }

@@ -18,7 +18,8 @@ use Rattle.mufom_loads.specs.declared.load.Load.{Load}
 use Rattle.mufom_loads.specs.declared.load.Load.TheVariants.{SetSection, SetPc, One, Repeat}
 use Rattle.mufom_debug.specs.declared.item.BlockHead.{BlockHead}
 use Rattle.mufom_debug.specs.declared.item.BlockHead.TheVariants as heads
-use Rattle.mufom_debug.specs.Marks.{DebugMark, block_begin, block_end, name_mark, note_mark, value_mark, marks_of, open_after, kind_number, names_after}
+use Rattle.mufom_debug.specs.Marks.{DebugMark, block_begin, block_end, name_mark, note_mark, value_mark, marks_of}
+use Rattle.mufom_debug.specs.Marks.{open_after, kind_number, names_after}
 use Rattle.mufom_module.specs.declared.module.Parts.{Parts}
 use Rattle.mufom_module.specs.declared.module.Defect.TheVariants as d
 use Rattle.mufom_module.proofs.Valid.{weighs_less}
@@ -87,7 +88,8 @@ in_each : {X : Type 0} (Made : X → Type 0) (lines_of : ℕ → X → List Line
 in_each Made lines_of text_of one n [] small made = no_lines
 in_each Made lines_of text_of one n (x ∷ xs) small made =
     let sum : n + suc (length xs) < 2 ^ 64 = small in
-    all (one n x (omega (arith, sum)) (All-head Made x xs made)) (in_each Made lines_of text_of one (n + 1) xs (omega (arith, sum)) (All-tail Made x xs made))
+    all (one n x (omega (arith, sum)) (All-head Made x xs made))
+    (in_each Made lines_of text_of one (n + 1) xs (omega (arith, sum)) (All-tail Made x xs made))
 
 -- ---- debug items
 
@@ -115,7 +117,8 @@ in_end : (end : Option Tree) → IfSome end IsMadeTree → Printed (lines.end_pi
 in_end None made = in_words (codes "end")
 in_end (Some value) made = in_words (codes "end = ") ▸ in_value value made
 
-in_mark : (depth n : ℕ) (mark : DebugMark) → IsNumber n → IsMadeMark mark → PrintedLines (lines.mark_pieces depth n mark ∷ []) (show.mark_line depth n mark)
+in_mark : (depth n : ℕ) (mark : DebugMark) → IsNumber n → IsMadeMark mark
+    → PrintedLines (lines.mark_pieces depth n mark ∷ []) (show.mark_line depth n mark)
 in_mark depth n (block_begin head name) small (a, b) = on_indented_line (indented depth (in_block (depth + 1) ▸ in_words (codes "block "))
     ▹ in_number (kind_number head) (kind-small head) ▹ in_words (codes " ") ▹ in_name name b ▹ in_head head a)
 in_mark depth n (block_end end) small made = on_indented_line (indented (depth - 1) (in_end end made))
@@ -168,7 +171,8 @@ in_items (item ∷ items) made fits =
     all (on_indented_line (indented 1 (in_item item (All-head IsMadeItem item items made) parts.0)))
     (in_items items (All-tail IsMadeItem item items made) parts.1)
 
-in_load : (load : Load) → IsMadeLoad load → any_item is_long_literal load ≡ false → PrintedLines (lines.load_lines load) (show.load_lines Listing load)
+in_load : (load : Load) → IsMadeLoad load → any_item is_long_literal load ≡ false
+    → PrintedLines (lines.load_lines load) (show.load_lines Listing load)
 in_load (SetSection n) made fits = on_line (in_words (codes "select ") ▸ in_place n made)
 in_load (SetPc n value) (a, b) fits = on_line (in_words (codes "counter ") ▸ in_place n a ▸ in_words (codes " = ") ▸ in_value value b)
 in_load (One item) made fits = on_line (in_item item made fits)
@@ -210,10 +214,12 @@ in_parts m made valid few =
     let sections = sections-count m in
     let publics = publics-count m in
     let references = references-count m in
-    all (all (all (all (all (all (all (all (in_module m made) (in_raw (codes "extension") m.ext made.ext)) (in_raw (codes "environment") m.env made.env))
+    all (all (all (all (all (all (all (all (in_module m made) (in_raw (codes "extension") m.ext made.ext))
+    (in_raw (codes "environment") m.env made.env))
     (in_each IsMadeSection lines.section_lines show.section_line in_section 0 m.sections (omega (arith, light, sections)) made.sections))
     (in_each IsMadePublic lines.public_lines show.public_lines in_public 0 m.names.publics (omega (arith, light, publics)) made.publics))
-    (in_each IsMadeReference lines.reference_lines show.reference_lines in_reference 0 m.names.references (omega (arith, light, references)) made.references))
+    (in_each IsMadeReference lines.reference_lines show.reference_lines in_reference 0 m.names.references (omega (arith, light, references))
+    made.references))
     (in_marks 0 0 (marks_of m.debug) (omega (arith, few)) made.debug))
     (in_loads m.loads made.loads (literals_fit m valid)))
     (in_start m.start made.start)

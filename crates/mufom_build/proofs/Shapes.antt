@@ -8,7 +8,8 @@ use Rattle.mufom_debug.specs.Marks.{DebugMark, block_begin, block_end, name_mark
 use Rattle.mufom_module.specs.declared.module.Parts.{Parts}
 use Rattle.mufom_module.specs.Made.{IsMade, IsMadeNote, IsMadePublic, IsMadeReference, IsMadeHead, IsMadeMark}
 use Rattle.mufom_text.specs.Words.{Text}
-use Rattle.mufom_build_text.specs.Pieces.{Piece, byte, gap, figure, position, count, name, digits, expression, block, exact, loose, SpellsPiece, Spells}
+use Rattle.mufom_build_text.specs.Pieces.{Piece, byte, gap, figure, position, count, name, digits, expression, block}
+use Rattle.mufom_build_text.specs.Pieces.{exact, loose, SpellsPiece, Spells}
 use Rattle.mufom_build_text.specs.Places.{SpellsLines}
 use Rattle.mufom_build.specs.Lines.{Line, listing_lines, HasFewNumbers, HasFewHeadNumbers, HasFewMarkNumbers, AreFew, Build, Shape}
 
@@ -27,9 +28,10 @@ loose_piece (block opened) text h = h
 
 loose_pieces : (pieces : List Piece) (text : Text) → Spells exact pieces text → Spells loose pieces text
 loose_pieces [] text h = h
-loose_pieces (piece ∷ pieces) text (first, rest, is, spelled, more) = (first, rest, is, loose_piece piece first spelled, loose_pieces pieces rest more)
+loose_pieces (piece ∷ pieces) text (first, rest, is, spelled, more) =
+    (first, rest, is, loose_piece piece first spelled, loose_pieces pieces rest more)
 
-loose_lines : (lines : List Line) (text : Text) → SpellsLines exact lines text → SpellsLines loose lines text
+pub loose_lines : (lines : List Line) (text : Text) → SpellsLines exact lines text → SpellsLines loose lines text
 loose_lines [] text h = h
 loose_lines (pieces ∷ lines) text (before, body, after, rest, is, blank, spelled, spaces, inl end) =
     (before, body, after, rest, is, blank, loose_pieces pieces body spelled, spaces, inl end)

@@ -1,2 +1,5 @@
 pub mod Lines
 pub mod Refusals
+pub mod Outlines
+pub mod Marked
+pub mod Titles

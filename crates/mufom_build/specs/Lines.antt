@@ -12,14 +12,15 @@ use Rattle.mufom_loads.specs.declared.load.Load.{Load}
 use Rattle.mufom_loads.specs.declared.load.Load.TheVariants.{SetSection, SetPc, One, Repeat}
 use Rattle.mufom_debug.specs.declared.item.BlockHead.{BlockHead}
 use Rattle.mufom_debug.specs.declared.item.BlockHead.TheVariants as heads
-use Rattle.mufom_debug.specs.Marks.{DebugMark, block_begin, block_end, name_mark, note_mark, value_mark, marks_of, kind_number, names_after, open_after}
+use Rattle.mufom_debug.specs.Marks.{DebugMark, block_begin, block_end, name_mark, note_mark, value_mark, marks_of}
+use Rattle.mufom_debug.specs.Marks.{kind_number, names_after, open_after}
 use Rattle.mufom_module.specs.declared.module.Parts.{Parts}
 use Rattle.mufom_module.specs.Defects.{IsValid}
 use Rattle.mufom_module.specs.Made.{IsMade}
 use Rattle.mufom_text.specs.Words.{Text}
 use Rattle.mufom_text.specs.Show.{order_letter, type_letters, purpose_letter, kind_text}
-use Rattle.mufom_build_text.specs.Pieces.{Piece, block, position, count, digits, exact, loose, words, number_piece, place_piece, small_piece, name_piece}
-use Rattle.mufom_build_text.specs.Pieces.{value_pieces}
+use Rattle.mufom_build_text.specs.Pieces.{Piece, block, position, count, digits, exact, loose, words, number_piece, place_piece, small_piece}
+use Rattle.mufom_build_text.specs.Pieces.{name_piece, value_pieces}
 use Rattle.mufom_build_text.specs.Places.{SpellsLines}
 
 abbrev pub Line : Type 0

@@ -1,5 +1,6 @@
 -- Where a text is wrong from which no module can be built, and how.
-use Rattle.std.specs.Prelude.{◌≡◌, ℕ, ◌+◌, ◌<◌, ◌==◌, max, nat_lt, List, [], ◌∷◌, ◌++◌, length, take, flat_map, Option, Some, None, if◌then◌else◌, ◌⊎◌}
+use Rattle.std.specs.Prelude.{◌≡◌, ℕ, ◌+◌, ◌<◌, ◌==◌, max, nat_lt, List, [], ◌∷◌, ◌++◌, length, take, flat_map, Option, Some, None}
+use Rattle.std.specs.Prelude.{if◌then◌else◌, ◌⊎◌}
 use Rattle.std.specs.Str.Parse.{digits_value}
 use Rattle.mufom_module.specs.declared.module.Parts.{Parts}
 use Rattle.mufom_module.specs.declared.module.Defect.{Defect}
@@ -8,7 +9,8 @@ use Rattle.mufom_module.specs.Made.{IsMade}
 use Rattle.mufom_text.specs.Words.{Text, line}
 use Rattle.mufom_build_text.specs.declared.refusal.BuildReason.{BuildReason}
 use Rattle.mufom_build_text.specs.declared.refusal.BuildReason.TheVariants.{BadText, TooGreat, Position, Count, TooLong, Deep}
-use Rattle.mufom_build_text.specs.Pieces.{Piece, byte, gap, figure, position, count, name, digits, expression, block, exact, loose, Spells, SpellsPiece}
+use Rattle.mufom_build_text.specs.Pieces.{Piece, byte, gap, figure, position, count, name, digits, expression, block}
+use Rattle.mufom_build_text.specs.Pieces.{exact, loose, Spells, SpellsPiece}
 use Rattle.mufom_build_text.specs.Pieces.{AreSpaces, MOST_POSITION, MOST_NUMBER}
 use Rattle.mufom_build_text.specs.Places.{SpellsLines}
 use Rattle.mufom_build.specs.Lines.{Line, listing_lines, AreFew, Shape}
@@ -108,6 +110,12 @@ abbrev pub IsRefusedAt : Text → ℕ → ℕ → BuildReason → Type 0
 IsRefusedAt text at column reason = let texts = text_lines text in
     ((before : ℕ) × (at ≡ before + 1) × (before < length texts) × AreRight texts before × IsWrongAt texts before column reason)
     ⊎ ((at ≡ last_line text) × (column ≡ 1) × (reason ≡ BadText) × AreRight texts (length texts) × ¬ (Shape text))
+
+-- The text is the listing of parts that have this defect, read exactly.
+pub record ListsDefect (text : Text) (defect : Defect) : Type 0 where
+  pub parts : Parts
+  pub listed : SpellsLines exact (listing_lines parts) text
+  pub first : first_defect parts ≡ Some defect
 
 -- No line is wrong, and the text is the listing of parts that have this defect.
 pub record HasDefect (text : Text) (defect : Defect) : Type 0 where

@@ -1,11 +1,16 @@
 //! Laws of listings, each the contract of a function that does nothing.
 
+ghost use Rattle.std.specs.Prelude.{◌≡◌};
+ghost use Rattle.mufom_module.specs.declared.module.Defect.{Defect};
 ghost use Rattle.mufom_module.specs.declared.module.Parts.{Parts};
 ghost use Rattle.mufom_module.specs.Defects.{IsValid};
 ghost use Rattle.mufom_module.specs.Made.{IsMade};
 ghost use Rattle.mufom_text.specs.Show.{listing_text};
 ghost use Rattle.mufom_text.specs.Words.{Text};
-ghost use Rattle.mufom_build.specs.Lines.{Build, Shape};
+ghost use Rattle.mufom_build_text.specs.Pieces.{loose};
+ghost use Rattle.mufom_build_text.specs.Places.{SpellsLines};
+ghost use Rattle.mufom_build.specs.Lines.{listing_lines, Build, Shape};
+ghost use Rattle.mufom_build.specs.Refusals.{ListsDefect};
 
 /// The listing of a module, as it is printed, is a text from which the module is built.
 pub fn listings_build()
@@ -15,4 +20,16 @@ pub fn listings_build()
 /// A text from which a module is built has the shape of a listing.
 pub fn built_texts_have_the_shape()
     ensures { (text : Text) (m : Parts) → Build text m → Shape text }
+{}
+
+/// A text is the listing of one module's parts at most, whatever positions and counts it states. So one module at
+/// most can be built from it.
+pub fn texts_list_one_module()
+    ensures loosely { (text : Text) (m n : Parts) → SpellsLines loose (listing_lines m) text → SpellsLines loose (listing_lines n) text → m ≡ n }
+    ensures exactly { (text : Text) (m n : Parts) → Build text m → Build text n → m ≡ n }
+{}
+
+/// No module can be built from a text that is the listing of parts with a defect.
+pub fn defects_build_nothing()
+    ensures { (text : Text) (m : Parts) (d : Defect) → Build text m → ListsDefect text d → ⊥ }
 {}

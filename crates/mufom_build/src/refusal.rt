@@ -1,6 +1,9 @@
 //! Why no module is built from a text.
 
-use mufom_build_text::BuildReason;
+ghost use Rattle.std.specs.Prelude.{◌≡◌};
+ghost use Rattle.mufom_module.specs.declared.module.Defect.{Defect};
+
+use mufom_build_text::{BuildReason, ReadStop};
 use mufom_module::Defect;
 
 /// Why no module is built from a text.
@@ -16,4 +19,22 @@ pub enum BuildRefusal {
     Module(Defect),
     /// Memory ran out.
     NoMemory,
+}
+
+/// The same as an error of [`build`](crate::build).
+pub(crate) fn refusal_of(stop: ReadStop) -> BuildRefusal
+    ensures { (d : Defect) → result ≡ BuildRefusal.Module d → ⊥ }
+{
+    match stop {
+        ReadStop::At {
+            line,
+            column,
+            reason,
+        } => BuildRefusal::At {
+            line,
+            column,
+            reason,
+        },
+        ReadStop::NoMemory => BuildRefusal::NoMemory,
+    }
 }

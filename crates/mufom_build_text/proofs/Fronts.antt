@@ -40,7 +40,8 @@ no_digits text = record { front = []; is = refl; spelled = refl }
 
 digits_more : (bytes : List ℕ) (b high low : ℕ) (front : Text) → SpellsDigits bytes front → AreDigitsOf b high low
     → SpellsDigits (bytes ++ b ∷ []) (front ++ high ∷ low ∷ [])
-digits_more [] b high low front none are = subst (λ (l : Text). SpellsDigits (b ∷ []) (l ++ high ∷ low ∷ [])) (sym none) (high, low, [], refl, are, refl)
+digits_more [] b high low front none are = subst (λ (l : Text). SpellsDigits (b ∷ []) (l ++ high ∷ low ∷ [])) (sym none)
+    (high, low, [], refl, are, refl)
 digits_more (x ∷ bytes) b high low front (h, l, rest, is, first, more) are =
     (h, l, rest ++ high ∷ low ∷ [], ap (λ t. t ++ high ∷ low ∷ []) is, first, digits_more bytes b high low rest more are)
 
@@ -80,11 +81,13 @@ name_closed bytes text inside after e f = (
 )
 
 -- a byte of a name by itself
-pub by_itself : (b : ℕ) (text after : Text) → text ≡ b ∷ after → IsTrue (stands_for_itself b) → (front : Text) × (text ≡ front ++ after) × SpellsNameByte b front
+pub by_itself : (b : ℕ) (text after : Text) → text ≡ b ∷ after → IsTrue (stands_for_itself b)
+    → (front : Text) × (text ≡ front ++ after) × SpellsNameByte b front
 by_itself b text after is itself = (b ∷ [], is, inl (itself, refl))
 
 -- a byte of a name by its digits
 pub by_digits : (b : ℕ) (text tail digits after : Text) → text ≡ 0x5C ∷ tail → tail ≡ 0x78 ∷ digits
-    → (high : ℕ) × (low : ℕ) × (digits ≡ high ∷ low ∷ after) × AreDigitsOf b high low → (front : Text) × (text ≡ front ++ after) × SpellsNameByte b front
+    → (high : ℕ) × (low : ℕ) × (digits ≡ high ∷ low ∷ after) × AreDigitsOf b high low
+    → (front : Text) × (text ≡ front ++ after) × SpellsNameByte b front
 by_digits b text tail digits after first second (high, low, is, are) =
     (0x5C ∷ 0x78 ∷ high ∷ low ∷ [], first ∙ ap (λ l. 0x5C ∷ l) (second ∙ ap (λ l. 0x78 ∷ l) is), inr (high, low, refl, are))

@@ -20,7 +20,8 @@ use Rattle.mufom_build_text.specs.declared.expression.Middle.TheVariants.{Operat
 use Rattle.mufom_build_text.specs.declared.expression.Infix.{Infix}
 use Rattle.mufom_build_text.specs.Pieces.{Piece, words, number_piece, place_piece, infix_pieces, value_pieces}
 use Rattle.mufom_build_text.specs.Reads.{Place, Reads}
-use Rattle.mufom_build_text.specs.Infix.{Opened, bracket, named, single, second, opened_pieces, opened_tokens, frame_of, frame_text, has_operator, has_comma, has_one, is_first, FitsMiddle}
+use Rattle.mufom_build_text.specs.Infix.{Opened, bracket, named, single, second, opened_pieces, opened_tokens, frame_of, frame_text}
+use Rattle.mufom_build_text.specs.Infix.{has_operator, has_comma, has_one, is_first, FitsMiddle}
 use Rattle.mufom_build_text.specs.Infix.{IsBefore, IsBehind, IsRead, IsBetween, IsLeaf}
 use Rattle.mufom_build_text.proofs.Reading.{◌▸◌, nothing, value_read}
 use Rattle.mufom_build_text.proofs.Lists.{flat_map_more}
@@ -123,7 +124,8 @@ pub opened_more : (start a b : Place) (i j : Infix) (frame : Frame) → IsBefore
     → j.frames.items ≡ i.frames.items ++ frame ∷ [] → j.tokens ≡ i.tokens → j.is_long ≡ i.is_long → IsBefore start b j
 opened_more start a b i j frame before first read frames tokens long = record {
   opened = before.opened ++ first.function ∷ [];
-  reads = same_reads (ap (λ l. flat_map opened_pieces before.opened ++ l) (sym first.pieces) ∙ sym (flat_map_more opened_pieces before.opened first.function))
+  reads = same_reads (ap (λ l. flat_map opened_pieces before.opened ++ l) (sym first.pieces)
+      ∙ sym (flat_map_more opened_pieces before.opened first.function))
       (before.reads ▸ read);
   frames = frames ∙ ap (λ l. l ++ frame ∷ []) before.frames ∙ ap (λ f. map frame_of before.opened ++ f ∷ []) (sym first.is)
       ∙ sym (map_more before.opened first.function);
@@ -146,7 +148,8 @@ leaf_more start a b i j token before leaf frames long tokens = record {
   tree = leaf.tree;
   reads = before.reads ▸ leaf.reads;
   frames = frames ∙ before.frames;
-  tokens = λ short. tokens short ∙ ap (λ l. l ++ token ∷ []) (before.tokens (long short)) ∙ ap (λ l. flat_map opened_tokens before.opened ++ l) (sym leaf.tokens);
+  tokens = λ short. tokens short ∙ ap (λ l. l ++ token ∷ []) (before.tokens (long short))
+      ∙ ap (λ l. flat_map opened_tokens before.opened ++ l) (sym leaf.tokens);
 }
 
 -- ---- the last frame
@@ -235,8 +238,9 @@ closed start a b i j frames f behind last read left long tokens =
     }
 
 -- the first operand of the last function has ended
-pub between : (start a : Place) (i j : Infix) (frames : List Frame) (middle : Middle) → IsBehind start a i → i.frames.items ≡ frames ++ First middle ∷ []
-    → j.frames.items ≡ frames → j.is_long ≡ i.is_long → j.tokens ≡ i.tokens → IsBetween middle start a j
+pub between : (start a : Place) (i j : Infix) (frames : List Frame) (middle : Middle) → IsBehind start a i
+    → i.frames.items ≡ frames ++ First middle ∷ [] → j.frames.items ≡ frames → j.is_long ≡ i.is_long → j.tokens ≡ i.tokens
+    → IsBetween middle start a j
 between start a i j frames middle behind last left long tokens =
     let l = last_of behind.opened frames (First middle) (sym behind.frames ∙ last) in
     let none : opened_tokens l.function ≡ [] = unread l.function middle l.frame_is in
@@ -250,7 +254,8 @@ between start a i j frames middle behind last left long tokens =
       is = l.frame_is;
       frames = left ∙ sym l.front_is;
       tokens = λ short. tokens ∙ behind.tokens (sym long ∙ short) ∙ ap (λ os. flat_map opened_tokens os ++ tokens_of behind.tree) l.is
-          ∙ ap (λ ts. ts ++ tokens_of behind.tree) (flat_map_more opened_tokens l.front l.function ∙ ap (λ ts. before ++ ts) none ∙ append-nil before);
+          ∙ ap (λ ts. ts ++ tokens_of behind.tree) (flat_map_more opened_tokens l.front l.function
+          ∙ ap (λ ts. before ++ ts) none ∙ append-nil before);
     }
   where
     unread : (function : Opened) (middle : Middle) → frame_of function ≡ First middle → opened_tokens function ≡ []
@@ -266,7 +271,8 @@ record IsSecond (function : Opened) (f : Function) (a : Tree) : Type 0 where
   tokens : tokens_of a ≡ opened_tokens with_operand
   frame : frame_of with_operand ≡ Last f
 
-second_of : (function : Opened) (middle : Middle) (f : Function) (a : Tree) → frame_of function ≡ First middle → FitsMiddle middle f → IsSecond function f a
+second_of : (function : Opened) (middle : Middle) (f : Function) (a : Tree) → frame_of function ≡ First middle → FitsMiddle middle f
+    → IsSecond function f a
 second_of bracket middle f a e fits =
     let same : middle ≡ Operator = cc in
     let op = operator_of f (subst (λ (m : Middle). FitsMiddle m f) same fits) in
@@ -292,7 +298,8 @@ second_of (single g) middle f a e fits = absurd (cc)
 second_of (second g x) middle f a e fits = absurd (cc)
 
 pub middle_more : (start a b : Place) (i j : Infix) (middle : Middle) (f : Function) → IsBetween middle start a i → FitsMiddle middle f
-    → Reads (words (middle_text f)) a b → j.frames.items ≡ i.frames.items ++ Last f ∷ [] → j.is_long ≡ i.is_long → j.tokens ≡ i.tokens → IsBefore start b j
+    → Reads (words (middle_text f)) a b → j.frames.items ≡ i.frames.items ++ Last f ∷ [] → j.is_long ≡ i.is_long → j.tokens ≡ i.tokens
+    → IsBefore start b j
 middle_more start a b i j middle f at fits read frames long tokens =
     let s = second_of at.function middle f at.tree at.is fits in
     let outer = flat_map opened_pieces at.opened in
@@ -301,13 +308,15 @@ middle_more start a b i j middle f at fits read frames long tokens =
       reads = same_reads (append_assoc (outer ++ opened_pieces at.function) (infix_pieces at.tree) (words (middle_text f))
           ∙ append_assoc outer (opened_pieces at.function) (infix_pieces at.tree ++ words (middle_text f))
           ∙ ap (λ ps. outer ++ ps) s.pieces ∙ sym (flat_map_more opened_pieces at.opened s.with_operand)) (at.reads ▸ read);
-      frames = frames ∙ ap (λ l. l ++ Last f ∷ []) at.frames ∙ ap (λ g. map frame_of at.opened ++ g ∷ []) (sym s.frame) ∙ sym (map_more at.opened s.with_operand);
+      frames = frames ∙ ap (λ l. l ++ Last f ∷ []) at.frames ∙ ap (λ g. map frame_of at.opened ++ g ∷ []) (sym s.frame)
+          ∙ sym (map_more at.opened s.with_operand);
       tokens = λ short. tokens ∙ at.tokens (sym long ∙ short) ∙ ap (λ l. flat_map opened_tokens at.opened ++ l) s.tokens
           ∙ sym (flat_map_more opened_tokens at.opened s.with_operand);
     }
 
 -- no function is open
-pub whole_read : (start a : Place) (i j : Infix) → IsBehind start a i → i.frames.items ≡ [] → j.is_long ≡ i.is_long → j.tokens ≡ i.tokens → IsRead start a j
+pub whole_read : (start a : Place) (i j : Infix) → IsBehind start a i → i.frames.items ≡ [] → j.is_long ≡ i.is_long → j.tokens ≡ i.tokens
+    → IsRead start a j
 whole_read start a i j behind none long tokens =
     let empty = no_opened behind.opened (sym behind.frames ∙ none) in
     record {
@@ -321,7 +330,8 @@ whole_read start a i j behind none long tokens =
     no_opened (o ∷ opened) e = cc
 
 -- the expression of the tokens that are kept
-pub finished : (start now : Place) (i : Infix) (p : Tree) → IsRead start now i → i.is_long ≡ false → tokens_of p ≡ i.tokens → Reads (value_pieces p) start now
+pub finished : (start now : Place) (i : Infix) (p : Tree) → IsRead start now i → i.is_long ≡ false → tokens_of p ≡ i.tokens
+    → Reads (value_pieces p) start now
 finished start now i p read short tokens =
     let same : p ≡ read.tree = sym (the_term-tokens_of p) ∙ ap the_term (tokens ∙ read.tokens short) ∙ the_term-tokens_of read.tree in
     subst (λ (t : Tree). Reads (value_pieces t) start now) (sym same) (value_read read.tree start now read.reads)

@@ -1,12 +1,13 @@
 -- What is read between two places of a text, joined piece by piece and line by line.
-use Rattle.std.proofs.Common.{◌≡◌, ℕ, ◌+◌, ◌<◌, ◌≤◌, ◌^◌, List, [], ◌∷◌, ◌++◌, length, take, map, flat_map, Option, Some, None, refl, sym, ap, subst, ◌∙◌}
-use Rattle.std.proofs.Common.{inl, inr, ◌⊎◌, arith, append_assoc, append-nil, get_or, MatchOption}
+use Rattle.std.proofs.Common.{◌≡◌, ℕ, ◌+◌, ◌<◌, ◌≤◌, ◌^◌, List, [], ◌∷◌, ◌++◌, length, take, map, flat_map, Option, Some, None}
+use Rattle.std.proofs.Common.{refl, sym, ap, subst, ◌∙◌, inl, inr, ◌⊎◌, arith, append_assoc, append-nil, get_or, MatchOption}
 use Rattle.std.proofs.lemmas.List.{take_more, map-append}
 use Rattle.std.specs.Str.Parse.{IsNumeral, digits_value}
 use Rattle.std.specs.List.{AllByRecursion}
 use Rattle.mufom_text.specs.Words.{Text}
-use Rattle.mufom_build_text.specs.Pieces.{Piece, byte, gap, figure, position, count, name, digits, block, expression, exact, Spells, SpellsPiece, SpellsDigits}
-use Rattle.mufom_build_text.specs.Pieces.{SpellsNameBytes, AreSpaces, words, word_piece, infix_pieces, value_pieces, SpellsNumber}
+use Rattle.mufom_build_text.specs.Pieces.{Piece, byte, gap, figure, position, count, name, digits, block, expression, exact}
+use Rattle.mufom_build_text.specs.Pieces.{Spells, SpellsPiece, SpellsDigits, SpellsNameBytes, SpellsNumber, AreSpaces}
+use Rattle.mufom_build_text.specs.Pieces.{words, word_piece, infix_pieces, value_pieces}
 use Rattle.mufom_build_text.specs.Places.{SpellsLines, AreBlank}
 use Rattle.mufom_build_text.specs.Reads.{Place, IsRight, IsSpaceFront, IsBlankFront, ReadsRight, Reads, ReadsNumeral, IsDigitsFront, IsNameFront}
 use Rattle.mufom_build_text.specs.Reads.{IsLineEnd, EndsLine}
@@ -61,8 +62,8 @@ reads_gap a b c first spaces error = record {
 }
 
 -- a name in quotes
-pub reads_name : (bytes inside after : List ℕ) (a b c : Place) → Reads (byte 0x22 ∷ []) a b → IsNameFront bytes inside (0x22 ∷ after) → inside ≡ b.rest
-    → c.rest ≡ after → c.error ≡ b.error → Reads (name bytes ∷ []) a c
+pub reads_name : (bytes inside after : List ℕ) (a b c : Place) → Reads (byte 0x22 ∷ []) a b → IsNameFront bytes inside (0x22 ∷ after)
+    → inside ≡ b.rest → c.rest ≡ after → c.error ≡ b.error → Reads (name bytes ∷ []) a c
 reads_name bytes inside after a b c first f begins ends error = record {
   read = λ right.
       let one = first.read (sym error ∙ right) in
@@ -78,8 +79,8 @@ reads_name bytes inside after a b c first f begins ends error = record {
 }
 
 -- a piece that no bytes spell, and after which the line may be wrong
-pub reads_judged : (piece : Piece) (a b : Place) → ((text : Text) → text ≡ [] → SpellsPiece exact piece text) → b.rest ≡ a.rest → (IsRight b → IsRight a)
-    → Reads (piece ∷ []) a b
+pub reads_judged : (piece : Piece) (a b : Place) → ((text : Text) → text ≡ [] → SpellsPiece exact piece text) → b.rest ≡ a.rest
+    → (IsRight b → IsRight a) → Reads (piece ∷ []) a b
 reads_judged piece a b empty rest judged = record {
   read = λ right. record {
     right = judged right;
@@ -164,7 +165,8 @@ blank-append [] t none blank = blank
 blank-append (b ∷ s) t (here, more) blank = (here, blank-append s t more blank)
 
 -- blank lines before lines
-pub blank_before : (lines : List (List Piece)) (front text : Text) → AreBlank front → SpellsLines exact lines text → SpellsLines exact lines (front ++ text)
+pub blank_before : (lines : List (List Piece)) (front text : Text) → AreBlank front → SpellsLines exact lines text
+    → SpellsLines exact lines (front ++ text)
 blank_before [] front text blank spelled = blank-append front text blank spelled
 blank_before (pieces ∷ lines) front text blank (before, body, after, rest, is, leading, spelled, trailing, more) = (
   front ++ before,
@@ -179,7 +181,8 @@ blank_before (pieces ∷ lines) front text blank (before, body, after, rest, is,
 )
 
 -- what follows the end of a line
-following : (more : List (List Piece)) (end rest : Text) → IsLineEnd end → IsBlankFront end rest → ((after : Text) → rest ≡ 10 ∷ after → ⊥) → Follow more rest
+following : (more : List (List Piece)) (end rest : Text) → IsLineEnd end → IsBlankFront end rest
+    → ((after : Text) → rest ≡ 10 ∷ after → ⊥) → Follow more rest
     → ((end ≡ []) × (more ≡ [])) ⊎ ((after : Text) × (end ≡ 10 ∷ after) × SpellsLines exact more after)
 following more end rest (inl e) blank last follow = inl (e, follow.some (no_rest blank.front rest (sym blank.is ∙ e)))
 following more end rest (inr (after, e)) blank last follow = inr (after, e, after_feed blank.front blank.blank (sym blank.is ∙ e))

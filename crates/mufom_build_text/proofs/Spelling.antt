@@ -7,7 +7,8 @@ use Rattle.hex.specs.Hex.{encode_upper, encode_with}
 use Rattle.hex.proofs.HexLemmas.{IsDigits-upper_digits}
 use Rattle.mufom_numbers.specs.Spelling.{AreBytes}
 use Rattle.mufom_text.specs.Words.{Text, quoted, quoted_byte, hex_bytes, stands_for_itself}
-use Rattle.mufom_build_text.specs.Pieces.{Piece, byte, gap, Reading, SpellsNumber, AreDigitsOf, SpellsDigits, SpellsNameByte, SpellsNameBytes, SpellsName}
+use Rattle.mufom_build_text.specs.Pieces.{Piece, byte, gap, Reading, SpellsNumber, AreDigitsOf, SpellsDigits, SpellsNameByte}
+use Rattle.mufom_build_text.specs.Pieces.{SpellsNameBytes, SpellsName}
 use Rattle.mufom_build_text.specs.Pieces.{SpellsPiece, Spells, words}
 
 pub spells-append : (r : Reading) (xs ys : List Piece) (s t : Text) → Spells r xs s → Spells r ys t → Spells r (xs ++ ys) (s ++ t)

@@ -2,3 +2,4 @@ pub mod Pieces
 pub mod Places
 pub mod Reads
 pub mod Infix
+pub mod Errors

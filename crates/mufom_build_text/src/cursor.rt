@@ -1,8 +1,9 @@
 //! A place in a text that is read line by line.
 
-ghost use Rattle.std.specs.Prelude.{◌≡◌, ◌≤◌, ◌<◌, ◌+◌, ◌^◌, ◌↔◌, ◌∷◌, [], List, ℕ, length, IsTrue, OnOk};
+ghost use Rattle.std.specs.Prelude.{◌≡◌, ◌≤◌, ◌<◌, ◌+◌, ◌^◌, ◌↔◌, ◌∷◌, [], List, ℕ, length, IsTrue, OnOk, Err};
 ghost use Rattle.mufom_numbers.specs.declared.limits.TheConstants.{MOST_FILE_BYTES};
 ghost use Rattle.mufom_build_text.specs.Reads.{beginning, IsRight, IsSpaceFront, IsBlankFront, IsLineEnd, EndsLine};
+ghost use Rattle.mufom_build_text.specs.Errors.{error_at, first_error, wrong_line, IsWrongEnd, IsNamed};
 
 use crate::refusal::{BuildReason, ReadStop};
 use std::marker::Model;
@@ -87,7 +88,7 @@ fn after_blanks(text: &[u8], from_line: u32, from_column: u32) -> (&[u8], u32, u
 
 // Whether a line may end before the text: at a line feed, or where there is no more text.
 fn is_line_end(text: &[u8]) -> bool
-    ensures { IsTrue result → IsLineEnd text.now }
+    ensures { IsTrue result ↔ IsLineEnd text.now }
 {
     match text.split_first() {
         None => true,
@@ -132,7 +133,9 @@ impl<'a> Cursor<'a> {
 
     /// The error of the line as a whole: it is not one of a listing, or may not occur here. At the end of a
     /// text this is its last line: none begins behind the last line feed.
-    pub fn bad_line(&self) -> ReadStop {
+    pub fn bad_line(&self) -> ReadStop
+        ensures { result ≡ ReadStop.At (wrong_line self.now) 1 BuildReason.BadText }
+    {
         let is_behind_all = self.rest.is_empty() && self.column == 1 && self.line > 1;
         ReadStop::At {
             line: if is_behind_all {
@@ -150,6 +153,8 @@ impl<'a> Cursor<'a> {
         requires { length rest.now ≤ length self.old.rest }
         ensures rest { self.new.rest ≡ rest.now }
         ensures error { self.new.error ≡ self.old.error }
+        ensures column { self.new.column + length rest.now ≡ self.old.column + length self.old.rest }
+        ensures line { self.new.line ≡ self.old.line }
     {
         self.column += (self.rest.len() - rest.len()) as u32;
         self.rest = rest;
@@ -159,6 +164,7 @@ impl<'a> Cursor<'a> {
     pub fn note(&mut self, column: u32, reason: BuildReason)
         ensures rest { self.new.rest ≡ self.old.rest }
         ensures wrong { IsRight self.new → ⊥ }
+        ensures first { self.new.error ≡ first_error self.old.error (error_at column reason) }
     {
         if let Some(first) = self.error {
             if first.column <= column {
@@ -173,6 +179,7 @@ impl<'a> Cursor<'a> {
         ensures front { IsSpaceFront self.old.rest self.new.rest }
         ensures error { self.new.error ≡ self.old.error }
         ensures within { length self.new.rest ≤ length self.old.rest }
+        ensures line { self.new.line ≡ self.old.line }
     {
         self.advance_to(after_spaces(self.rest));
     }
@@ -194,6 +201,7 @@ impl<'a> Cursor<'a> {
     fn check_end(&self) -> Result<(), ReadStop>
         ensures end { OnOk result (IsLineEnd self.now.rest) }
         ensures right { OnOk result (IsRight self.now) }
+        ensures wrong { (line column : ℕ) (reason : BuildReason) → result ≡ Err (ReadStop.At line column reason) → IsWrongEnd self.now line column reason }
     {
         if !is_line_end(self.rest) {
             return Err(self.bad_line());
@@ -215,6 +223,7 @@ impl<'a> Cursor<'a> {
         ensures right { OnOk result (IsRight self.old) }
         ensures ends { OnOk result (EndsLine self.old.rest self.new.rest) }
         ensures within { OnOk result (length self.new.rest ≤ length self.old.rest) }
+        ensures wrong { (line column : ℕ) (reason : BuildReason) → result ≡ Err (ReadStop.At line column reason) → IsNamed self.old line column reason }
     {
         self.pass_spaces();
         self.check_end()?;

@@ -7,8 +7,9 @@ ghost use Rattle.std.specs.Str.Parse.{AllDigits, digits_value};
 ghost use Rattle.hex.specs.Hex.{hex_digit_value};
 ghost use Rattle.mufom_text.specs.Words.{stands_for_itself};
 ghost use Rattle.mufom_build_text.specs.Pieces.{gap, byte, figure, position, name, digits, word_piece, words, number_piece, place_piece, small_piece};
-ghost use Rattle.mufom_build_text.specs.Pieces.{name_piece, AreDigitsOf, SpellsNameByte};
+ghost use Rattle.mufom_build_text.specs.Pieces.{name_piece, AreDigitsOf, SpellsNameByte, MOST_BYTE, MOST_POSITION, MOST_NUMBER};
 ghost use Rattle.mufom_build_text.specs.Reads.{IsRight, Reads, ReadsNumeral, IsDigitsFront, IsNameFront};
+ghost use Rattle.mufom_build_text.specs.Errors.{judged, NotesFigure, NotesPosition};
 
 use crate::cursor::{Cursor, after_spaces};
 use crate::refusal::{BuildReason, ReadStop};
@@ -214,6 +215,7 @@ impl<'a> Cursor<'a> {
     fn figure(&mut self, most: u64) -> Result<u64, ReadStop>
         ensures reads { IfOk result (λ n. Reads (figure most n ∷ []) self.old self.new) }
         ensures most { IfOk result (λ n. n ≤ most) }
+        ensures noted { OnOk result (NotesFigure most self.old self.new) }
         ensures within { OnOk result (length self.new.rest < length self.old.rest) }
     {
         let column = self.column();
@@ -229,6 +231,7 @@ impl<'a> Cursor<'a> {
     /// Passes over a number of 64 bits.
     pub fn number(&mut self) -> Result<u64, ReadStop>
         ensures reads { IfOk result (λ n. Reads (number_piece n) self.old self.new) }
+        ensures noted { OnOk result (NotesFigure MOST_NUMBER self.old self.new) }
         ensures within { OnOk result (length self.new.rest < length self.old.rest) }
     {
         self.figure(u64::MAX)
@@ -237,6 +240,7 @@ impl<'a> Cursor<'a> {
     /// Passes over the position of an entry that another line has.
     pub fn place(&mut self) -> Result<u32, ReadStop>
         ensures reads { IfOk result (λ n. Reads (place_piece n) self.old self.new) }
+        ensures noted { OnOk result (NotesFigure MOST_POSITION self.old self.new) }
         ensures within { OnOk result (length self.new.rest < length self.old.rest) }
     {
         let place = self.figure(u32::MAX as u64)?;
@@ -246,6 +250,7 @@ impl<'a> Cursor<'a> {
     /// Passes over a number of 8 bits.
     pub fn small(&mut self) -> Result<u8, ReadStop>
         ensures reads { IfOk result (λ n. Reads (small_piece n) self.old self.new) }
+        ensures noted { OnOk result (NotesFigure MOST_BYTE self.old self.new) }
         ensures within { OnOk result (length self.new.rest < length self.old.rest) }
     {
         let number = self.figure(u8::MAX as u64)?;
@@ -264,6 +269,7 @@ impl<'a> Cursor<'a> {
     )
         ensures rest { self.new.rest ≡ self.old.rest }
         ensures right { IsRight self.new → IsRight self.old × (stated ≡ Some right) }
+        ensures noted { self.new.error ≡ judged self.old.error column stated most right reason }
     {
         match stated {
             Some(number) if number <= most => {
@@ -278,6 +284,7 @@ impl<'a> Cursor<'a> {
     /// Passes over the position of the line's entry, which is that of the count of such entries before it.
     pub fn position(&mut self, count: usize) -> Result<(), ReadStop>
         ensures reads { OnOk result (Reads (position count ∷ []) self.old self.new) }
+        ensures noted { OnOk result (NotesPosition count self.old self.new) }
         ensures within { OnOk result (length self.new.rest < length self.old.rest) }
     {
         let column = self.column();

@@ -14,7 +14,7 @@ use mufom_text::Output;
 const DIGITS: &[u8; 16] = b"0123456789ABCDEF";
 
 /// A word, and after it a number of up to 128 bits in decimal.
-pub(crate) fn counted<K: Output>(out: &mut K, word: &[u8], value: u128)
+pub fn counted<K: Output>(out: &mut K, word: &[u8], value: u128)
     ensures { K.takes out.old out.new (counted word.now value) }
 {
     out.put(word);
@@ -81,7 +81,7 @@ fn without_zeros(digits: &[u8], most: usize) -> &[u8]
 }
 
 /// An address: two digits for each of `maus` units, and more if it is longer.
-pub(crate) fn hex<K: Output>(out: &mut K, maus: u8, at: u64)
+pub fn hex<K: Output>(out: &mut K, maus: u8, at: u64)
     requires { IsUnitCount maus }
     ensures { K.takes out.old out.new (hex maus at) }
 {

@@ -1,7 +1,8 @@
 use Rattle.std.proofs.Common.{◌≡◌, ◌⊎◌, inl, inr, arith}
 use Rattle.mufom_build_text.proofs.Fronts.{blank_more}
 use Rattle.mufom_build_text.proofs.cursor.after_blanks.Goals as goal
-use Rattle.mufom_build_text.proofs.cursor.after_blanks.Goals.{else-first-ne32-via-then-first-ne32+else-first-ne10, else-first-ne32-via-else-first-ne32}
+use Rattle.mufom_build_text.proofs.cursor.after_blanks.Goals.{else-first-ne32-via-then-first-ne32+else-first-ne10}
+use Rattle.mufom_build_text.proofs.cursor.after_blanks.Goals.{else-first-ne32-via-else-first-ne32}
 
 pub loop-first-preserved : goal.loop-first-preserved
 loop-first-preserved c =

@@ -2,4 +2,5 @@ use Rattle.std.proofs.lemmas.Int.Digits.{digits_more}
 use Rattle.mufom_build_text.proofs.spelled.count_digits.Goals as goal
 
 pub loop-count-preserved : goal.loop-count-preserved
-loop-count-preserved c = digits_more 10 c.args.text.now c.loop-count.count c.loop-count-test.true c.loop-count.invariant c.if-not-is_ascii_digit.ensures.bound
+loop-count-preserved c = digits_more 10 c.args.text.now c.loop-count.count c.loop-count-test.true c.loop-count.invariant
+    c.if-not-is_ascii_digit.ensures.bound

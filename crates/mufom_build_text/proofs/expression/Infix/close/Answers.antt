@@ -19,5 +19,6 @@ loop-frame-preserved c = record {
 
 pub returns-clause-reads : goal.returns-clause-reads
 returns-clause-reads c = λ start behind. whole_read start c.loop-frame.cursor c.loop-frame.self _
-    (c.loop-frame.invariant.reads start behind) (empty c.loop-frame.self.frames.items (omega (arith, c.in_default.ensures.cases.0, c.loop-frame.self.frames.ok.0)))
+    (c.loop-frame.invariant.reads start behind)
+    (empty c.loop-frame.self.frames.items (omega (arith, c.in_default.ensures.cases.0, c.loop-frame.self.frames.ok.0)))
     refl refl

@@ -1,0 +1,7 @@
+use Rattle.mufom_build_text.proofs.Reading.{◌▸◌}
+use Rattle.mufom_build.proofs.debug.read_part.Goals as goal
+
+pub returns-clause-reads : goal.returns-clause-reads
+returns-clause-reads c = c.in_ok-words.ensures.reads ▸ c.in_ok-section_type.ensures.reads ▸ c.in_ok-words-2.ensures.reads
+    ▸ c.in_ok-section.ensures.reads
+    ▸ c.in_ok-words-3.ensures.reads ▸ c.in_ok-offset.ensures.reads

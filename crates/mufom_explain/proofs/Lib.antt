@@ -1,0 +1,9 @@
+pub mod NotingLaws
+pub mod LineLaws
+pub mod NamingLaws
+pub mod ToldLaws
+pub mod UndefinedLaws
+pub mod RegionLaws
+pub mod LinkLaws
+pub mod PlacedLaws
+mod Rows

@@ -1,0 +1,55 @@
+-- What is known of a module that is not located: how many units an address has, and that each section has a place, if one does not fit.
+use Rattle.std.proofs.Common.{◌≡◌, ℕ, List, [], ◌∷◌, Option, Some, None, Bool, true, false, refl, sym, ap, subst, ◌∙◌, append-nil, arith}
+use Rattle.std.specs.Prelude.{option_map, if◌then◌else◌}
+use Rattle.mufom_sections.specs.declared.section.Section.{Section}
+use Rattle.mufom_module.specs.declared.module.Parts.{Parts}
+use Rattle.mufom_module.specs.Defects.{IsValid}
+use Rattle.mufom_plan.specs.declared.plan.Plan.{Plan}
+use Rattle.mufom_plan.specs.Names.{listed_names}
+use Rattle.mufom_place.specs.declared.refusal.PlaceRefusal.{PlaceRefusal}
+use Rattle.mufom_place.specs.declared.refusal.PlaceRefusal.TheVariants.{Misfit, Unplaced}
+use Rattle.mufom_place.specs.Bases.{Numbered, numbered}
+use Rattle.mufom_place.specs.Facts.{◌or_else◌, first_some, is_unplaced, unplaced_at}
+use Rattle.mufom_meaning.specs.Facts.{LocateFact, placement}
+use Rattle.mufom_meaning.specs.Flat.{flat_sections}
+use Rattle.mufom_meaning.specs.LocateAnswer.{locate_answer}
+use Rattle.mufom_meaning.proofs.CallLaws.{modules_may_be_placed}
+use Rattle.mufom_text.specs.Fitting.{IsUnitCount}
+
+pub unit-count : (m : Parts) (plan : Plan) → IsValid m → IsUnitCount m.maus
+unit-count m plan valid =
+    let may = modules_may_be_placed m plan valid in
+    let low = may.addresses.least in
+    let high = may.addresses.most in
+    record { some = omega (arith, low); few = omega (arith, high) }
+
+-- what is unplaced is no misfit
+not-misfit : (listed : List (List ℕ)) (xs : List Numbered) (n : ℕ) (region : Option ℕ) → first_some (unplaced_at listed) xs ≡ Some (Misfit n region) → ⊥
+not-misfit listed [] n region e = absurd cc
+not-misfit listed (x ∷ xs) n region e = by_case (is_unplaced listed x.1) e (not-misfit listed xs n region) where
+  by_case : (b : Bool) → ((if b then Some (Unplaced x.0) else None) or_else first_some (unplaced_at listed) xs) ≡ Some (Misfit n region)
+      → (first_some (unplaced_at listed) xs ≡ Some (Misfit n region) → ⊥) → ⊥
+  by_case true h later = absurd cc
+  by_case false h later = later h
+
+first-of : (o more : Option PlaceRefusal) (rest : Option LocateFact) (q : PlaceRefusal) → o ≡ Some q
+    → (option_map placement (o or_else more) or_else rest) ≡ Some (placement q)
+first-of o more rest q e = ap (λ (p : Option PlaceRefusal). option_map placement (p or_else more) or_else rest) e
+
+same-placement : (q r : PlaceRefusal) → ◌≡◌ {A = Option LocateFact} (Some (placement q)) (Some (placement r)) → q ≡ r
+same-placement q r e = cc
+
+-- no section is unplaced if one is a misfit
+pub all-placed : (m : Parts) (plan : Plan) (n : ℕ) (region : Option ℕ) → locate_answer (m ∷ []) plan ≡ Some (placement (Misfit n region))
+    → first_some (unplaced_at (listed_names plan.regions)) (numbered m.sections) ≡ None
+unfolding locate_answer
+all-placed m plan n region h =
+    subst (λ (own : List Section). first_some (unplaced_at (listed_names plan.regions)) (numbered own) ≡ None) (append-nil m.sections)
+    (by_case (first_some (unplaced_at (listed_names plan.regions)) (numbered (flat_sections (m ∷ [])))) refl)
+  where
+    by_case : (o : Option PlaceRefusal) → first_some (unplaced_at (listed_names plan.regions)) (numbered (flat_sections (m ∷ []))) ≡ o
+        → first_some (unplaced_at (listed_names plan.regions)) (numbered (flat_sections (m ∷ []))) ≡ None
+    by_case None e = e
+    by_case (Some q) e =
+        let same : q ≡ Misfit n region = same-placement q (Misfit n region) (sym (first-of _ _ _ q e) ∙ h) in
+        absurd (not-misfit (listed_names plan.regions) (numbered (flat_sections (m ∷ []))) n region (e ∙ ap Some same))

@@ -1,0 +1,4 @@
+use Rattle.mufom_explain.proofs.modules.module_line.Goals as goal
+
+pub returns : goal.returns
+returns g c = let l = g.met.K.Output in l.joins _ _ _ _ _ c.module_text.ensures c.put.ensures

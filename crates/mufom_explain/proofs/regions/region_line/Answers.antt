@@ -1,0 +1,7 @@
+use Rattle.mufom_explain.proofs.regions.region_line.Goals as goal
+
+pub returns : goal.returns
+returns g c = let l = g.met.K.Output in
+    l.joins _ _ _ _ _ (l.joins _ _ _ _ _ c.counted.ensures (l.joins _ _ _ _ _ c.put.ensures
+    (l.joins _ _ _ _ _ (rw c.as_slice.ensures at c.quoted.ensures) (l.joins _ _ _ _ _ c.put-2.ensures (l.joins _ _ _ _ _ c.hex.ensures
+    (l.joins _ _ _ _ _ c.counted-2.ensures c.counted-3.ensures)))))) c.put-3.ensures

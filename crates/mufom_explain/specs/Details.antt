@@ -1,0 +1,135 @@
+-- The lines that follow an error line of linking or locating: what is behind each number and name in it.
+use Rattle.std.specs.Prelude.{ℕ, ◌-◌, List, [], ◌∷◌, ◌++◌, filter, find, flat_map, length, take, Option, Some, None, option_to_list, Bool, false, not, is_some, slice_get}
+use Rattle.std.specs.List.{enumerate_from}
+use Rattle.mufom_sections.specs.declared.section.Section.{Section}
+use Rattle.mufom_module.specs.declared.module.Parts.{Parts}
+use Rattle.mufom_plan.specs.declared.plan.Plan.{Plan}
+use Rattle.mufom_plan.specs.declared.plan.Region.{Region}
+use Rattle.mufom_plan.specs.Names.{has_name}
+use Rattle.mufom_place.specs.declared.refusal.PlaceRefusal.{PlaceRefusal}
+use Rattle.mufom_place.specs.declared.refusal.PlaceRefusal.TheVariants as place
+use Rattle.mufom_link.specs.declared.refusal.LinkRefusal.{LinkRefusal}
+use Rattle.mufom_link.specs.declared.refusal.LinkRefusal.TheVariants as link
+use Rattle.mufom_image.specs.declared.refusal.LocateRefusal.{LocateRefusal}
+use Rattle.mufom_image.specs.declared.refusal.LocateRefusal.TheVariants as locate
+use Rattle.mufom_meaning.specs.declared.located.Site.{Site}
+use Rattle.mufom_meaning.specs.declared.located.Site.TheVariants as site
+use Rattle.mufom_meaning.specs.Flat.{common_names, flat_sections, needs}
+use Rattle.mufom_meaning.specs.LinkAnswer.{same_descriptor}
+use Rattle.mufom_meaning.specs.Placed.{placed_commons}
+use Rattle.mufom_text.specs.Words.{Text}
+use Rattle.mufom_origins.specs.declared.origins.Origin.{Origin}
+use Rattle.mufom_origins.specs.Origins.{FileModule}
+use Rattle.mufom_explain.specs.Lines.{FileNames, common_lines, module_line, section_line}
+use Rattle.mufom_explain.specs.Mentions.{mention_text}
+use Rattle.mufom_explain.specs.Region.{region_line, taken_in}
+
+-- ---- linking
+
+-- lines of modules with their positions
+abbrev pub listed : FileNames → List (ℕ × FileModule) → Text
+listed names modules = flat_map (λ p. module_line names p.0 p.1) modules
+
+-- the module's descriptor is not that of the first
+abbrev pub differs_from : List FileModule → ℕ × FileModule → Bool
+differs_from [] p = false
+differs_from (first ∷ rest) p = not (same_descriptor first.1 p.1.1)
+
+abbrev pub has_start : ℕ × FileModule → Bool
+has_start p = is_some p.1.1.start
+
+-- the first module
+abbrev pub first_line : FileNames → List FileModule → Text
+first_line names flat = listed names (take 1 (enumerate_from 0 flat))
+
+-- the first module with another descriptor
+abbrev pub other_line : FileNames → List FileModule → Text
+other_line names flat = listed names (option_to_list (find (differs_from flat) (enumerate_from 0 flat)))
+
+-- both
+abbrev pub mismatch_lines : FileNames → List FileModule → Text
+mismatch_lines names flat = first_line names flat ++ other_line names flat
+
+-- the first two modules with a start
+abbrev pub start_lines : FileNames → List FileModule → Text
+start_lines names flat = listed names (take 2 (filter has_start (enumerate_from 0 flat)))
+
+-- What follows the line of a list of modules that is not linked.
+abbrev pub link_details : FileNames → List FileModule → LinkRefusal → Text
+link_details names flat (link.Mismatch first other) = mismatch_lines names flat
+link_details names flat (link.Duplicate name) = mention_text names flat (name ∷ [])
+link_details names flat link.DuplicateStart = start_lines names flat
+link_details names flat link.NoMemory = []
+
+-- ---- a name that is to be kept
+
+-- What follows the line of a name that no module defines: the modules that refer to it.
+abbrev pub name_details : FileNames → List FileModule → List ℕ → Text
+name_details names flat name = mention_text names flat (name ∷ [])
+
+-- ---- locating
+
+-- What a refusal to locate is explained by: the names of the files, the flat list, and what is located of it: the origins of its entries,
+-- how many units an address has, the modules, which are the list, its link or what is kept of that, and the plan.
+pub record Explained : Type 0 where
+  pub names : FileNames
+  pub flat : List FileModule
+  pub origins : List Origin
+  pub maus : ℕ
+  pub modules : List Parts
+  pub plan : Plan
+
+abbrev pub sections_of : Explained → List Section
+sections_of e = flat_sections e.modules
+
+abbrev pub commons_of : Explained → List Section
+commons_of e = placed_commons e.modules e.plan
+
+-- the section, or else the common, with a number
+abbrev pub numbered_lines : Explained → ℕ → Option Section → Option Section → Text
+numbered_lines e n (Some s) common = section_line e.maus e.names e.origins n s
+numbered_lines e n None (Some s) = common_lines e.names e.flat n s
+numbered_lines e n None None = []
+
+-- what is said of the section or common with a number; the commons are numbered after the sections
+abbrev pub entry_lines : Explained → ℕ → Text
+entry_lines e n = numbered_lines e n (slice_get (sections_of e) n) (slice_get (commons_of e) (n - length (sections_of e)))
+
+abbrev pub region_at : Explained → ℕ → Option Region → Text
+region_at e n None = []
+region_at e n (Some region) = region_line e.maus n region (taken_in e.plan (sections_of e) (commons_of e) n region)
+
+-- the line of the region with a number, if there is one
+abbrev pub region_lines : Explained → Option ℕ → Text
+region_lines e None = []
+region_lines e (Some n) = region_at e n (slice_get e.plan.regions n)
+
+abbrev pub placement_details : Explained → PlaceRefusal → Text
+placement_details e (place.Unplaced n) = entry_lines e n
+placement_details e (place.Misfit n region) = entry_lines e n ++ region_lines e region
+placement_details e (place.Overlap m n) = entry_lines e m ++ entry_lines e n
+placement_details e place.NoMemory = []
+
+abbrev pub site_details : Explained → Site → Text
+site_details e (site.Public name) = mention_text e.names e.flat (name ∷ [])
+site_details e (site.Counter n) = entry_lines e n
+site_details e (site.Field n address) = entry_lines e n
+site_details e site.Start = []
+site_details e (site.Debug n) = []
+
+-- the names that are needed and that neither a public nor a common has
+abbrev pub undefined_names : List Parts → List (List ℕ)
+undefined_names ms = filter (λ name. not (has_name (common_names ms) name)) (needs ms)
+
+-- What follows the line of modules that are not located. Of undefined names all are told.
+abbrev pub locate_details : Explained → LocateRefusal → Text
+locate_details e (locate.Place r) = placement_details e r
+locate_details e (locate.Undefined name) = mention_text e.names e.flat (undefined_names e.modules)
+locate_details e (locate.CommonUnplaced name) = mention_text e.names e.flat (name ∷ [])
+locate_details e (locate.Cycle name) = mention_text e.names e.flat (name ∷ [])
+locate_details e (locate.DivideByZero s) = site_details e s
+locate_details e (locate.Overflow n address kind size value) = entry_lines e n
+locate_details e (locate.LoadOutside n address) = entry_lines e n
+locate_details e (locate.LoadedTwice address) = []
+locate_details e (locate.ImageLimit count) = []
+locate_details e locate.NoMemory = []

@@ -1,0 +1,82 @@
+-- The lines that tell what the numbers of an error line are: a file, the plan, a module, a section or a common.
+use Rattle.std.specs.Prelude.{ℕ, List, [], ◌++◌, map, Option, Some, None, Bool, ◌&&◌, slice_get, slice_index_or, codes, if◌then◌else◌}
+use Rattle.std.specs.List.{list_any}
+use Rattle.std.specs.Str.{bytes_eq}
+use Rattle.mufom_sections.specs.declared.section.Section.{Section}
+use Rattle.mufom_names.specs.declared.name.Reference.{Reference}
+use Rattle.mufom_module.specs.declared.module.Parts.{Parts}
+use Rattle.mufom_meaning.specs.Flat.{is_common}
+use Rattle.mufom_text.specs.Words.{Text, each, line, quoted}
+use Rattle.mufom_origins.specs.declared.origins.Origin.{Origin}
+use Rattle.mufom_origins.specs.Origins.{FileModule}
+use Rattle.mufom_map.specs.Mapped.{module_in}
+use Rattle.mufom_map.specs.MapText.{counted, hex}
+
+-- ---- files
+
+-- the names of files, as they were given
+abbrev pub FileNames : Type 0
+FileNames = List (List ℕ)
+
+-- the name of the file with a number
+abbrev pub file_name : FileNames → ℕ → List ℕ
+file_name names n = slice_index_or names n []
+
+abbrev pub file_line : FileNames → ℕ → Text
+file_line names n = line (counted (codes "file ") n ++ (codes ": " ++ quoted (file_name names n)))
+
+abbrev pub plan_line : List ℕ → Text
+plan_line name = line (codes "plan: " ++ quoted name)
+
+-- ---- modules
+
+-- a module by its position in the flat list, with the number of its file and its name
+abbrev pub module_text : FileNames → ℕ → ℕ → List ℕ → Text
+module_text names j file name = counted (codes "module ") j ++ (codes " " ++ (quoted name ++ (counted (codes " file ") file
+    ++ (codes ": " ++ quoted (file_name names file)))))
+
+abbrev pub module_line : FileNames → ℕ → FileModule → Text
+module_line names j f = line (module_text names j f.0 f.1.name)
+
+-- ---- sections
+
+abbrev pub base_text : ℕ → Option ℕ → Text
+base_text maus None = []
+base_text maus (Some base) = codes " base " ++ hex maus base
+
+-- after a comma, the module with this position
+abbrev pub origin_text : FileNames → ℕ → Option Origin → Text
+origin_text names j None = []
+origin_text names j (Some o) = codes ", " ++ module_text names j o.file o.name
+
+-- the same, if there is a position
+abbrev pub place_text : FileNames → List Origin → Option ℕ → Text
+place_text names origins None = []
+place_text names origins (Some j) = origin_text names j (slice_get origins j)
+
+-- what a section or a common is, after a word and its number
+abbrev pub described : Text → ℕ → Section → Text
+described word n s = counted word n ++ (codes ": " ++ (quoted s.name ++ (counted (codes " size ") s.size ++ counted (codes " align ") s.align)))
+
+-- a section with its number, in a list of modules of these origins
+abbrev pub section_line : ℕ → FileNames → List Origin → ℕ → Section → Text
+section_line maus names origins n s = line (described (codes "section ") n s
+    ++ (base_text maus s.base ++ place_text names origins (module_in (map (λ (o : Origin). o.sections) origins) n)))
+
+-- ---- commons
+
+-- a weak reference of the name asks for room
+abbrev pub asks_by : List ℕ → Reference → Bool
+asks_by name r = is_common r && bytes_eq r.name name
+
+-- one of the module does
+abbrev pub asks_for : List ℕ → Parts → Bool
+asks_for name m = list_any (asks_by name) m.names.references
+
+abbrev pub asking_line : FileNames → List ℕ → ℕ → FileModule → Text
+asking_line names name j f = if asks_for name f.1 then codes "  " ++ module_line names j f else []
+
+-- a common with its number, and the modules of the flat list that ask for it
+abbrev pub common_lines : FileNames → List FileModule → ℕ → Section → Text
+common_lines names flat n s =
+    line (described (codes "common ") n s) ++ each (asking_line names s.name) flat

@@ -1,0 +1,30 @@
+-- How far the sections that a plan places in a region reach, and the line of that region. All numbers are exact.
+use Rattle.std.specs.Prelude.{ℕ, ◌+◌, ◌-◌, ◌==◌, max, List, [], ◌∷◌, ◌++◌, Option, Some, None, slice_get, codes, if◌then◌else◌}
+use Rattle.mufom_sections.specs.declared.section.Section.{Section}
+use Rattle.mufom_plan.specs.declared.plan.Plan.{Plan}
+use Rattle.mufom_plan.specs.declared.plan.Region.{Region}
+use Rattle.mufom_place.specs.declared.placing.Placing.{Placing}
+use Rattle.mufom_place.specs.Bases.{placings}
+use Rattle.mufom_text.specs.Words.{Text, line, quoted}
+use Rattle.mufom_map.specs.MapText.{counted, hex}
+
+abbrev pub size_of : Option Section → ℕ
+size_of None = 0
+size_of (Some s) = s.size
+
+-- where a section ends that the region with this position places, and 0 for one of another region
+abbrev pub end_in : List Section → ℕ → Placing → ℕ
+end_in all region p = if p.region == region then p.base + size_of (slice_get all p.section) else 0
+
+-- the greatest end of them
+abbrev pub greatest_end : List Section → ℕ → List Placing → ℕ
+greatest_end all region [] = 0
+greatest_end all region (p ∷ placed) = max (end_in all region p) (greatest_end all region placed)
+
+-- how far the sections and commons of a region reach above its base
+abbrev pub taken_in : Plan → (sections commons : List Section) → ℕ → Region → ℕ
+taken_in plan sections commons n region = greatest_end (sections ++ commons) n (placings plan sections commons) - region.base
+
+abbrev pub region_line : ℕ → ℕ → Region → ℕ → Text
+region_line maus n region taken = line (counted (codes "region ") n ++ (codes ": " ++ (quoted region.name ++ (codes " base " ++ (hex maus region.base
+    ++ (counted (codes " size ") region.size ++ counted (codes ", its sections take ") taken))))))

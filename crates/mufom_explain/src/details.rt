@@ -1,0 +1,78 @@
+//! The lines that follow an error line, as they were found.
+
+ghost use Rattle.std.specs.Prelude.{◌≡◌, ◌∷◌, []};
+ghost use Rattle.mufom_meaning.specs.Placed.{placed_commons};
+ghost use Rattle.mufom_text.specs.Fitting.{IsUnitCount};
+
+use crate::mentions::Mentions;
+use crate::modules::FlatModule;
+use mufom_module::Module;
+use mufom_numbers::{List, Text};
+use mufom_origins::Origins;
+use mufom_plan::Plan;
+use mufom_sections::Section;
+
+// Which lines are put.
+#[derive(Drop)]
+pub(crate) enum LinkKind<'a> {
+    // The first module, and the first with another descriptor.
+    Mismatch,
+    Mentions(Mentions<'a>),
+    // The first two modules with a start.
+    Starts,
+    Nothing,
+}
+
+/// The lines that follow the error line of a list of modules that is not linked.
+#[derive(Drop)]
+pub struct LinkDetails<'a> {
+    pub(crate) names: &'a [Text],
+    pub(crate) flat: &'a [FlatModule<'a>],
+    pub(crate) kind: LinkKind<'a>,
+}
+
+/// The lines that follow the error line of a name that is to be kept and that no module defines.
+#[derive(Drop)]
+pub struct NameDetails<'a> {
+    pub(crate) names: &'a [Text],
+    pub(crate) mentions: Mentions<'a>,
+}
+
+/// What the error of a module that is not located is explained by.
+#[derive(Clone, Copy)]
+pub struct LocateContext<'a> {
+    /// The names of the files, as they were given.
+    pub names: &'a [Text],
+    /// The modules of the flat list.
+    pub flat: &'a [FlatModule<'a>],
+    /// What is left of their origins in the module that is located.
+    pub origins: &'a Origins,
+    /// The module that is located: the link of the flat list, or what is left of it.
+    pub object: &'a Module,
+    pub plan: &'a Plan,
+}
+
+// Which lines are put. Sections and commons go by their numbers.
+#[derive(Drop)]
+pub(crate) enum LocateKind<'a> {
+    Entry(u32),
+    Entries(u32, u32),
+    // A section that does not fit, and its region, whose sections reach so far above its base.
+    Misfit {
+        section: u32,
+        region: u32,
+        taken: u128,
+    },
+    Mentions(Mentions<'a>),
+    Nothing,
+}
+
+/// The lines that follow the error line of a module that is not located.
+#[derive(Drop)]
+pub struct LocateDetails<'a> {
+    pub(crate) context: LocateContext<'a>,
+    pub(crate) commons: List<Section>,
+    pub(crate) kind: LocateKind<'a>,
+    ghost units: { IsUnitCount context.object.now.maus },
+    ghost commons_are: { commons ≡ placed_commons (context.object.now ∷ []) context.plan.now },
+}

@@ -1,0 +1,33 @@
+//! What an error line of linking or locating names, in words: the sections, modules and files behind its
+//! numbers, and the modules that define a name or refer to it.
+//!
+//! It depends on `mufom_link` and `mufom_image` for the errors, on `mufom_place` for the regions, on
+//! `mufom_origins` for the modules that sections come from, and on `mufom_text` and `mufom_map` for the
+//! words of texts. Its main clauses are those of [`explain_link`], [`explain_locate`] and [`explain_name`]: the lines that
+//! are put are exactly those that `link_details` and `locate_details` define.
+#![tactic(auto)]
+
+mod details;
+mod entries;
+mod finding;
+mod lines;
+mod link;
+mod locate;
+mod mention;
+mod mention_lines;
+mod mentions;
+mod modules;
+mod named;
+mod naming;
+mod regions;
+#[cfg(test)]
+mod tests;
+mod undefined;
+mod wanted;
+
+pub use details::{LinkDetails, LocateContext, LocateDetails, NameDetails};
+pub use lines::{file_line, plan_line};
+pub use link::explain_link;
+pub use locate::explain_locate;
+pub use modules::FlatModule;
+pub use named::explain_name;

@@ -1,0 +1,37 @@
+//! The lines of a file and of the plan.
+
+ghost use Rattle.std.specs.Prelude.{◌≡◌, ◌++◌};
+ghost use Rattle.mufom_explain.specs.Lines.{file_line, file_name, plan_line};
+
+use mufom_map::counted;
+use mufom_numbers::Text;
+use mufom_text::{Output, quoted};
+
+/// The name of the file with a number, as it was given; no bytes past the last file.
+pub(crate) fn file_name(names: &[Text], number: u32) -> &[u8]
+    ensures { result.now ≡ file_name names.now number }
+{
+    match names.get(number as usize) {
+        Some(name) => name.as_str().as_bytes(),
+        None => &[],
+    }
+}
+
+/// The line of the file with a number, of files with these names, as in `file 2: "b.695"`.
+pub fn file_line<K: Output>(out: &mut K, names: &[Text], number: u32)
+    ensures { K.takes out.old out.new (file_line names.now number) }
+{
+    counted(out, b"file ", number as u128);
+    out.put(b": ");
+    quoted(out, file_name(names, number));
+    out.put(b"\n");
+}
+
+/// The line of the plan, by the name of its file, as in `plan: "plan.toml"`.
+pub fn plan_line<K: Output>(out: &mut K, name: &Text)
+    ensures { K.takes out.old out.new (plan_line name.now) }
+{
+    out.put(b"plan: ");
+    quoted(out, name.as_str().as_bytes());
+    out.put(b"\n");
+}

@@ -1,0 +1,279 @@
+//! What the error of a module that is not located names.
+
+ghost use Rattle.std.specs.Prelude.{◌≡◌, ◌∷◌, ◌<◌, ◌^◌, [], Some, None, IfOk, length, slice_get};
+ghost use Rattle.mufom_text.specs.Fitting.{IsUnitCount};
+ghost use Rattle.mufom_image.specs.Placements.{IsSoundPlan};
+ghost use Rattle.mufom_image.specs.Refusals.{IsMet};
+ghost use Rattle.mufom_meaning.specs.Facts.{placement};
+ghost use Rattle.mufom_meaning.specs.LocateAnswer.{locate_answer};
+ghost use Rattle.mufom_place.specs.Bases.{numbered};
+ghost use Rattle.mufom_place.specs.Facts.{first_some, unplaced_at};
+ghost use Rattle.mufom_plan.specs.Names.{listed_names};
+ghost use Rattle.mufom_explain.specs.Details.{commons_of, entry_lines, locate_details, numbered_lines, placement_details, site_details};
+ghost use Rattle.mufom_explain.specs.Details.{undefined_names};
+ghost use Rattle.mufom_explain.specs.Explained.{explained_of, locate_lines, locate_text, taken_text};
+ghost use Rattle.mufom_explain.specs.Flat.{flat_of};
+ghost use Rattle.mufom_explain.specs.Mentions.{mention_text};
+
+use crate::details::{LocateContext, LocateDetails, LocateKind};
+use crate::entries::{common_lines, section_line};
+use crate::finding::find_mentions;
+use crate::naming::one_name;
+use crate::regions::{region_line, taken_in};
+use crate::undefined::undefined_names;
+use mufom_image::{LocateRefusal, Site, planned_commons};
+use mufom_image_values::resolve_references;
+use mufom_meaning::modules_may_be_placed;
+use mufom_numbers::{Bytes, NoMemory};
+use mufom_place::PlaceRefusal;
+use mufom_sections::Section;
+use mufom_text::{Lines, Output};
+use std::alloc::Global;
+
+// The lines of the common at a position, if there is one.
+fn common_at<K: Output>(
+    out: &mut K,
+    context: &LocateContext<'_>,
+    number: u32,
+    commons: &[Section],
+    position: usize,
+)
+    ensures { K.takes out.old out.new (numbered_lines (explained_of context.now) number None (slice_get commons.now position)) }
+{
+    match commons.get(position) {
+        Some(common) => common_lines(out, context.names, context.flat, number, common),
+        None => {}
+    }
+}
+
+// The line of the region with a number, whose sections reach so far, if there is one.
+fn region_at<K: Output>(
+    out: &mut K,
+    context: &LocateContext<'_>,
+    maus: u8,
+    number: u32,
+    taken: u128,
+)
+    requires units { IsUnitCount maus }
+    requires same { maus ≡ context.now.object.now.maus }
+    ensures { K.takes out.old out.new (taken_text (explained_of context.now) number taken) }
+{
+    match context.plan.regions.get(number as usize) {
+        Some(region) => region_line(out, maus, number, region, taken),
+        None => {}
+    }
+}
+
+impl<'a> LocateDetails<'a> {
+    // The lines of the section, or else of the common, with a number.
+    fn entry_lines<K: Output>(&self, out: &mut K, number: u32)
+        ensures { K.takes out.old out.new (entry_lines (explained_of self.now.context) number) }
+    {
+        let context = &self.context;
+        let parts = context.object.parts();
+        let sections = parts.sections.as_slice();
+        let position = number as usize;
+        if position < sections.len() {
+            let section = &sections[position];
+            section_line(
+                out,
+                parts.maus,
+                context.names,
+                context.origins,
+                number,
+                section,
+            );
+        } else {
+            let commons = self.commons.as_slice();
+            common_at(out, context, number, commons, position - sections.len());
+        }
+    }
+
+    // The line of a region whose sections reach so far.
+    fn region_line<K: Output>(&self, out: &mut K, number: u32, taken: u128)
+        ensures { K.takes out.old out.new (taken_text (explained_of self.now.context) number taken) }
+    {
+        let context = &self.context;
+        region_at(out, context, context.object.parts().maus, number, taken);
+    }
+}
+
+impl<'a> Lines for LocateDetails<'a> {
+    ghost use Rattle.mufom_explain.specs.Explained.{locate_text};
+
+    ghost text = { λ details. locate_text details };
+
+    fn put_lines<K: Output>(&self, out: &mut K) {
+        match &self.kind {
+            LocateKind::Entry(number) => self.entry_lines(out, *number),
+            LocateKind::Entries(first, second) => {
+                self.entry_lines(out, *first);
+                self.entry_lines(out, *second);
+            }
+            LocateKind::Misfit {
+                section,
+                region,
+                taken,
+            } => {
+                self.entry_lines(out, *section);
+                self.region_line(out, *region, *taken);
+            }
+            LocateKind::Mentions(mentions) => mentions.put(out, self.context.names),
+            LocateKind::Nothing => {}
+        }
+    }
+}
+
+// The lines of the modules that mention a name.
+fn about_name<'a>(
+    alloc: Global,
+    context: &LocateContext<'a>,
+    name: &'a Bytes,
+) -> Result<LocateKind<'a>, NoMemory>
+    requires { length context.now.flat.now < 2 ^ 32 }
+    ensures { IfOk result (λ kind. locate_lines (explained_of context.now) kind
+        ≡ mention_text context.now.names.now (flat_of context.now.flat.now) (name.now ∷ [])) }
+{
+    let wanted = one_name(alloc, name.as_slice())?;
+    Ok(LocateKind::Mentions(find_mentions(alloc, wanted, context.flat)?))
+}
+
+// The lines of the modules that mention an undefined name, for all of these names.
+fn about_undefined<'a>(
+    alloc: Global,
+    context: &LocateContext<'a>,
+) -> Result<LocateKind<'a>, NoMemory>
+    requires { length context.now.flat.now < 2 ^ 32 }
+    ensures { IfOk result (λ kind. locate_lines (explained_of context.now) kind
+        ≡ mention_text context.now.names.now (flat_of context.now.flat.now) (undefined_names (context.now.object.now ∷ []))) }
+{
+    let wanted = undefined_names(alloc, context.object)?;
+    Ok(LocateKind::Mentions(find_mentions(alloc, wanted, context.flat)?))
+}
+
+// The lines of a section that does not fit the region with a number.
+fn about_region<'a>(
+    alloc: Global,
+    context: &LocateContext<'a>,
+    commons: &[Section],
+    section: u32,
+    number: u32,
+) -> Result<LocateKind<'a>, NoMemory>
+    requires plan { IsSoundPlan context.now.plan.now }
+    requires commons { commons.now ≡ commons_of (explained_of context.now) }
+    requires placed { first_some (unplaced_at (listed_names context.now.plan.now.regions)) (numbered context.now.object.now.sections) ≡ None }
+    ensures { IfOk result (λ kind. locate_lines (explained_of context.now) kind
+        ≡ placement_details (explained_of context.now) (PlaceRefusal.Misfit section (Some number))) }
+{
+    modules_may_be_placed();
+    let Some(region) = context.plan.regions.get(number as usize) else {
+        return Ok(LocateKind::Entry(section));
+    };
+    let sections = context.object.parts().sections.as_slice();
+    let taken = taken_in(alloc, sections, commons, context.plan, number, region)?;
+    Ok(LocateKind::Misfit {
+        section,
+        region: number,
+        taken,
+    })
+}
+
+// Which lines an error in placing asks for.
+fn about_placement<'a>(
+    alloc: Global,
+    context: &LocateContext<'a>,
+    commons: &[Section],
+    refusal: PlaceRefusal,
+) -> Result<LocateKind<'a>, NoMemory>
+    requires plan { IsSoundPlan context.now.plan.now }
+    requires commons { commons.now ≡ commons_of (explained_of context.now) }
+    requires met { locate_answer (context.now.object.now ∷ []) context.now.plan.now ≡ Some (placement refusal) }
+    ensures { IfOk result (λ kind. locate_lines (explained_of context.now) kind ≡ placement_details (explained_of context.now) refusal) }
+{
+    match refusal {
+        PlaceRefusal::Unplaced(number) => Ok(LocateKind::Entry(number)),
+        PlaceRefusal::Misfit {
+            section,
+            region: Some(region),
+        } => about_region(alloc, context, commons, section, region),
+        PlaceRefusal::Misfit {
+            section,
+            region: None,
+        } => Ok(LocateKind::Entry(section)),
+        PlaceRefusal::Overlap(first, second) => Ok(LocateKind::Entries(first, second)),
+        PlaceRefusal::NoMemory => Ok(LocateKind::Nothing),
+    }
+}
+
+// Which lines the place of an expression asks for.
+fn about_site<'a>(
+    alloc: Global,
+    context: &LocateContext<'a>,
+    site: &'a Site,
+) -> Result<LocateKind<'a>, NoMemory>
+    requires { length context.now.flat.now < 2 ^ 32 }
+    ensures { IfOk result (λ kind. locate_lines (explained_of context.now) kind ≡ site_details (explained_of context.now) site.now) }
+{
+    match site {
+        Site::Public(name) => about_name(alloc, context, name),
+        Site::Counter(number) => Ok(LocateKind::Entry(*number)),
+        Site::Field { section, .. } => Ok(LocateKind::Entry(*section)),
+        Site::Start => Ok(LocateKind::Nothing),
+        Site::Debug(_) => Ok(LocateKind::Nothing),
+    }
+}
+
+// Which lines an error asks for.
+fn about<'a>(
+    alloc: Global,
+    context: &LocateContext<'a>,
+    commons: &[Section],
+    refusal: &'a LocateRefusal,
+) -> Result<LocateKind<'a>, NoMemory>
+    requires flat { length context.now.flat.now < 2 ^ 32 }
+    requires plan { IsSoundPlan context.now.plan.now }
+    requires commons { commons.now ≡ commons_of (explained_of context.now) }
+    requires met { IsMet (locate_answer (context.now.object.now ∷ []) context.now.plan.now) refusal.now }
+    ensures { IfOk result (λ kind. locate_lines (explained_of context.now) kind ≡ locate_details (explained_of context.now) refusal.now) }
+{
+    match refusal {
+        LocateRefusal::Place(refusal) => about_placement(alloc, context, commons, *refusal),
+        LocateRefusal::Undefined(_) => about_undefined(alloc, context),
+        LocateRefusal::CommonUnplaced(name) => about_name(alloc, context, name),
+        LocateRefusal::Cycle(name) => about_name(alloc, context, name),
+        LocateRefusal::DivideByZero(site) => about_site(alloc, context, site),
+        LocateRefusal::Overflow { section, .. } => Ok(LocateKind::Entry(*section)),
+        LocateRefusal::LoadOutside { section, .. } => Ok(LocateKind::Entry(*section)),
+        LocateRefusal::LoadedTwice(_) => Ok(LocateKind::Nothing),
+        LocateRefusal::ImageLimit(_) => Ok(LocateKind::Nothing),
+        LocateRefusal::NoMemory => Ok(LocateKind::Nothing),
+    }
+}
+
+/// The lines that follow the error line of a module that is not located: the sections and commons that it
+/// names, with the modules that they come from, a region with how far its sections reach, or all modules
+/// that mention the names; of undefined names all are told.
+///
+/// The error is the one with which the module is not located by the plan. Time is proportional to the
+/// names of the modules, the sections and the plan, and memory to the mentions and the sections. The only
+/// error is out of memory.
+pub fn explain_locate<'a>(
+    alloc: Global,
+    context: LocateContext<'a>,
+    refusal: &'a LocateRefusal,
+) -> Result<LocateDetails<'a>, NoMemory>
+    requires flat { length context.flat.now < 2 ^ 32 }
+    requires plan { IsSoundPlan context.plan.now }
+    requires met { IsMet (locate_answer (context.object.now ∷ []) context.plan.now) refusal.now }
+    ensures { IfOk result (λ details. locate_text details ≡ locate_details (explained_of context.entry) refusal.now) }
+{
+    let resolutions = resolve_references(alloc, context.object)?;
+    let commons = planned_commons(alloc, context.object, resolutions.as_slice(), context.plan)?;
+    let kind = about(alloc, &context, commons.as_slice(), refusal)?;
+    let _ = context.object.parts();
+    Ok(LocateDetails {
+        context,
+        commons,
+        kind,
+    })
+}

@@ -1,0 +1,41 @@
+//! What a name that is to be kept and that no module defines is explained by.
+
+ghost use Rattle.std.specs.Prelude.{◌≡◌, ◌<◌, ◌^◌, IfOk, length};
+ghost use Rattle.mufom_explain.specs.Details.{name_details};
+ghost use Rattle.mufom_explain.specs.Explained.{name_text};
+ghost use Rattle.mufom_explain.specs.Flat.{flat_of};
+
+use crate::details::NameDetails;
+use crate::finding::find_mentions;
+use crate::modules::FlatModule;
+use crate::naming::one_name;
+use mufom_numbers::{NoMemory, Text};
+use mufom_text::{Lines, Output};
+use std::alloc::Global;
+
+impl<'a> Lines for NameDetails<'a> {
+    ghost use Rattle.mufom_explain.specs.Explained.{name_text};
+
+    ghost text = { λ details. name_text details };
+
+    fn put_lines<K: Output>(&self, out: &mut K) {
+        self.mentions.put(out, self.names);
+    }
+}
+
+/// The lines that follow the error line of a name that is to be kept and that no module of the flat list
+/// defines: the modules that refer to it. `names` are the names of the files, as they were given. Time is
+/// proportional to the names of the modules, and memory to the mentions. The only error is out of memory.
+pub fn explain_name<'a>(
+    alloc: Global,
+    names: &'a [Text],
+    flat: &'a [FlatModule<'a>],
+    name: &'a [u8],
+) -> Result<NameDetails<'a>, NoMemory>
+    requires { length flat.now < 2 ^ 32 }
+    ensures { IfOk result (λ details. name_text details ≡ name_details names.now (flat_of flat.now) name.now) }
+{
+    let wanted = one_name(alloc, name)?;
+    let mentions = find_mentions(alloc, wanted, flat)?;
+    Ok(NameDetails { names, mentions })
+}

@@ -1,0 +1,201 @@
+//! What is printed of a common that does not fit its region, and of undefined names.
+
+ghost use Rattle.std.specs.Prelude.{◌∷◌, []};
+ghost use Rattle.mufom_image.specs.Placements.{IsSoundPlan};
+ghost use Rattle.mufom_image.specs.Refusals.{IsMet};
+ghost use Rattle.mufom_meaning.specs.LocateAnswer.{locate_answer};
+
+use crate::{FlatModule, LocateContext, explain_locate};
+use mufom_host::MemHost;
+use mufom_image::{LocateRefusal, locate};
+use mufom_module::{Module, Order, Parts, assemble};
+use mufom_names::{Reference, Weak};
+use mufom_numbers::{Bytes, List, Text};
+use mufom_origins::Origins;
+use mufom_plan::{Plan, read_plan};
+use mufom_sections::Section;
+use mufom_text::print_lines;
+use std::alloc::Global;
+use std::process::Abort;
+
+const PLAN: &[u8] = b"\
+[[region]]
+name = \"ram\"
+base = 256
+size = 13
+sections = [\"t\"]
+common = true
+";
+
+const MISFIT: &str = "\
+    common 2: \"c\" size 6 align 8\n\
+    \x20 module 0 \"a\" file 0: \"a.695\"\n\
+    \x20 module 1 \"b\" file 1: \"b.695\"\n\
+    region 0: \"ram\" base 00000100 size 13, its sections take 14\n\
+    ";
+
+const UNDEFINED: &str = "\
+    \"z\": reference in module 0\n\
+    \"z\": reference in module 1\n\
+    \"y\": reference in module 0\n\
+    \"y\": reference in module 1\n\
+    module 0 \"a\" file 0: \"a.695\"\n\
+    module 1 \"b\" file 1: \"b.695\"\n\
+    ";
+
+fn bytes(rt: &impl Abort, alloc: Global, text: &[u8]) -> Bytes {
+    Bytes::from_slice(alloc, text).expect(rt, "memory")
+}
+
+// A reference that asks for room if its size is above 0, and is strong if it has none.
+fn reference(rt: &impl Abort, alloc: Global, name: &[u8], size: Option<u64>) -> Reference {
+    let weak = match size {
+        Some(size) => Some(Weak { size, default: 0 }),
+        None => None,
+    };
+    Reference {
+        name: bytes(rt, alloc, name),
+        weak,
+        notes: List::new(alloc),
+    }
+}
+
+fn section(rt: &impl Abort, alloc: Global) -> Section {
+    Section {
+        name: bytes(rt, alloc, b"t"),
+        absolute: false,
+        purpose: None,
+        size: 4,
+        align: 4,
+        base: None,
+    }
+}
+
+// A module of this name with a section `t` of four units.
+fn parts(rt: &impl Abort, alloc: Global, name: &[u8]) -> Parts {
+    let mut parts = Parts::new(alloc, 4, Order::Most);
+    parts.name = bytes(rt, alloc, name);
+    let section = section(rt, alloc);
+    parts.sections.push(section).expect(rt, "memory");
+    parts
+}
+
+// The same with these references.
+fn module(
+    rt: &impl Abort,
+    alloc: Global,
+    name: &[u8],
+    references: &[(&[u8], Option<u64>)],
+) -> Module {
+    let mut parts = parts(rt, alloc, name);
+    for row in references {
+        let entry = reference(rt, alloc, row.0, row.1);
+        parts.names.references.push(entry).expect(rt, "memory");
+    }
+    assemble(parts).ok().expect(rt, "a module")
+}
+
+// The names of the files of modules `a` and `b`.
+fn files(rt: &impl Abort, alloc: Global) -> Vec<Text> {
+    let mut names = Vec::new(alloc);
+    for name in ["a.695", "b.695"] {
+        let text = Text::from_str(alloc, name).expect(rt, "memory");
+        names.push(text).expect(rt, "memory");
+    }
+    names
+}
+
+// The error of a module that is not located by a plan.
+fn refusal(rt: &impl Abort, alloc: Global, object: &Module, plan: &Plan) -> LocateRefusal
+    requires { IsSoundPlan plan.now }
+    ensures { IsMet (locate_answer («object».now ∷ []) plan.now) result }
+{
+    let names = &object.parts().names;
+    assert!(rt; names.publics.len() < 1 << 32);
+    let None = names.duplicate() else {
+        panic!(rt; "a name occurs twice");
+    };
+    match locate(alloc, object, plan) {
+        Ok(_) => panic!(rt; "it is located"),
+        Err(refusal) => refusal,
+    }
+}
+
+// What is printed of the error of a module by a plan, which is the link of modules.
+fn explains(
+    rt: &impl Abort,
+    alloc: Global,
+    modules: &[Module],
+    object: &Module,
+    plan: &[u8],
+    lines: &str,
+) {
+    let plan = read_plan(alloc, plan).expect(rt, "a plan");
+    assert!(rt; modules.len() < 1 << 32);
+    let origins = Origins::of(alloc, modules).expect(rt, "memory");
+    let mut flat = Vec::new(alloc);
+    for position in 0..modules.len() {
+        let module = FlatModule {
+            file: position as u32,
+            parts: modules[position].parts(),
+        };
+        flat.push(module).expect(rt, "memory");
+    }
+    let names = files(rt, alloc);
+    let refusal = refusal(rt, alloc, object, &plan);
+    assert!(rt; flat.len() < 1 << 32);
+    let context = LocateContext {
+        names: &names,
+        flat: &flat,
+        origins: &origins,
+        object,
+        plan: &plan,
+    };
+    let details = explain_locate(alloc, context, &refusal).expect(rt, "memory");
+    let (reads, writes) = (List::new(alloc), List::new(alloc));
+    let host = MemHost::new(alloc, List::new(alloc), reads, writes, 4096);
+    let mut host = host.expect(rt, "memory");
+    assert!(rt; print_lines(alloc, &mut host, &details).is_ok());
+    assert_eq!(rt; host.out(), lines.as_bytes());
+}
+
+// The module with a section of each of two modules, and with these references.
+fn object(rt: &impl Abort, alloc: Global, references: &[(&[u8], Option<u64>)]) -> Module {
+    let mut parts = parts(rt, alloc, b"a");
+    let section = section(rt, alloc);
+    parts.sections.push(section).expect(rt, "memory");
+    for row in references {
+        let entry = reference(rt, alloc, row.0, row.1);
+        parts.names.references.push(entry).expect(rt, "memory");
+    }
+    assemble(parts).ok().expect(rt, "a module")
+}
+
+#[test]
+fn a_common_does_not_fit(rt: HostRuntime) {
+    let alloc = rt.alloc();
+    let mut modules = Vec::new(alloc);
+    modules
+        .push(module(&rt, alloc, b"a", &[(b"c", Some(4))]))
+        .expect(&rt, "memory");
+    modules
+        .push(module(&rt, alloc, b"b", &[(b"c", Some(6))]))
+        .expect(&rt, "memory");
+    let object = object(&rt, alloc, &[(b"c", Some(4)), (b"c", Some(6))]);
+    explains(&rt, alloc, &modules, &object, PLAN, MISFIT);
+}
+
+#[test]
+fn names_are_undefined(rt: HostRuntime) {
+    let alloc = rt.alloc();
+    let mut modules = Vec::new(alloc);
+    modules
+        .push(module(&rt, alloc, b"a", &[(b"y", Some(0)), (b"z", None)]))
+        .expect(&rt, "memory");
+    modules
+        .push(module(&rt, alloc, b"b", &[(b"z", None), (b"y", None)]))
+        .expect(&rt, "memory");
+    let references: [(&[u8], Option<u64>); 3] = [(b"y", Some(0)), (b"z", None), (b"y", None)];
+    let object = object(&rt, alloc, &references);
+    explains(&rt, alloc, &modules, &object, PLAN, UNDEFINED);
+}
