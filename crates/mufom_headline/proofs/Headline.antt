@@ -244,7 +244,7 @@ raw-limit c = record {
 }
 
 pub the-headline : TheHeadline
-the-headline words files call result c plan flat is calm named locating accepts = by c.verb refl locating where
+the-headline words files call result c plan flat is calm named locates accepts = by c.verb refl locates where
   bytes : HoldBytes files
   bytes = of-files call files calm.known HoldBytes calm.revealed.bytes
 
