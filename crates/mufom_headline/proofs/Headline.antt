@@ -1,5 +1,5 @@
 -- The result of a command that locates is that of locating the flat list, and each list from which that was linked in stages.
-use Rattle.std.proofs.Common.{◌≡◌, ◌⊎◌, ◌<◌, ◌≤◌, ℕ, Bool, false, true, nat_lt, List, length, Option, Some, None, Result, refl, sym, ap, subst, ◌∙◌}
+use Rattle.std.proofs.Common.{◌≡◌, ◌⊎◌, ◌<◌, ◌≤◌, Bool, false, true, nat_lt, List, length, Option, Some, None, Result, refl, sym, ap, subst, ◌∙◌}
 use Rattle.std.proofs.Common.{arith, inl, inr}
 use Rattle.std.proofs.lemmas.Bool.{lt-ltb, ltb-false}
 use Rattle.mufom_numbers.specs.declared.limits.TheConstants.{MOST_FILE_BYTES}
@@ -28,7 +28,6 @@ use Rattle.mufom_groups.proofs.Works.{value-same}
 use Rattle.mufom_command.specs.declared.outcome.Outcome.{Outcome}
 use Rattle.mufom_command.specs.declared.outcome.Outcome.TheVariants as outcome
 use Rattle.mufom_command.specs.Stop.{Stop, locate_fact, raw_too_long}
-use Rattle.mufom_origins.specs.declared.origins.Origin.{Origin}
 use Rattle.mufom_origins.specs.Origins.{FileModule, origins_of}
 use Rattle.mufom_command.specs.Commands.{Kept, Output, absolute_file, kept_of, linking, linking_of, located, located_unless, locating, locating_kept}
 use Rattle.mufom_command.specs.Commands.{map_with, maus_of, printed_hit, printed_image, printed_map, raw_file, txt_file}
