@@ -25,7 +25,7 @@ use Rattle.mufom_command.proofs.StageLaws.{means-same, put_out-alike}
 use Rattle.mufom_headline.specs.Linking.{HasLinked, IsLinkPutOut, LinksArePutOut}
 use Rattle.mufom_command.proofs.Calm.{answers-for, done-comes}
 use Rattle.mufom_command.proofs.Accepted.{accepted-gives}
-use Rattle.mufom_headline.specs.ReadBack.{IsPutInFile}
+use Rattle.mufom_headline.specs.ReadBack.{IsPutInFile, MakesOutFile}
 use Rattle.mufom_headline.proofs.Linking.{linking-is-done}
 use Rattle.mufom_headline.proofs.ReadBack.{held-read-back}
 
@@ -48,17 +48,16 @@ flat-valid files c plan flat accepts =
 
 -- ---- what is put out
 
--- a module that was written is in the file that the command names
-pub file-made : (c : Command) (call : Call) (m : Parts) (o : Output) → writes_module c.out m (gives o) → PutsOut o call → IsPutInFile c m call
-file-made c call m o (held, is) puts = by c.out refl is where
-  by : (out : Option (List ℕ)) → c.out ≡ out → writes out (written m) (gives o) → IsPutInFile c m call
+-- bytes that were written are in the file that the command names
+pub bytes-made : (c : Command) (call : Call) (bytes : List ℕ) (o : Output) → writes c.out bytes (gives o) → PutsOut o call → MakesOutFile c bytes call
+bytes-made c call bytes o is puts = by c.out refl is where
+  by : (out : Option (List ℕ)) → c.out ≡ out → writes out bytes (gives o) → MakesOutFile c bytes call
   by None same none = absurd none
-  by (Some name) same put = record {
-    name = name;
-    file = same;
-    puts_out = subst (λ (o : Output). PutsOut o call) put puts;
-    read_back = held-read-back m held;
-  }
+  by (Some name) same put = record { name = name; file = same; puts_out = subst (λ (o : Output). PutsOut o call) put puts }
+
+-- and so is a module that was written
+pub file-made : (c : Command) (call : Call) (m : Parts) (o : Output) → writes_module c.out m (gives o) → PutsOut o call → IsPutInFile c m call
+file-made c call m o (held, is) puts = record { made = bytes-made c call (written m) o is puts; read_back = held-read-back m held }
 
 module _ (c : Command) (plan : Plan) (list : List Parts) (valid : AreValid list) (call : Call) where
   link-put-out : (o : Output) → linked_file c plan list (gives o) → PutsOut o call → IsLinkPutOut c list call

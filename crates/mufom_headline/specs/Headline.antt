@@ -1,5 +1,6 @@
--- What a run of `locate`, `dump` or `map` results in: the main law of the program. It can be read alone, with the definitions that it names.
-use Rattle.std.specs.Prelude.{◌≡◌, ◌↔◌, ◌⊎◌, ℕ, List, [], ◌∷◌, Some, None, Ok}
+-- What a run of a command that locates results in: the main law of the program. It can be read alone, with the definitions that it names.
+use Rattle.std.specs.Prelude.{◌≡◌, ◌↔◌, ◌<◌, ℕ, List, [], ◌∷◌, length, Some, None, Ok}
+use Rattle.mufom_numbers.specs.declared.limits.TheConstants.{MOST_FILE_BYTES}
 use Rattle.mufom_host.specs.World.{NamedFile}
 use Rattle.mufom_words.specs.declared.command.Command.{Command}
 use Rattle.mufom_words.specs.declared.command.Verb.{Verb}
@@ -15,6 +16,9 @@ use Rattle.mufom_meaning.specs.Facts.{LocateFact}
 use Rattle.mufom_meaning.specs.LinkAnswer.{link_answer}
 use Rattle.mufom_meaning.specs.LocateAnswer.{locate_answer}
 use Rattle.mufom_meaning.specs.Location.{IsLocation}
+use Rattle.mufom_write.specs.Raw.{raw_image}
+use Rattle.mufom_addr.specs.AddressHit.{hit_at}
+use Rattle.mufom_titxt.specs.Written.{txt_text}
 use Rattle.mufom_groups.specs.Work.{gives}
 use Rattle.mufom_origins.specs.declared.origins.Origin.{Origin}
 use Rattle.mufom_origins.specs.Origins.{FileModule, origins_of}
@@ -26,16 +30,21 @@ use Rattle.mufom_command.specs.LocateRefusals.{locate_refusal}
 use Rattle.mufom_command.specs.Commands.{Kept, kept_of, mapped_kept, maus_of}
 use Rattle.mufom_command.specs.FlatFiles.{AreFlatFiles}
 use Rattle.mufom_command.specs.Run.{Call, Answers, PrintsText}
-use Rattle.mufom_command.specs.RunLaws.{Accepts, CameByStages, HasNoFact, IsUndisturbed}
-use Rattle.mufom_headline.specs.ReadBack.{IsPutInFile}
+use Rattle.mufom_command.specs.RunLaws.{Accepts, CameByStages, HasNoFact, IsLocating, IsUndisturbed, MayPutOut}
+use Rattle.mufom_command.specs.Text.{hit_text}
+use Rattle.mufom_headline.specs.ReadBack.{IsPutInFile, MakesOutFile}
 
 -- The output of a run is this location of what is kept, and nothing else. `locate` makes the file of the location's absolute module, from
--- which a later run reads that module; `dump` prints the text of its image; `map` prints the text that tells which sections and symbols are
--- at which addresses, and from which module each comes. `origins` are the names of these modules, their files, and how many entries they
--- have.
+-- which a later run reads that module; `bin` makes the file of its raw image, and `txt` the file of its TI-TXT text. `dump` prints the text
+-- of its image; `addr` prints the lines of the function and the source line at the address of its arguments; `map` prints the text that tells
+-- which sections and symbols are at which addresses, and from which module each comes. `origins` are the names of these modules, their
+-- files, and how many entries they have.
 abbrev pub PutsOutLocation : Verb → Command → List Origin → Plan → Kept → LocatedParts → Call → Type 0
 PutsOutLocation verb.Locate c origins plan kept r call = IsPutInFile c (absolute_of r) call
+PutsOutLocation verb.Bin c origins plan kept r call = MakesOutFile c (raw_image c.fill r.runs) call
+PutsOutLocation verb.Txt c origins plan kept r call = MakesOutFile c (txt_text r.runs) call
 PutsOutLocation verb.Dump c origins plan kept r call = PrintsText (image_text r) call
+PutsOutLocation verb.Addr c origins plan kept r call = PrintsText (hit_text r.maus (hit_at r.debug c.at)) call
 PutsOutLocation verb.Map c origins plan kept r call = PrintsText (map_text (mapped_kept origins plan kept r)) call
 PutsOutLocation _ c origins plan kept r call = ⊥
 
@@ -54,14 +63,22 @@ pub record IsPutOut (c : Command) (origins : List Origin) (plan : Plan) (list : 
   pub itself : IsLocation (absolute_of location ∷ []) no_regions location
   pub puts_out : PutsOutLocation c.verb c origins plan kept location call
 
--- The result of the run is that of locating this list. It is `Done` if and only if the list can be linked and what is kept of it can be
--- located; the output is then the location. A list that can be linked, and of which what is kept cannot be located, is refused with the
--- first error of locating it.
+-- The raw image that `bin` would make of the list is not too long for a file. The other commands have no such limit: of them this is always
+-- true.
+abbrev pub IsNotTooLong : Command → Plan → List Parts → Type 0
+IsNotTooLong c plan list = (kept : Kept) (r : LocatedParts) → kept_of c.keep list (gives kept) → IsLocation kept.modules plan r → MayPutOut c.verb c r
+
+-- The result of the run is that of locating this list. It is `Done` if and only if the list can be linked, what is kept of it can be located,
+-- and the raw image of `bin` is not too long; the output is then the location. A list that can be linked, and of which what is kept cannot be
+-- located, is refused with the first error of locating it. A raw image that is too long is refused with its length in bytes.
 pub record HasLocated (c : Command) (origins : List Origin) (plan : Plan) (call : Call) (result : Outcome) (list : List Parts) : Type 0 where
-  pub done : (result ≡ outcome.Done) ↔ HasNoFact c.keep list plan
+  pub done : (result ≡ outcome.Done) ↔ (HasNoFact c.keep list plan × IsNotTooLong c plan list)
   pub output : result ≡ outcome.Done → IsPutOut c origins plan list call
   pub refused : (kept : Kept) (f : LocateFact) → link_answer list ≡ None → kept_of c.keep list (gives kept)
       → locate_answer kept.modules plan ≡ Some f → result ≡ outcome.Refused (refusal.Locate (locate_refusal f) (maus_of kept.modules))
+  pub too_long : (kept : Kept) (r : LocatedParts) → link_answer list ≡ None → kept_of c.keep list (gives kept) → IsLocation kept.modules plan r
+      → c.verb ≡ verb.Bin → MOST_FILE_BYTES < length (raw_image c.fill r.runs)
+      → result ≡ outcome.Refused (refusal.Bin (length (raw_image c.fill r.runs)))
 
 -- The result of the run is that of locating the flat list of its modules. If earlier runs made these modules from another list by partial
 -- links, in any number of stages, it is also the result of locating that list.
@@ -75,10 +92,11 @@ pub record LocatesAll (c : Command) (plan : Plan) (call : Call) (result : Outcom
   pub staged : (leaves : List Parts) → CameByStages flat leaves → HasLocated c (origins_of files) plan call result leaves
 
 -- For all arguments, files and plans: if no I/O call failed, the run did not run out of memory, and the plan and the files were accepted,
--- then `locate`, `dump` and `map` locate the flat list of the modules, and each list from which that was linked in stages.
+-- then `locate`, `bin`, `txt`, `dump`, `addr` and `map` locate the flat list of the modules, and each list from which that was linked in
+-- stages.
 abbrev pub TheHeadline : Type 0
 TheHeadline =
     (words : List (List ℕ)) (files : List NamedFile) (call : Call) (result : Outcome) (c : Command) (plan : Plan) (flat : List Parts)
     → Answers words call result → IsUndisturbed files call result
-    → answer_of words ≡ Ok c → (c.verb ≡ verb.Locate) ⊎ ((c.verb ≡ verb.Dump) ⊎ (c.verb ≡ verb.Map)) → (accepts : Accepts files c plan flat)
+    → answer_of words ≡ Ok c → IsLocating c.verb → (accepts : Accepts files c plan flat)
     → LocatesAll c plan call result accepts.modules flat

@@ -27,10 +27,13 @@ pub record IsReadBack (m : Parts) : Type 0 where
 abbrev pub WrittenFilesAreReadBack : Type 0
 WrittenFilesAreReadBack = (m : Parts) → IsValid m → IsMade m → length (written m) ≤ MOST_FILE_BYTES → IsReadBack m
 
--- The output of a run is one file and nothing else. It has the name of `-o` and the bytes of the module, and a later run reads this module
--- from it, if it is not too long.
-pub record IsPutInFile (c : Command) (m : Parts) (call : Call) : Type 0 where
+-- The output of a run is one file and nothing else. It has the name of `-o` and these bytes.
+pub record MakesOutFile (c : Command) (bytes : List ℕ) (call : Call) : Type 0 where
   pub name : List ℕ
   pub file : c.out ≡ Some name
-  pub puts_out : MakesFile name (written m) call
+  pub puts_out : MakesFile name bytes call
+
+-- The output of a run is such a file with the bytes of the module, and a later run reads this module from it, if it is not too long.
+pub record IsPutInFile (c : Command) (m : Parts) (call : Call) : Type 0 where
+  pub made : MakesOutFile c (written m) call
   pub read_back : length (written m) ≤ MOST_FILE_BYTES → IsReadBack m
