@@ -1,5 +1,5 @@
 -- A run comes to one end at most, since each of its parts does.
-use Rattle.std.proofs.Common.{◌≡◌, ◌⊎◌, ℕ, ◌*◌, List, ◌∷◌, Option, Some, None, Result, Ok, Err, IfSome, not, Bool, cond, false, true, nat_lt, length}
+use Rattle.std.proofs.Common.{◌≡◌, ◌⊎◌, ℕ, ◌*◌, List, ◌∷◌, Option, Some, None, Result, Ok, Err, IfSome, not, Bool, false, true, nat_lt, length}
 use Rattle.std.proofs.Common.{unwrap_or, [], refl, sym, ap, subst, ◌∙◌, flat_map, inl, inr}
 use Rattle.mufom_host.specs.World.{HoldBytes, NamedFile, file_named}
 use Rattle.mufom_words.specs.declared.command.Command.{Command}

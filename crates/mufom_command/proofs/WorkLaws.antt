@@ -1,5 +1,5 @@
 -- What the work of a command comes to, from what its inputs and their modules come to.
-use Rattle.std.proofs.Common.{◌≡◌, ◌≤◌, ◌<◌, ℕ, Bool, cond, false, true, nat_lt, arith, rules, length, List, Option, Some, None, refl, sym, ap, subst, inl, inr}
+use Rattle.std.proofs.Common.{◌≡◌, ◌≤◌, ◌<◌, ℕ, Bool, false, true, nat_lt, arith, rules, length, List, Option, Some, None, refl, sym, ap, subst, inl, inr}
 use Rattle.std.proofs.lemmas.Bool.{ltb-true}
 use Rattle.mufom_numbers.specs.declared.limits.TheConstants.{MOST_FILE_BYTES}
 use Rattle.mufom_write.specs.Raw.{raw_image}
@@ -14,7 +14,7 @@ use Rattle.mufom_words.specs.declared.command.Verb.TheVariants as verb
 use Rattle.mufom_command.specs.RunLaws.{IsLocating}
 use Rattle.mufom_words.specs.Tree.{tree_of}
 use Rattle.mufom_groups.specs.Linked.{linked, linked_module}
-use Rattle.mufom_groups.specs.Work.{Work, gives, stop_at, stops, with_stops}
+use Rattle.mufom_groups.specs.Work.{Work, gives, stops, with_stops}
 use Rattle.mufom_command.specs.Stop.{Stop, link_fact, raw_too_long}
 use Rattle.mufom_command.specs.Commands.{IsHeld, Kept, Output, kept_of, printed, made, writes, writes_module, plan_in, modules_in, linked_file, located}
 use Rattle.mufom_command.specs.Commands.{absolute_file, locating, locating_kept, printed_hit}
