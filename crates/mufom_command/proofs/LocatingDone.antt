@@ -59,7 +59,7 @@ pub module-never : (name : Option (List ℕ)) (m : Parts) (s : Stop) → writes_
 module-never name m s (held, is) = writes-never name (written m) s is
 
 -- a raw image that has not too many bytes
-raw-never : (c : Command) (r : LocatedParts) → length (raw_image c.fill r.runs) ≤ MOST_FILE_BYTES → (s : Stop) → raw_file c r (stops s) → ⊥
+pub raw-never : (c : Command) (r : LocatedParts) → length (raw_image c.fill r.runs) ≤ MOST_FILE_BYTES → (s : Stop) → raw_file c r (stops s) → ⊥
 raw-never c r few s = by (nat_lt MOST_FILE_BYTES (length (raw_image c.fill r.runs))) refl where
   by : (b : Bool) → nat_lt MOST_FILE_BYTES (length (raw_image c.fill r.runs)) ≡ b → unless_too_long b c.out (raw_image c.fill r.runs) (stops s) → ⊥
   by true is ends = absurd (omega (arith, few, ltb-true MOST_FILE_BYTES (length (raw_image c.fill r.runs)) is))

@@ -20,7 +20,6 @@ use Rattle.mufom_meaning.specs.Location.{IsLocation}
 use Rattle.mufom_meaning.specs.Staging.{AreValid}
 use Rattle.mufom_meaning.proofs.absolute.Located.{absolute_is_located_as_itself}
 use Rattle.mufom_meaning.proofs.locations.Single.{location_is_single}
-use Rattle.mufom_meaning.proofs.Choices.{not_lt}
 use Rattle.mufom_write.specs.Raw.{raw_image}
 use Rattle.mufom_titxt.specs.Written.{txt_text}
 use Rattle.mufom_groups.specs.Work.{Reached, gives, stops, Work}
@@ -44,7 +43,7 @@ use Rattle.mufom_command.proofs.StageLaws.{maps-alike, means-same, put_out-alike
 use Rattle.mufom_headline.specs.Headline.{HasLocated, LocatesAll, PutsOutLocation, TheHeadline}
 use Rattle.mufom_command.proofs.Calm.{CameTo, answers-for, done-comes, never-done}
 use Rattle.mufom_command.proofs.Accepted.{EndsAtFact, accepted-back, accepted-gives, accepted-stops, no-link-fact}
-use Rattle.mufom_command.proofs.LocatingDone.{module-never, no-end, no-fact-there, writes-never}
+use Rattle.mufom_command.proofs.LocatingDone.{module-never, no-end, no-fact-there, raw-never, writes-never}
 use Rattle.mufom_headline.proofs.LinkedFiles.{bytes-made, file-made, flat-valid}
 use Rattle.mufom_headline.specs.ReadBack.{MakesOutFile}
 use Rattle.mufom_headline.proofs.Maps.{flat-files, map-known}
@@ -218,12 +217,6 @@ module _ (c : Command) (r : LocatedParts) where
         → unless_too_long b c.out (raw_image c.fill r.runs) (gives o) → length (raw_image c.fill r.runs) ≤ MOST_FILE_BYTES
     by true is never = absurd never
     by false is put = omega (arith, ltb-false MOST_FILE_BYTES (length (raw_image c.fill r.runs)) is)
-
-  raw-never : length (raw_image c.fill r.runs) ≤ MOST_FILE_BYTES → (s : Stop) → raw_file c r (stops s) → ⊥
-  raw-never few s ends =
-      writes-never c.out (raw_image c.fill r.runs) s
-      (subst (λ (b : Bool). unless_too_long b c.out (raw_image c.fill r.runs) (stops s))
-      (not_lt MOST_FILE_BYTES (length (raw_image c.fill r.runs)) few) ends)
 
   raw-long : MOST_FILE_BYTES < length (raw_image c.fill r.runs) → raw_file c r (stops (raw_too_long (length (raw_image c.fill r.runs))))
   raw-long long = subst (λ (b : Bool). unless_too_long b c.out (raw_image c.fill r.runs) (stops (raw_too_long (length (raw_image c.fill r.runs)))))
