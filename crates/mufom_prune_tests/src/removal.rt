@@ -76,6 +76,29 @@ fn program(rt: &impl Abort, alloc: Global) -> Module {
     }
 }
 
+fn has_section(rt: &impl Abort, parts: &Parts, place: usize, name: &[u8]) {
+    match parts.sections.get(place) {
+        Some(section) => assert_eq!(rt; section.name.as_slice(), name),
+        None => panic!(rt; "a section"),
+    }
+}
+
+fn has_public(rt: &impl Abort, parts: &Parts, place: usize, name: &[u8]) {
+    match parts.names.publics.get(place) {
+        Some(public) => assert_eq!(rt; public.name.as_slice(), name),
+        None => panic!(rt; "a public"),
+    }
+}
+
+// A field that holds the base of this section.
+fn has_field(rt: &impl Abort, parts: &Parts, place: usize, section: u32) {
+    let base = Postfix::single(Token::Var(Letter::R, section));
+    match parts.loads.get(place) {
+        Some(Load::One(Item::Field { value, .. })) => assert!(rt; value.equals(&base)),
+        _ => panic!(rt; "a field"),
+    }
+}
+
 #[test]
 fn what_main_does_not_need_is_gone(rt: HostRuntime) {
     let alloc = rt.alloc();
@@ -84,9 +107,14 @@ fn what_main_does_not_need_is_gone(rt: HostRuntime) {
         Ok(rest) => {
             let parts = rest.parts();
             assert_eq!(rt; parts.sections.len(), 2);
+            has_section(&rt, parts, 0, b"a");
+            has_section(&rt, parts, 1, b"c");
             assert_eq!(rt; parts.names.publics.len(), 1);
+            has_public(&rt, parts, 0, b"main");
             assert_eq!(rt; parts.names.references.len(), 0);
             assert_eq!(rt; parts.loads.len(), 4);
+            // The section `c` is now the second one.
+            has_field(&rt, parts, 1, 1);
         }
         Err(_) => panic!(rt; "a known name"),
     }
