@@ -16,7 +16,7 @@ export PATH="$work/bin:$PATH" LC_ALL=C
 try_page() {
   cp -r "$top/$2" "$work/$1"
   (cd "$work/$1" && python3 - "$top/docs/$1" <<'PYTHON'
-import re, subprocess, sys, textwrap
+import re, subprocess, sys, textwrap, time
 
 passed = failed = 0
 page = open(sys.argv[1], encoding="utf-8").read()
@@ -31,6 +31,9 @@ for language, block in re.findall(r"^ *```(\w*)\n(.*?)^ *```$", page, re.M | re.
         else:
             tries[-1][1].append(line)
     for command, wanted in tries:
+        if command.startswith("touch "):
+            # So that make sees a later time than that of the files just made.
+            time.sleep(1)
         run = subprocess.run(["bash", "-c", command], stdout=subprocess.PIPE, stderr=subprocess.STDOUT, text=True, check=False)
         if run.stdout.splitlines() == wanted:
             passed += 1
