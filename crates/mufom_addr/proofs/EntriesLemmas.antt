@@ -37,7 +37,7 @@ entries-Note name n around = ap (λ (f : Placed). f around) (note_is name n)
 pub entries-Value : (name : ℕ) (v : Tree) (around : Around) → entries_of_item (value_case name v) around ≡ value around.source name v ∷ []
 entries-Value name v around = ap (λ (f : Placed). f around) (value_is name v)
 
--- one item more adds its entries
+-- one more item adds its entries
 pub entries_of_more : (items : List DebugItem) (around : Around) (i : ℕ) (d : DebugItem) → i < length items
     → entries_of (take (i + 1) items) around ≡ entries_of (take i items) around ++ entries_of_item (get_or items i d) around
 entries_of_more items around i d inside =

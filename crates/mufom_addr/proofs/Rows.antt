@@ -1,4 +1,4 @@
--- Worked rows: a debug part, and what it tells of addresses.
+-- Worked rows: a debug part, and what it says about addresses.
 use Rattle.std.proofs.Common.{◌≡◌, ℕ, List, [], ◌∷◌, Option, Some, None, refl, ap}
 use Rattle.std.specs.Prelude.{codes}
 use Rattle.mufom_expr.specs.Tree.{number}

@@ -1,4 +1,4 @@
--- One entry more: what it adds to the functions, the lines and the lines' numbers.
+-- One more entry: what it adds to the functions, the lines and the line numbers.
 use Rattle.std.proofs.Common.{◌≡◌, ℕ, Bool, true, false, List, [], ◌∷◌, ◌++◌, Option, Some, None, cond, option_map, option_to_list, refl, sym, ap}
 use Rattle.std.proofs.Common.{subst, ◌∙◌, append_assoc, append-nil, reverse, nat_le, ◌==◌, if◌then◌else◌}
 use Rattle.std.proofs.lemmas.List.{reverse-append}
@@ -93,7 +93,7 @@ same_either : (b : Bool) (o : Option ℕ) → o ≡ (if b then o else o)
 same_either true o = refl
 same_either false o = refl
 
--- a note with a line's number sets that of its name
+-- a note with a line number sets that of its name
 pub note-numbers : (name other line : ℕ) (n : Note) (earlier : List Entry) (before after : Option ℕ) → Some line ≡ line_given n
     → after ≡ (if name == other then Some line else before) → before ≡ line_of earlier other → after ≡ line_of (note name n ∷ earlier) other
 note-numbers name other line n earlier before after given is was =
@@ -107,7 +107,7 @@ note-nothing name other n earlier before given was =
     was ∙ same_either (name == other) (line_of earlier other)
     ∙ ap (λ (g : Option ℕ). if name == other then option_or g (line_of earlier other) else line_of earlier other) given
 
--- a value whose name has a line's number is a line
+-- a value whose name has a line number is a line
 pub value-line : (source : Option (List ℕ)) (v : Tree) (name line address : ℕ) (earlier : List Entry) → Some line ≡ line_of earlier name
     → address ≡ number_of v
     → lines_after earlier (value source name v ∷ []) ≡ record { line = line; address = address; source = source } ∷ []
@@ -115,14 +115,14 @@ value-line source v name line address earlier given is =
     append-nil (line_at source v (line_of earlier name)) ∙ ap (line_at source v) (sym given)
     ∙ ap (λ (a : ℕ). let l : LineHit = record { line = line; address = a; source = source } in l ∷ []) (sym is)
 
--- and another value is none
+-- and any other value is not a line
 pub value-nothing : (source : Option (List ℕ)) (v : Tree) (name : ℕ) (earlier : List Entry) → None ≡ line_of earlier name
     → lines_after earlier (value source name v ∷ []) ≡ []
 value-nothing source v name earlier given = append-nil (line_at source v (line_of earlier name)) ∙ ap (line_at source v) (sym given)
 
 -- ---- a search that has seen one entry more
 
--- what the entry is to the search: a function or none, a line or none, and the lines' numbers after it
+-- what the search takes from the entry: a function or none, a line or none, and the line numbers after it
 pub record Takes (e : Entry) (entries : List Entry) (s t : Search) : Type 0 where
   pub address : t.address ≡ s.address
   pub function : Option Function

@@ -13,7 +13,7 @@ use Rattle.mufom_addr.specs.declared.hit.Hit.{Hit}
 use Rattle.mufom_addr.specs.Entries.{Entry, block, note, value, outermost, entries_of}
 use Rattle.mufom_addr.specs.Greatest.{first_greatest}
 
--- the number that a located expression is; 0 for one that is not a number, which no located item has
+-- the number that a located expression consists of; 0 for any other expression, which no located item has
 abbrev pub number_of : Tree → ℕ
 number_of (number n) = n
 number_of (variable l p) = 0
@@ -54,11 +54,11 @@ is_around address f = nat_le f.hit.begin address && nat_le address f.hit.«end»
 
 -- ---- lines
 
--- the attribute of a note that gives a line's number
+-- the attribute of a note that gives a line number
 abbrev pub line_attribute : ℕ
 line_attribute = 7
 
--- the line's number that a note gives, which is the first of its numbers
+-- the line number that a note gives, which is the first of its numbers
 abbrev pub line_in : List ℕ → Option ℕ
 line_in [] = None
 line_in (n ∷ numbers) = Some n
@@ -66,14 +66,14 @@ line_in (n ∷ numbers) = Some n
 abbrev pub line_given : Note → Option ℕ
 line_given n = if n.attribute == line_attribute then line_in n.numbers.items else None
 
--- the line's number that the entries before gave a name last, where the latest entry comes first
+-- the line number that the entries so far gave a name last; the latest entry comes first
 abbrev pub line_of : List Entry → ℕ → Option ℕ
 line_of [] name = None
 line_of (block depth head other end ∷ earlier) name = line_of earlier name
 line_of (note other n ∷ earlier) name = if other == name then option_or (line_given n) (line_of earlier name) else line_of earlier name
 line_of (value source other v ∷ earlier) name = line_of earlier name
 
--- the line of a value, if its name has a line's number
+-- the line of a value, if its name has a line number
 abbrev pub line_at : Option (List ℕ) → Tree → Option ℕ → List LineHit
 line_at source v None = []
 line_at source v (Some n) = record { line = n; address = number_of v; source = source } ∷ []
@@ -85,7 +85,7 @@ lines_after earlier (block depth head name end ∷ entries) = lines_after (block
 lines_after earlier (note name n ∷ entries) = lines_after (note name n ∷ earlier) entries
 lines_after earlier (value source name v ∷ entries) = line_at source v (line_of earlier name) ++ lines_after (value source name v ∷ earlier) entries
 
--- ---- the answer
+-- ---- the result
 
 -- the functions around the address, in order
 abbrev pub functions_around : ℕ → List Entry → List Function
@@ -106,6 +106,6 @@ nearest address entries = first_greatest (λ l. l.address) (lines_up_to address 
 abbrev pub hit_among : ℕ → List Entry → Hit
 hit_among address entries = record { function = option_map (λ f. f.hit) (innermost address entries); line = nearest address entries }
 
--- what the items tell of the address
+-- what the items say about the address
 abbrev pub hit_at : List DebugItem → ℕ → Hit
 hit_at items address = hit_among address (entries_of items outermost)

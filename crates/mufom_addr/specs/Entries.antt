@@ -24,7 +24,7 @@ pub data Entry : Type 0 where
   note : (name : ℕ) → (note : Note) → Entry
   value : (source : Option (List ℕ)) → (name : ℕ) → (value : Tree) → Entry
 
--- the source file of the items in a block, which is in such a one
+-- the source file of the items in a block, given the one around the block
 abbrev pub source_within : BlockHead → List ℕ → Option (List ℕ) → Option (List ℕ)
 source_within heads.Module name source = source
 source_within (heads.Global stack type_index offset) name source = source

@@ -1,4 +1,4 @@
--- A search for a function and a line: what it holds, and how far it has come.
+-- A search for a function and a line: its state, and which items it has seen.
 use Rattle.std.specs.Prelude.{◌≡◌, ℕ, List, [], ◌∷◌, ◌++◌, Option, Some, None, option_map, slice_index_or, reverse, nat_lt, nat_le, if◌then◌else◌}
 use Rattle.mufom_expr.specs.declared.token.Token.{Token}
 use Rattle.mufom_expr.specs.declared.token.Token.TheVariants.{Number}
@@ -9,7 +9,7 @@ use Rattle.mufom_addr.specs.declared.search.Search.{Search}
 use Rattle.mufom_addr.specs.Entries.{Entry}
 use Rattle.mufom_addr.specs.AddressHit.{Function, innermost, is_around, nearest, line_of}
 
--- the number that a token alone is
+-- the value of a single number token
 abbrev pub number_in : List Token → ℕ
 number_in (Number n ∷ []) = n
 number_in _ = 0
@@ -20,7 +20,7 @@ function_held f = record { depth = f.depth; hit = record { kind = f.kind; name =
 abbrev pub line_held : FoundLine → LineHit
 line_held l = record { line = l.line; address = l.address; source = option_map (λ s. s.now) l.source }
 
--- the line's number of a name in a table by the names' positions
+-- the line number of a name in a table by the names' positions
 abbrev pub number_for : List (Option ℕ) → ℕ → Option ℕ
 number_for numbers name = slice_index_or numbers name None
 

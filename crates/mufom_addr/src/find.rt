@@ -10,10 +10,10 @@ use mufom_debug::DebugItem;
 use mufom_numbers::NoMemory;
 use std::alloc::Global;
 
-/// The innermost function around an address and the nearest line at or below it.
+/// Finds the innermost function around an address and the nearest line at or below it.
 ///
-/// The items are those of a located module, whose expressions are one number each, and are at most 32
-/// deep. Fails only when it runs out of memory.
+/// The items are those of a located module: each of their expressions is one number. They must be at most
+/// 32 deep. Fails only if memory runs out.
 pub fn find_address(alloc: Global, items: &[DebugItem], address: u64) -> Result<Hit, NoMemory>
     requires { depth_of (marks_of items.now) ≤ 32 }
     ensures { IfOk result (λ hit. hit ≡ hit_at items.now address) }

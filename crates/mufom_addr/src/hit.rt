@@ -5,20 +5,20 @@ use mufom_numbers::Bytes;
 /// A function around an address.
 #[derive(Debug, Drop)]
 pub struct FunctionHit {
-    /// The number of its block's kind: 4 for a global function, 6 for a local one.
+    /// The kind of its block: 4 for a global function, 6 for a local one.
     pub kind: u8,
     /// The name of its block, without the quotes of a listing.
     pub name: Bytes,
     /// Its first address.
     pub begin: u64,
-    /// Its last address, which is part of it.
+    /// Its last address, which belongs to the function.
     pub end: u64,
 }
 
 /// A source line and the address at which its code begins.
 #[derive(Debug, Drop)]
 pub struct LineHit {
-    /// The line's number in its source file.
+    /// The line number in its source file.
     pub line: u64,
     /// The address at which its code begins.
     pub address: u64,
@@ -26,7 +26,7 @@ pub struct LineHit {
     pub source: Option<Bytes>,
 }
 
-/// What is known of an address.
+/// What the debug items say about an address.
 #[derive(Debug, Drop)]
 pub struct Hit {
     /// The innermost function around the address, if there is one.

@@ -14,7 +14,7 @@ use mufom_names::Note;
 use mufom_numbers::{Bytes, NoMemory};
 use std::alloc::Global;
 
-// The attribute of a note that gives a line's number.
+// The attribute of a note that gives a line number.
 const LINE_ATTRIBUTE: u64 = 7;
 
 /// A function around the address, and the number of blocks around it.
@@ -44,13 +44,13 @@ pub(crate) struct Search<'a> {
     pub function: Option<FoundFunction<'a>>,
     /// The nearest line so far.
     pub line: Option<FoundLine<'a>>,
-    /// The line's number that a note gave each name last, by the name's position.
+    /// The line number that a note gave each name last, by the name's position.
     pub line_numbers: Vec<Option<u64>>,
 }
 
-// ---- what an item has
+// ---- what an item says
 
-// The number that a token alone is; 0 for other tokens.
+// The value of a single number token; 0 for any other tokens.
 fn number_in(tokens: &[Token]) -> u64
     ensures { result ≡ number_in tokens.now }
 {
@@ -60,7 +60,7 @@ fn number_in(tokens: &[Token]) -> u64
     }
 }
 
-// The number that a located expression is.
+// The number that a located expression consists of.
 fn number_of(expression: &Postfix) -> u64
     ensures { result ≡ number_of expression.now }
 {
@@ -111,7 +111,7 @@ fn source_within<'a>(block: &'a Block, source: Option<&'a [u8]>) -> Option<&'a [
     }
 }
 
-// The line's number that a note gives.
+// The line number that a note gives.
 fn line_given(note: &Note) -> Option<u64>
     ensures { result ≡ line_given note.now }
 {
@@ -148,7 +148,7 @@ fn or_higher<'a>(best: Option<FoundLine<'a>>, found: FoundLine<'a>) -> Option<Fo
     }
 }
 
-// The innermost function after one more, which counts if it is around the address.
+// The innermost function so far, after one more function, which counts only if it is around the address.
 fn innermost<'a>(
     address: u64,
     best: Option<FoundFunction<'a>>,
@@ -163,7 +163,7 @@ fn innermost<'a>(
     }
 }
 
-// The nearest line after one more, which counts if its address is not above the address.
+// The nearest line so far, after one more line, which counts only if its address is not above the given one.
 fn nearest<'a>(
     address: u64,
     best: Option<FoundLine<'a>>,
@@ -178,9 +178,9 @@ fn nearest<'a>(
     }
 }
 
-// ---- line numbers
+// ---- line numbers of names
 
-// Sets the line's number of a name in the table, which grows where it is too short.
+// Sets the line number of a name in the table, which grows if it is too short.
 fn set_line_number(numbers: &mut Vec<Option<u64>>, name: u32, line: u64) -> Result<(), NoMemory>
     ensures { OnOk result ((other : ℕ) →
         number_for numbers.new.items other ≡ (if name == other then Some line else number_for numbers.old.items other)) }
@@ -193,7 +193,7 @@ fn set_line_number(numbers: &mut Vec<Option<u64>>, name: u32, line: u64) -> Resu
     Ok(())
 }
 
-// The line's number of a name.
+// The line number of a name.
 fn number_for(numbers: &[Option<u64>], name: u32) -> Option<u64>
     ensures { result ≡ number_for numbers.now name }
 {
@@ -206,7 +206,7 @@ fn number_for(numbers: &[Option<u64>], name: u32) -> Option<u64>
 // ---- the pass
 
 impl<'a> Search<'a> {
-    /// A search that has seen nothing.
+    /// A search that has seen no items.
     pub(crate) fn new(alloc: Global, address: u64) -> Search<'a>
         ensures { HasSeen address [] result }
     {
@@ -276,7 +276,7 @@ impl<'a> Search<'a> {
         }
     }
 
-    /// Goes over items in `depth` blocks, of which the innermost source file has this name.
+    /// Visits the items inside `depth` blocks; `source` is the name of the innermost source file around them.
     #[cycle(seeing)]
     pub(crate) fn see_items(
         &mut self,
@@ -304,7 +304,7 @@ impl<'a> Search<'a> {
     }
 }
 
-// ---- the answer
+// ---- the result
 
 fn function_hit(
     alloc: Global,

@@ -1,4 +1,4 @@
-//! What is found in a program of one function and one line.
+//! Tests of what is found in a program with one function and one line.
 
 use crate::{Hit, find_address};
 use arrayvec::ArrayVec;
@@ -13,7 +13,7 @@ fn number(rt: &impl Abort, alloc: Global, value: u64) -> Postfix {
     Postfix::constant(alloc, value).expect(rt, "memory")
 }
 
-// A function from 256 to 271 with the line 12 at 258.
+// A function at addresses 256 to 271 with line 12 at 258.
 fn program(rt: &impl Abort, alloc: Global) -> List<DebugItem> {
     let mut numbers = ArrayVec::new();
     assert!(rt; numbers.try_push(12).is_ok());

@@ -10,14 +10,14 @@ use Rattle.mufom_debug.specs.Marks.{DebugMark, block_begin, block_end, name_mark
 use Rattle.mufom_debug.proofs.MarksLemmas.{joined-append}
 use Rattle.mufom_copies.specs.Mapped.{mapped_head, mapped_mark}
 
--- one item more adds its marks
+-- one more item adds its marks
 pub marks-push : (items : List DebugItem) (item : DebugItem) → marks_of (items ++ item ∷ []) ≡ marks_of items ++ marks_of_item item
 marks-push items item =
     ap joined (map-append marks_of_item items (item ∷ []))
     ∙ joined-append (map marks_of_item items) (marks_of_item item ∷ [])
     ∙ ap (λ marks. marks_of items ++ marks) (append-nil (marks_of_item item))
 
--- where each expression stands in its own place the marks stay
+-- if each expression is replaced by itself, the marks stay the same
 same_head : (head : BlockHead) → mapped_head (λ t. t) head ≡ head
 same_head heads.Module = refl
 same_head (heads.Global stack type_index offset) = refl

@@ -1,4 +1,4 @@
-//! Copies of debug items, as they are or with other expressions.
+//! Copies of debug items, unchanged or with other expressions.
 
 ghost use Rattle.std.specs.Prelude.{◌≡◌, ◌++◌, ◌∷◌, [], map as mapped, option_map, IfOk};
 ghost use Rattle.mufom_expr.specs.Tree.{Tree};
@@ -11,7 +11,7 @@ use mufom_expr::Postfix;
 use mufom_numbers::{List, NoMemory};
 use std::alloc::Global;
 
-/// What puts other expressions in the place of expressions.
+/// A mapping that replaces expressions by other expressions.
 pub trait ExpressionMap {
     /// The expression that replaces an expression.
     ghost meaning: { Self → Tree → Tree };
@@ -21,7 +21,7 @@ pub trait ExpressionMap {
         ensures { IfOk result (λ other. other ≡ meaning self.now value.now) };
 }
 
-// Each expression is in its own place.
+// The identity: each expression is replaced by itself.
 struct Same;
 
 impl ExpressionMap for Same {
@@ -87,7 +87,7 @@ fn map_end<M: ExpressionMap>(
     }
 }
 
-// The copy of a block that has these items, and whose other expressions are replaced.
+// A copy of a block with these items, in which the other expressions are replaced.
 fn map_block<M: ExpressionMap>(
     alloc: Global,
     map: &M,
@@ -133,8 +133,8 @@ fn map_debug_item<M: ExpressionMap>(
     }
 }
 
-/// A copy of debug items, with all that is in blocks, in which each expression is replaced.
-/// Section positions, names and notes stay.
+/// A copy of debug items, with everything inside blocks, in which each expression is replaced. Section
+/// positions, names and notes stay the same.
 #[cycle(copying)]
 pub fn map_debug_items<M: ExpressionMap>(
     alloc: Global,
@@ -150,7 +150,7 @@ pub fn map_debug_items<M: ExpressionMap>(
     Ok(copies)
 }
 
-/// A copy of debug items, with all that is in blocks.
+/// A copy of debug items, with everything inside blocks.
 pub fn copy_debug_items(alloc: Global, items: &[DebugItem]) -> Result<List<DebugItem>, NoMemory>
     ensures { IfOk result (λ copies. copies ≡ items.now) }
 {

@@ -1,4 +1,4 @@
-//! Copies of texts, notes, sections, names and loads.
+//! Copies of byte strings, notes, sections, names and loads.
 
 ghost use Rattle.std.specs.Prelude.{◌≡◌, IfOk};
 
@@ -9,7 +9,7 @@ use mufom_numbers::{Bytes, List, NoMemory};
 use mufom_sections::Section;
 use std::alloc::Global;
 
-/// A copy of a text.
+/// A copy of a string of bytes.
 pub fn copy_bytes(alloc: Global, bytes: &Bytes) -> Result<Bytes, NoMemory>
     ensures { IfOk result (λ copy. copy ≡ bytes.now) }
 {
@@ -74,7 +74,7 @@ pub fn copy_reference(alloc: Global, reference: &Reference) -> Result<Reference,
     })
 }
 
-// A copy of an expression, where there is one.
+// A copy of an expression, if there is one.
 pub(crate) fn copy_optional(
     alloc: Global,
     value: &Option<Postfix>,

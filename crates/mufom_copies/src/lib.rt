@@ -1,9 +1,9 @@
 //! Copies of what a module states, and of modules.
 //!
-//! Partial links and locations of modules that stay as they are need copies of what stays the same.
-//! Debug items are copied as they are, or with other expressions by an [`ExpressionMap`]. It depends
-//! on `mufom_module` and the crates of a module's values. Each clause states that the copy is what
-//! was copied; out of memory is the only other result.
+//! Linking or locating modules that are to stay unchanged needs copies of what stays the same.
+//! Debug items are copied unchanged, or with other expressions by an [`ExpressionMap`]. The crate
+//! depends on `mufom_module` and the crates of a module's values. Each clause states that the copy
+//! equals the original; out of memory is the only error.
 #![tactic(auto)]
 
 mod debug;

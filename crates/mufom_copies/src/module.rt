@@ -63,7 +63,7 @@ fn copy_names(alloc: Global, names: &NameTable) -> Result<NameTable, NoMemory>
     })
 }
 
-// Replaces what parts state by copies of what a module states.
+// Replaces the contents of `copy` by copies of the parts of a module.
 fn copy_into(alloc: Global, copy: &mut Parts, parts: &Parts) -> Result<(), NoMemory>
     ensures { OnOk result (copy.new ≡ parts.now) }
 {
@@ -81,7 +81,7 @@ fn copy_into(alloc: Global, copy: &mut Parts, parts: &Parts) -> Result<(), NoMem
     Ok(())
 }
 
-// A copy of what a module states, made in place: see "Drops" in docs/ARCHITECTURE.md.
+// A copy of the parts of a module, made in place: see "Drops" in docs/ARCHITECTURE.md.
 fn copy_parts(alloc: Global, parts: &Parts) -> Result<Parts, NoMemory>
     ensures { IfOk result (λ copy. copy ≡ parts.now) }
 {

@@ -1,4 +1,4 @@
--- Items leave as many blocks open as they found, and what follows of their depth.
+-- After items as many blocks are open as before them, and what follows for their depth.
 use Rattle.std.proofs.Common.{◌≡◌, ℕ, ◌+◌, ◌-◌, ◌≤◌, max, List, [], ◌∷◌, ◌++◌, map, length, take, get_or, zero, suc, ◌<◌, sym, ap, ◌∙◌, subst, rules}
 use Rattle.std.proofs.Common.{arith, append_assoc}
 use Rattle.mufom_debug.specs.declared.item.DebugItem.{DebugItem, Block as block_case, the_lemmas, ind-DebugItem}

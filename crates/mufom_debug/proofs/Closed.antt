@@ -11,7 +11,7 @@ use Rattle.mufom_debug.specs.Marks.{DebugMark, block_begin, block_end, name_mark
 use Rattle.mufom_debug.proofs.MarksLemmas.{joined-append}
 use Rattle.mufom_debug.proofs.Rebuilt.{Begun, block_item, rebuilt}
 
--- the marks up to the items of the innermost of the begun blocks, which stands first
+-- the marks up to the items of the innermost of the begun blocks, which comes first
 abbrev pub marks_before : List Begun → List DebugMark
 marks_before [] = []
 marks_before (b ∷ outer) = marks_before outer ++ (marks_of b.before ++ block_begin b.head b.name ∷ [])
@@ -54,7 +54,7 @@ alone_more p items item mark rest same =
     ap (λ l. (p ++ l) ++ rest) (marks_of-one items item ∙ ap (λ l. marks_of items ++ l) same)
     ∙ ap (λ l. l ++ rest) (sym (append_assoc p (marks_of items) (mark ∷ []))) ∙ append_assoc (p ++ marks_of items) (mark ∷ []) rest
 
--- The items that marks give have these marks, after those that stood before.
+-- The items that are rebuilt from marks have these marks, after those before them.
 pub rebuilt-marks : (marks : List DebugMark) (items : List DebugItem) (outer : List Begun) → closes (length outer) marks ≡ true
     → marks_of (rebuilt marks items outer) ≡ (marks_before outer ++ marks_of items) ++ marks
 rebuilt-marks [] items [] h = sym (append-nil (marks_of items))
@@ -78,6 +78,6 @@ rebuilt-marks (value_mark name value ∷ marks) items outer h =
     rebuilt-marks marks (items ++ roll-DebugItem (DebugItem-F.Value name value) ∷ []) outer h
     ∙ alone_more (marks_before outer) items (roll-DebugItem (DebugItem-F.Value name value)) (value_mark name value) marks (value_alone name value)
 
--- Marks that close all that they open are the marks of items.
+-- Marks that close every block that they open are the marks of items.
 pub closed-marks : (marks : List DebugMark) → closes 0 marks ≡ true → (items : List DebugItem) × (marks_of items ≡ marks)
 closed-marks marks h = (rebuilt marks [] [], rebuilt-marks marks [] [] h)

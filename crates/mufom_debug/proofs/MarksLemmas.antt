@@ -6,7 +6,7 @@ use Rattle.mufom_debug.specs.declared.item.DebugItem.{DebugItem, Block as block_
 use Rattle.mufom_debug.specs.declared.item.DebugItem.TheOpen.{Block-F}
 use Rattle.mufom_debug.specs.Marks.{block_begin, block_end, joined, marks_of_item, marks_of, mark_expressions, expressions_of}
 
--- the marks of a block are its begin, the marks of its items, and its end
+-- the marks of a block are its start, the marks of its items, and its end
 pub marks-Block : (b : Block-F DebugItem (Unit {0})) → marks_of_item (block_case b) ≡ block_begin b.head b.name ∷ (marks_of b.items ++ block_end b.end ∷ [])
 marks-Block b = search (rules, the_lemmas)
 
@@ -14,7 +14,7 @@ pub joined-append : {X : Type 0} (xs ys : List (List X)) → joined (xs ++ ys) �
 joined-append [] ys = refl
 joined-append (x ∷ xs) ys = ap (λ rest. x ++ rest) (joined-append xs ys) ∙ sym (append_assoc x (joined xs) (joined ys))
 
--- one item more adds its marks
+-- one more item adds its marks
 pub marks_of_more : (items : List DebugItem) (i : ℕ) (d : DebugItem) → i < length items
     → marks_of (take (i + 1) items) ≡ marks_of (take i items) ++ marks_of_item (get_or items i d)
 marks_of_more items i d inside =

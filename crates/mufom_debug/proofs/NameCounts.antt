@@ -1,4 +1,4 @@
--- How many debug names are declared after marks.
+-- The number of debug names that are declared after marks.
 use Rattle.std.proofs.Common.{◌≡◌, ℕ, ◌+◌, ◌<◌, ◌≤◌, List, [], ◌∷◌, ◌++◌, length, take, drop, get_or, refl, sym, ap, ◌∙◌, arith}
 use Rattle.std.proofs.lemmas.List.{drop_more}
 use Rattle.mufom_debug.specs.declared.item.DebugItem.{DebugItem, Block as block_case}

@@ -1,4 +1,4 @@
--- Marks determine the items: each end closes the block that was begun last.
+-- Marks determine the items: each end closes the innermost open block.
 use Rattle.std.proofs.Common.{◌≡◌, ℕ, List, [], ◌∷◌, ◌++◌, Option, map, refl, sym, ap, ◌∙◌, subst, rules, append_assoc, append-nil}
 use Rattle.mufom_expr.specs.Tree.{Tree}
 use Rattle.mufom_debug.specs.declared.item.Block.{Block}
@@ -9,7 +9,7 @@ use Rattle.mufom_debug.specs.declared.item.DebugItem.TheFolds as folds
 use Rattle.mufom_debug.specs.declared.item.DebugItem.TheViews.{roll-DebugItem, roll-Block}
 use Rattle.mufom_debug.specs.Marks.{DebugMark, block_begin, block_end, name_mark, note_mark, value_mark, joined, item_step, block_step, marks_of_item, marks_of}
 
--- a block that is begun and not ended, with the items that stand before it at its level
+-- a block that is begun and not ended, with the items before it at its level
 pub record Begun : Type 0 where
   pub before : List DebugItem
   pub head : BlockHead
@@ -19,7 +19,7 @@ pub record Begun : Type 0 where
 abbrev pub block_item : BlockHead → List ℕ → List DebugItem → Option Tree → DebugItem
 block_item head name items end = roll-DebugItem (DebugItem-F.Block (roll-Block (record { head = head; name = name; items = items; end = end })))
 
--- the items that marks give after those of this level and inside the begun blocks, the innermost first
+-- the items that are rebuilt from marks, after those of this level and inside the open blocks, the innermost first
 abbrev pub rebuilt : List DebugMark → List DebugItem → List Begun → List DebugItem
 rebuilt [] items outer = items
 rebuilt (block_begin head name ∷ marks) items outer = rebuilt marks [] (record { before = items; head = head; name = name } ∷ outer)
@@ -29,12 +29,12 @@ rebuilt (name_mark name ∷ marks) items outer = rebuilt marks (items ++ roll-De
 rebuilt (note_mark name note ∷ marks) items outer = rebuilt marks (items ++ roll-DebugItem (DebugItem-F.Note name note) ∷ []) outer
 rebuilt (value_mark name value ∷ marks) items outer = rebuilt marks (items ++ roll-DebugItem (DebugItem-F.Value name value) ∷ []) outer
 
--- the marks give the item back, whatever follows and wherever they stand
+-- the item can be rebuilt from the marks, whatever is before and after them
 abbrev Gives : List DebugMark → DebugItem → Type 0
 Gives marks item = (rest : List DebugMark) (items : List DebugItem) (outer : List Begun) → rebuilt (marks ++ rest) items outer
     ≡ rebuilt rest (items ++ item ∷ []) outer
 
--- the same of a list of items
+-- the same for a list of items
 abbrev GiveAll : List DebugMark → List DebugItem → Type 0
 GiveAll marks more = (rest : List DebugMark) (items : List DebugItem) (outer : List Begun) → rebuilt (marks ++ rest) items outer
     ≡ rebuilt rest (items ++ more) outer
@@ -89,7 +89,7 @@ module _ (I B : Type 0) (item_of : I → DebugItem) (block_of : B → Block)
       subst (λ marks. Gives marks (roll-DebugItem (DebugItem-F.Block block))) (sym same)
       (block_given y.head y.name (joined (map marks_of_item (map item_of y.items))) (map item_of y.items) y.end (items_level y.items))
 
--- the marks of an item give it back
+-- an item can be rebuilt from its marks
 item_given : (item : DebugItem) → Gives (marks_of_item item) item
 item_given = ind-DebugItem (λ item. Gives (marks_of_item item) item) (λ b. Gives (marks_of_block b) (roll-DebugItem (DebugItem-F.Block b)))
     (λ x y is. subst (λ z. Gives (marks_of_item (roll-DebugItem z)) (roll-DebugItem z)) is (item_level _ _ (λ e. e.0) (λ e. e.0) (λ e. e.1) (λ e. e.1) y))
@@ -100,7 +100,7 @@ items_given : (items : List DebugItem) → GiveAll (marks_of items) items
 items_given [] = none_given
 items_given (item ∷ items) = more_given (marks_of_item item) (marks_of items) item items (item_given item) (items_given items)
 
--- marks give the items back, read from the first with no block begun
+-- the items can be rebuilt from their marks, read from the first one with no block open
 read_back : (items : List DebugItem) → rebuilt (marks_of items) [] [] ≡ items
 read_back items = ap (λ marks. rebuilt marks [] []) (sym (append-nil (marks_of items))) ∙ items_given items [] [] []
 

@@ -32,7 +32,7 @@ item_step (DebugItem-F.Name name) = name_mark name ∷ []
 item_step (DebugItem-F.Note name note) = note_mark name note ∷ []
 item_step (DebugItem-F.Value name value) = value_mark name value ∷ []
 
--- the marks of an item: a block is its begin, the marks of its items, and its end
+-- the marks of an item: a block is its start, the marks of its items, and its end
 abbrev pub marks_of_item : DebugItem → List DebugMark
 marks_of_item = fold-DebugItem (List DebugMark) (List DebugMark) item_step block_step
 
@@ -48,7 +48,7 @@ open_after opened (name_mark name) = opened
 open_after opened (note_mark name note) = opened
 open_after opened (value_mark name value) = opened
 
--- how many debug names are declared after a mark, where `n` are before it
+-- how many debug names are declared after a mark, if `n` are declared before it
 abbrev pub names_after : ℕ → DebugMark → ℕ
 names_after n (block_begin head name) = n
 names_after n (block_end end) = n
@@ -56,21 +56,21 @@ names_after n (name_mark name) = n + 1
 names_after n (note_mark name note) = n
 names_after n (value_mark name value) = n
 
--- the same of marks, one after another
+-- the same for marks, one after another
 abbrev pub names_after_all : ℕ → List DebugMark → ℕ
 names_after_all n [] = n
 names_after_all n (mark ∷ marks) = names_after_all (names_after n mark) marks
 
--- how many blocks are open at once at most, where `opened` are open before the marks
+-- the greatest number of blocks that are open at once, if `opened` are open before the marks
 abbrev pub depth_from : ℕ → List DebugMark → ℕ
 depth_from opened [] = opened
 depth_from opened (mark ∷ marks) = max opened (depth_from (open_after opened mark) marks)
 
--- the blocks on the longest way in
+-- the depth of the marks: the greatest number of blocks that are open at once
 abbrev pub depth_of : List DebugMark → ℕ
 depth_of marks = depth_from 0 marks
 
--- where `n` blocks are open, the marks end these and each block that they begin, and no other
+-- if `n` blocks are open, the marks end these and each block that they begin, and no others
 abbrev pub closes : ℕ → List DebugMark → Bool
 closes zero [] = true
 closes (suc n) [] = false
@@ -81,7 +81,7 @@ closes n (name_mark name ∷ marks) = closes n marks
 closes n (note_mark name note ∷ marks) = closes n marks
 closes n (value_mark name value ∷ marks) = closes n marks
 
--- after these marks as many blocks are open as before them, and they go as deep as by themselves
+-- after these marks as many blocks are open as before them, and their depth adds to that before them
 pub record IsBalanced (marks : List DebugMark) : Type 0 where
   pub deep : (opened : ℕ) (rest : List DebugMark) → depth_from opened (marks ++ rest) ≡ max (opened + depth_of marks) (depth_from opened rest)
 
@@ -93,7 +93,7 @@ kind_number (heads.Source numbers) = 5
 kind_number (heads.Local stack type_index offset) = 6
 kind_number (heads.Section section_type section offset) = 11
 
--- the expression of a block's begin, of the kinds that have one
+-- the expression at the start of a block, for the kinds that have one
 abbrev pub offset_of : BlockHead → Option Tree
 offset_of heads.Module = None
 offset_of (heads.Global stack type_index offset) = Some offset

@@ -6,8 +6,8 @@ use mufom_numbers::NoMemory;
 use std::alloc::Global;
 use std::marker::Model;
 
-/// A value behind a pointer, over `Box`: it takes eight bytes where it is kept. Contracts see it as
-/// the value.
+/// A value behind a pointer, over `Box`: the pointer itself takes eight bytes. Contracts see it as the
+/// value.
 ///
 /// It can be used in a type that contains itself. Only [`new`](Boxed::new) allocates.
 #[derive(Debug, Drop)]
@@ -31,7 +31,7 @@ impl<T> Boxed<T> {
         &self.inner
     }
 
-    /// The value, whose memory is freed.
+    /// The value, moved out; its allocation is freed.
     pub fn into_inner(self) -> T
         ensures { result ≡ self }
     {
@@ -41,7 +41,7 @@ impl<T> Boxed<T> {
 }
 
 impl<T: Drop> Boxed<T> {
-    /// The value, moved into memory of its own.
+    /// Moves the value to the heap.
     pub fn new(alloc: Global, value: T) -> Result<Boxed<T>, NoMemory>
         ensures { IfOk result (λ boxed. boxed ≡ value) }
     {

@@ -5,7 +5,7 @@ ghost use Rattle.mufom_debug.specs.Marks.{marks_of, marks_of_item, depth_of};
 
 use crate::item::DebugItem;
 
-// How deep an item is.
+// The depth of an item: 0 for an item that is not a block.
 #[cycle(depth)]
 fn item_depth(item: &DebugItem) -> u32
     requires { depth_of (marks_of_item item.now) ≤ 32 }
@@ -19,9 +19,9 @@ fn item_depth(item: &DebugItem) -> u32
     }
 }
 
-/// How many blocks are open at once, at most: those on the longest way in.
+/// The depth of the items: the greatest number of blocks that are open at once.
 ///
-/// The items must be at most 32 deep; [`is_within_depth`] shows. Does not allocate.
+/// The items must be at most 32 deep, which [`is_within_depth`] can check. Does not allocate.
 #[cycle(depth)]
 pub fn depth(items: &[DebugItem]) -> u32
     requires { depth_of (marks_of items.now) ≤ 32 }
@@ -34,7 +34,7 @@ pub fn depth(items: &[DebugItem]) -> u32
     deepest
 }
 
-// Whether an item is at most so deep.
+// Whether the depth of an item is at most `limit`.
 #[cycle(within)]
 fn item_is_within(item: &DebugItem, limit: u32) -> bool
     ensures { IsTrue result ↔ (depth_of (marks_of_item item.now) ≤ limit) }
@@ -48,7 +48,7 @@ fn item_is_within(item: &DebugItem, limit: u32) -> bool
     }
 }
 
-/// Whether at most `limit` blocks are open at once, of items of any depth. Does not allocate.
+/// Whether at most `limit` blocks are open at once. The items may have any depth. Does not allocate.
 #[cycle(within)]
 pub fn is_within_depth(items: &[DebugItem], limit: u32) -> bool
     ensures { IsTrue result ↔ (depth_of (marks_of items.now) ≤ limit) }

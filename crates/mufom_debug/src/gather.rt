@@ -9,7 +9,7 @@ use mufom_expr::Postfix;
 use mufom_numbers::NoMemory;
 use std::alloc::Global;
 
-// Adds an expression, where there is one, to the list.
+// Adds an expression, if there is one, to the list.
 fn add<'a>(e: Option<&'a Postfix>, list: &mut Vec<&'a Postfix>) -> Result<(), NoMemory>
     ensures { OnOk result (map (λ e. e.now) list.new.items ≡ map (λ e. e.now) list.old.items ++ option_to_list (option_map (λ e. e.now) e.entry)) }
 {
@@ -48,8 +48,8 @@ fn gather<'a>(items: &'a [DebugItem], list: &mut Vec<&'a Postfix>) -> Result<(),
     Ok(())
 }
 
-/// All expressions of the items, in order: of a block its offset, then those of its items, then its
-/// end. The items must be at most 32 deep.
+/// All expressions of the items, in order. Those of a block are its offset, then those of its items, then
+/// its end. The items must be at most 32 deep.
 pub fn addresses(alloc: Global, items: &[DebugItem]) -> Result<Addresses<'_>, NoMemory>
     requires { depth_of (marks_of items.now) ≤ 32 }
     ensures { IfOk result (λ a. a ≡ expressions_of (marks_of items.now)) }

@@ -9,8 +9,8 @@ use mufom_expr::Postfix;
 use mufom_names::Note;
 use mufom_numbers::{Bytes, List};
 
-/// The kind of a debug block, with the numbers of that kind (IEEE Std 695, block begin
-/// commands, as far as this project's profile has them).
+/// The kind of a debug block, with the fields that the kind has (IEEE Std 695, block begin
+/// commands, as far as this project's profile includes them).
 #[derive(Debug, Drop)]
 pub enum BlockHead {
     /// Kind 3: a module.
@@ -31,7 +31,7 @@ pub enum BlockHead {
     Source {
         numbers: ArrayVec<u64, 6>,
     },
-    /// Kind 11: a part of a section, which goes by position.
+    /// Kind 11: a part of a section, which is named by its position.
     Section {
         section_type: u64,
         section: u32,
@@ -49,8 +49,8 @@ pub struct Block {
     pub end: Option<Postfix>,
 }
 
-/// A debug item. Names go by position: the number of a name among all names of the module, from 0
-/// in the order of the file.
+/// A debug item. A name is referred to by its position among all debug names of the module, counted from
+/// 0 in the order of the file.
 #[derive(Debug, Drop)]
 #[cycle(debug)]
 pub enum DebugItem {
@@ -75,7 +75,7 @@ impl BlockHead {
         }
     }
 
-    /// The expression for the block's begin, of the kinds that have one.
+    /// The expression at the start of the block, for the kinds that have one.
     pub fn offset(&self) -> Option<&Postfix>
         ensures { option_map (λ offset. offset.now) result ≡ offset_of self.now }
     {

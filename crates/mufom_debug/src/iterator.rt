@@ -7,7 +7,7 @@ use mufom_expr::Postfix;
 use std::marker::Model;
 use std::vec::IntoIter;
 
-/// The expressions of debug items that are still to come. Contracts see their list.
+/// An iterator over the expressions of debug items. Contracts see the list of those that are still to come.
 #[derive(Drop)]
 pub struct Addresses<'a> {
     rest: IntoIter<&'a Postfix>,
@@ -28,7 +28,7 @@ impl<'a> Model for Addresses<'a> {
 }
 
 impl<'a> Addresses<'a> {
-    // The expressions of the list, in its order.
+    // Iterates over the expressions of the list, in its order.
     pub(crate) fn of(list: Vec<&'a Postfix>) -> Addresses<'a>
         ensures { result ≡ map (λ e. e.now) list.entry.items }
     {

@@ -1,10 +1,10 @@
 //! The debug items of a module: blocks, names, and the values and notes of names.
 //!
-//! Blocks hold items, and some of these are blocks. Contracts read the items as one flat list of
-//! marks, in the order of the file: a block is its begin, its items and its end. It depends on
-//! `mufom_numbers`, `mufom_expr`, `mufom_names` and `arrayvec`. Its main clause is that
-//! [`addresses`] gives every expression once, in the order of the marks: of a block its offset, then
-//! those of its items, then its end.
+//! Blocks contain items, some of which are blocks. Contracts read the items as one flat list of marks, in
+//! the order of the file: a block is its start, its items and its end. The crate depends on
+//! `mufom_numbers`, `mufom_expr`, `mufom_names` and `arrayvec`. Its main clause is that [`addresses`]
+//! gives every expression once, in the order of the marks: those of a block are its offset, then those
+//! of its items, then its end.
 #![tactic(auto)]
 
 mod boxed;

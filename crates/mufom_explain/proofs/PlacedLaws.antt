@@ -23,7 +23,7 @@ unit-count m plan valid =
     let high = may.addresses.most in
     record { some = omega (arith, low); few = omega (arith, high) }
 
--- what is unplaced is no misfit
+-- what is unplaced is not a misfit
 not-misfit : (listed : List (List ℕ)) (xs : List Numbered) (n : ℕ) (region : Option ℕ) → first_some (unplaced_at listed) xs ≡ Some (Misfit n region) → ⊥
 not-misfit listed [] n region e = absurd cc
 not-misfit listed (x ∷ xs) n region e = by_case (is_unplaced listed x.1) e (not-misfit listed xs n region) where

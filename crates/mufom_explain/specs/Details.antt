@@ -69,8 +69,8 @@ name_details names flat name = mention_text names flat (name ∷ [])
 
 -- ---- locating
 
--- What a refusal to locate is explained by: the names of the files, the flat list, and what is located of it: the origins of its entries,
--- how many units an address has, the modules, which are the list, its link or what is kept of that, and the plan.
+-- What explains an error of locating: the names of the files, the flat list, and what is located of it: the origins of its entries,
+-- the length of an address in units, the modules, which are the list, its link or what is kept of that, and the plan.
 pub record Explained : Type 0 where
   pub names : FileNames
   pub flat : List FileModule

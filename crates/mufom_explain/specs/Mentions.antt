@@ -35,7 +35,7 @@ abbrev pub mentions_by : List ℕ → ℕ → Parts → List Mention
 mentions_by name j m = mention_if (defines_among m.names.publics name) j kinds.Public
     ++ mention_if (refers_among m.names.references name) j kinds.Reference
 
--- the same of all modules, where the first has this position
+-- the same of all modules, if the first has this position
 abbrev pub mentions_from : ℕ → List Parts → List ℕ → List Mention
 mentions_from j [] name = []
 mentions_from j (m ∷ ms) name = mentions_by name j m ++ mentions_from (j + 1) ms name

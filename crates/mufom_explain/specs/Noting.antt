@@ -1,4 +1,4 @@
--- Adding mentions of names one after another, for each name in a list of its own, where no mention is told twice in a row.
+-- Adding mentions of names one after another, for each name in a list of its own, if no mention is told twice in a row.
 use Rattle.std.specs.Prelude.{ℕ, ◌-◌, ◌==◌, ◌&&◌, List, [], ◌∷◌, ◌++◌, length, slice_get, Option, Some, None, Bool, true, false, if◌then◌else◌, ◌≡◌}
 use Rattle.std.specs.Str.{bytes_eq}
 use Rattle.mufom_explain.specs.declared.mention.Mention.{Mention}

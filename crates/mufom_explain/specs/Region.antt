@@ -12,7 +12,7 @@ abbrev pub size_of : Option Section → ℕ
 size_of None = 0
 size_of (Some s) = s.size
 
--- where a section ends that the region with this position places, and 0 for one of another region
+-- the end of a section that the region with this position places, and 0 for a section of another region
 abbrev pub end_in : List Section → ℕ → Placing → ℕ
 end_in all region p = if p.region == region then p.base + size_of (slice_get all p.section) else 0
 

@@ -52,12 +52,12 @@ pub struct LocateContext<'a> {
     pub plan: &'a Plan,
 }
 
-// Which lines are put. Sections and commons go by their numbers.
+// Which lines are put. Sections and commons are given by their numbers.
 #[derive(Drop)]
 pub(crate) enum LocateKind<'a> {
     Entry(u32),
     Entries(u32, u32),
-    // A section that does not fit, and its region, whose sections reach so far above its base.
+    // A section that does not fit, and its region, with how far the region's sections reach above its base.
     Misfit {
         section: u32,
         region: u32,

@@ -125,7 +125,7 @@ fn note_module(
     Ok(())
 }
 
-// An empty list for each of so many names.
+// `count` empty lists, one for each name.
 fn empty_lists(alloc: Global, count: usize) -> Result<Vec<List<Mention>>, NoMemory>
     ensures { IfOk result (λ lists. lists.items ≡ replicate count []) }
 {

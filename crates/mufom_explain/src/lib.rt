@@ -1,5 +1,5 @@
-//! What an error line of linking or locating names, in words: the sections, modules and files behind its
-//! numbers, and the modules that define a name or refer to it.
+//! Explains error lines of linking and locating: names the sections, modules and files behind the numbers
+//! of a line, and the modules that define a name or refer to it.
 //!
 //! It depends on `mufom_link` and `mufom_image` for the errors, on `mufom_place` for the regions, on
 //! `mufom_origins` for the modules that sections come from, and on `mufom_text` and `mufom_map` for the

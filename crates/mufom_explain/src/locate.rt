@@ -252,7 +252,7 @@ fn about<'a>(
 
 /// The lines that follow the error line of a module that is not located: the sections and commons that it
 /// names, with the modules that they come from, a region with how far its sections reach, or all modules
-/// that mention the names; of undefined names all are told.
+/// that mention the names; all undefined names are listed.
 ///
 /// The error is the one with which the module is not located by the plan. Time is proportional to the
 /// names of the modules, the sections and the plan, and memory to the mentions and the sections. The only

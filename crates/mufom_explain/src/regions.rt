@@ -29,7 +29,7 @@ fn size_at(sections: &[Section], commons: &[Section], position: usize) -> u64
     }
 }
 
-// Where a section ends that a region places; 0 for a section of another region.
+// The end of a section that a region places; 0 for a section of another region.
 fn end_in(sections: &[Section], commons: &[Section], region: u32, placing: &Placing) -> u128
     requires { IsLow placing.now }
     ensures end { result ≡ end_in (sections.now ++ commons.now) region placing.now }

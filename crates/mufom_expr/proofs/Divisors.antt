@@ -1,4 +1,4 @@
--- Going through the tokens of an expression with the values that stand: whether a divisor is 0.
+-- Processing the tokens of an expression with a stack of values: whether a divisor is 0.
 use Rattle.std.proofs.Common.{◌≡◌, ℕ, ◌+◌, ◌-◌, ◌<◌, ◌≤◌, List, [], ◌∷◌, length, drop, map, reverse, Option, Some, Bool, true, false, ◌||◌, refl, sym}
 use Rattle.std.proofs.Common.{◌∙◌, ap, subst, arith, get_or}
 use Rattle.std.specs.Prelude.{slice_get, if◌then◌else◌}
@@ -16,7 +16,7 @@ use Rattle.mufom_expr.specs.Value.{Environment, value_at, divides_by_zero, is_di
 use Rattle.mufom_expr.specs.ValueStack.{values_with, zero_there, token_divides_by_zero}
 use Rattle.mufom_expr.proofs.Running.{step_some, enough, values_fit}
 
--- the last value is the first in the order in which they are taken off
+-- the last value is the first one that is popped
 pub top-reverse : (values : List (Option ℕ)) → slice_get (reverse values) 0 ≡ slice_get values (length values - 1)
 top-reverse [] = refl
 top-reverse (v ∷ values) =
@@ -60,7 +60,7 @@ module _ (m : ℕ) (env : Environment) where
       ∙ mixed (divides_by_zero (value_at m env) a) (divides_by_zero (value_at m env) b) (any_divides s) (if is_division f
       then is_zero (value_at m env b) else false)
 
-  -- after a token a tree divides by 0 where one did before, or where the token divides by 0
+  -- after a token a tree divides by 0 if one did before, or if the token divides by 0
   token_step : (token : Token) (s s' : List Tree) → after_token token s ≡ Some s'
       → any_divides s' ≡ (any_divides s || token_divides_by_zero (map (value_at m env) s) token)
   token_step (Number n) s s' e = let same : number n ∷ s ≡ s' = cc in ap any_divides (sym same) ∙ sym (or_false (any_divides s))
@@ -82,7 +82,7 @@ module _ (m : ℕ) (env : Environment) where
   token_step (Fun functions.Or) s s' e = two_step or_bits s s' e
   token_step (Fun functions.Xor) s s' e = two_step xor_bits s s' e
 
-  -- after i tokens the values are those of the trees that stand, it was found whether one of these divides by 0, and the tokens to
+  -- after i tokens the values are those of the trees on the stack, it is known whether one of these divides by 0, and the tokens to
   -- come make them the whole tree
   pub record IsDividing (tokens : List Token) (whole : Tree) (i : ℕ) (values : List (Option ℕ)) (found : Bool) : Type 0 where
     pub trees : List Tree
@@ -90,11 +90,11 @@ module _ (m : ℕ) (env : Environment) where
     pub same : values ≡ map (value_at m env) trees
     pub divides : found ≡ any_divides trees
 
-  -- before the first token nothing stands
+  -- before the first token the stack is empty
   pub starts_dividing : (tokens : List Token) → LeaveOneTerm tokens → IsDividing tokens (the_term tokens) 0 [] false
   starts_dividing tokens single = record { trees = []; left = single; same = refl; divides = refl }
 
-  -- after the last token it was found of the whole tree
+  -- after the last token it is known of the whole tree
   pub ends_dividing : (tokens : List Token) (whole : Tree) (i : ℕ) (values : List (Option ℕ)) (found : Bool) → IsDividing tokens whole i values found
       → drop i tokens ≡ [] → found ≡ divides_by_zero (value_at m env) whole
   ends_dividing tokens whole i values found now past =
@@ -119,7 +119,7 @@ module _ (m : ℕ) (env : Environment) where
           ∙ sym (token_step token now.trees next_step.0 next_step.1);
     }
 
-    -- the same of values and of an answer that are these
+    -- the same for values and a result that are equal to these
     pub steps_dividing : (after : List (Option ℕ)) (finds : Bool) → after ≡ values_with m env values token → finds
         ≡ (found || token_divides_by_zero values token)
         → IsDividing tokens whole (i + 1) after finds
@@ -130,7 +130,7 @@ module _ (m : ℕ) (env : Environment) where
     pub finds_operands_dividing : operands_of token ≤ length values
     finds_operands_dividing = omega (arith, enough token now.trees next_step.0 next_step.1, ap length now.same, length-map now.trees (value_at m env))
 
--- an expression of one token is no function
+-- the token of an expression of one token is not a function
 pub single_operands : (token : Token) → LeaveOneTerm (token ∷ []) → operands_of token ≡ 0
 single_operands token single =
     let step = step_some (terms_after []) (after_token token []) (the_term (token ∷ []) ∷ []) single in

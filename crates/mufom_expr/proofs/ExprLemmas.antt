@@ -96,7 +96,7 @@ tokens_of_expr-tree (One' f p a) t e = one_tokens f (one_operand f) (function_of
 tokens_of_expr-tree (Two' f p a q b) t e = two_tokens f (two_operands f) (function_of-two_operands f) (tokens_of_expr a) (tokens_of_expr b)
     (tree_of_expr a) (tree_of_expr b) (tokens_of_expr-tree a) (tokens_of_expr-tree b) t e
 
--- the last item that is left is the whole tree
+-- the one item that is left is that of the whole tree
 pub last_expr : (items : List Token) (whole : Tree) (i : ℕ) (stack rest : List Expr) (expr : Expr)
     → IsRunning some_tree items whole i (map tree_of_expr stack) → drop i items ≡ [] → stack ≡ expr ∷ rest
     → tree_of_expr expr ≡ Some whole

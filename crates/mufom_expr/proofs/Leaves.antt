@@ -1,4 +1,4 @@
--- How many terms tokens leave.
+-- The number of terms that tokens leave.
 use Rattle.std.proofs.Common.{◌≡◌, ℕ, zero, suc, ◌+◌, ◌-◌, ◌<◌, ◌≤◌, List, [], ◌∷◌, ◌++◌, length, Option, Some, None, refl, sym, ◌∙◌, ap, arith}
 use Rattle.std.specs.Prelude.{option_map, option_and_then}
 use Rattle.mufom_expr.specs.declared.token.Function.TheVariants as functions
@@ -20,7 +20,7 @@ pub terms_after-append : (xs ys : List Token) (s : List Tree) → terms_after (x
 terms_after-append [] ys s = refl
 terms_after-append (x ∷ xs) ys s = through xs ys (after_token x s) (terms_after-append xs ys)
 
--- what one more token leaves: its operands go, and one term comes
+-- what one more token leaves: its operands are removed, and one term is added
 abbrev LeavesAfter : Token → List Tree → Type 0
 LeavesAfter token s = option_map length (terms_after (token ∷ []) s) ≡ Some (length s - operands_of token + 1)
 
@@ -86,7 +86,7 @@ one_left tokens (Some (t ∷ u ∷ s)) run e = absurd (omega (arith, some_is (su
 pub leaves-one : (tokens : List Token) → leaves tokens ≡ Some 1 → LeaveOneTerm tokens
 leaves-one tokens e = one_left tokens (terms_after tokens []) refl e
 
--- some tokens, of which no more than one term stands
+-- at least one token, which leave at most one term
 pub leaves-few : (tokens : List Token) (n : ℕ) → leaves tokens ≡ Some n → n ≤ 1 → 0 < length tokens → LeaveOneTerm tokens
 leaves-few tokens zero e few some = absurd (omega (arith, some, ap length (leaves-zero tokens e)))
 leaves-few tokens (suc zero) e few some = leaves-one tokens e

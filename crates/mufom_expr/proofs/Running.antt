@@ -1,4 +1,4 @@
--- Going through the tokens of an expression with a stack, on which each tree that stands is stood for by one item.
+-- Processing the tokens of an expression with a stack that has one item for each tree on the stack of trees.
 use Rattle.std.proofs.Common.{◌≡◌, ℕ, ◌+◌, ◌≤◌, List, [], ◌∷◌, length, drop, map, Option, Some, None, refl, sym, ◌∙◌, ap, arith}
 use Rattle.std.specs.Prelude.{option_and_then}
 use Rattle.std.proofs.lemmas.List.{length-map}
@@ -13,13 +13,13 @@ use Rattle.mufom_expr.specs.Value.{Environment, value_at}
 use Rattle.mufom_expr.specs.ValueStack.{values_with}
 use Rattle.mufom_expr.specs.ExprTree.{trees_with}
 
--- after i tokens the items are those of the trees that stand, and the tokens to come make these the whole tree
+-- after i tokens the items are those of the trees on the stack, and the remaining tokens combine these into the whole tree
 pub record IsRunning {X : Type 0} (item : Tree → X) (tokens : List Token) (whole : Tree) (i : ℕ) (items : List X) : Type 0 where
   pub trees : List Tree
   pub left : terms_after (drop i tokens) trees ≡ Some (whole ∷ [])
   pub same : items ≡ map item trees
 
--- what a step left, where the whole run left something
+-- if the whole run left something, so did the first step
 pub step_some : {A : Type 0} (f : A → Option A) (o : Option A) (y : A) → option_and_then f o ≡ Some y → (x : A) × (o ≡ Some x) × (f x ≡ Some y)
 step_some f None y e = cc
 step_some f (Some x) y e = (x, refl, e)
@@ -55,7 +55,7 @@ enough (Fun functions.Or) s s' e = two_enough or_bits s s' e
 enough (Fun functions.Xor) s s' e = two_enough xor_bits s s' e
 
 module _ {X : Type 0} (item : Tree → X) (with : List X → Token → List X) where
-  -- a token makes of the items what it makes of the trees
+  -- a token changes the items as it changes the trees
   abbrev Fits : Token → Type 0
   Fits token = (s s' : List Tree) → after_token token s ≡ Some s' → with (map item s) token ≡ map item s'
 
@@ -88,18 +88,18 @@ module _ {X : Type 0} (item : Tree → X) (with : List X → Token → List X) w
     finds_operands = omega (arith, enough token now.trees next_step.0 next_step.1, ap length now.same, length-map now.trees item)
 
 module _ {X : Type 0} (item : Tree → X) where
-  -- before the first token nothing stands
+  -- before the first token the stack is empty
   pub starts : (tokens : List Token) → LeaveOneTerm tokens → IsRunning item tokens (the_term tokens) 0 []
   starts tokens single = record { trees = []; left = single; same = refl }
 
-  -- after the last token the item of the whole tree stands, and nothing else
+  -- after the last token the stack has the item of the whole tree, and nothing else
   pub ends : (tokens : List Token) (whole : Tree) (i : ℕ) (items : List X) → IsRunning item tokens whole i items → drop i tokens ≡ [] → items ≡ item whole ∷ []
   ends tokens whole i items now past =
       let left : ◌≡◌ {A = Option (List Tree)} (Some now.trees) (Some (whole ∷ [])) = ap (λ ts. terms_after ts now.trees) (sym past) ∙ now.left in
       let trees : now.trees ≡ whole ∷ [] = cc in
       now.same ∙ ap (map item) trees
 
--- the values that stand are those of the trees that stand
+-- the values on the stack are those of the trees on the stack
 pub values_fit : (m : ℕ) (env : Environment) (token : Token) → Fits (value_at m env) (values_with m env) token
 values_fit m env (Number n) s s' e = let same : number n ∷ s ≡ s' = cc in ap (map (value_at m env)) same
 values_fit m env (Var l p) s s' e = let same : variable l p ∷ s ≡ s' = cc in ap (map (value_at m env)) same
@@ -123,7 +123,7 @@ values_fit m env (Fun functions.Xor) s s' e = fits_two (value_at m env) (values_
 abbrev pub some_tree : Tree → Option Tree
 some_tree t = Some t
 
--- the code's trees that stand are the trees that stand
+-- the trees on the code's stack are those on the stack of trees
 pub trees_fit : (token : Token) → Fits some_tree trees_with token
 trees_fit (Number n) s s' e = let same : number n ∷ s ≡ s' = cc in ap (map some_tree) same
 trees_fit (Var l p) s s' e = let same : variable l p ∷ s ≡ s' = cc in ap (map some_tree) same

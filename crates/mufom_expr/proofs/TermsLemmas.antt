@@ -58,7 +58,7 @@ after_token-stacked (Number n) s s' e = let same : number n ∷ s ≡ s' = cc in
 after_token-stacked (Var l p) s s' e = let same : variable l p ∷ s ≡ s' = cc in ap stacked same
 after_token-stacked (Fun f) s s' e = after_function-stacked f s s' e
 
--- what a step left, where the whole run left something
+-- if the whole run left something, so did the first step
 step_some : {A : Type 0} (f : A → Option A) (o : Option A) (y : A) → option_and_then f o ≡ Some y → (x : A) × (o ≡ Some x) × (f x ≡ Some y)
 step_some f None y e = cc
 step_some f (Some x) y e = (x, refl, e)

@@ -1,4 +1,4 @@
--- What the token at the start of bytes states of them.
+-- What the token at the start of bytes says about them.
 use Rattle.std.proofs.Common.{◌≡◌, ◌⊎◌, ℕ, zero, suc, ◌+◌, ◌-◌, ◌<◌, ◌≤◌, ◌==◌, Bool, true, false, List, [], ◌∷◌, ◌++◌, length, take, drop, Option}
 use Rattle.std.proofs.Common.{Some, None, refl, sym, ap, subst, ◌∙◌, inl, inr, arith}
 use Rattle.std.specs.List.{find}
@@ -106,7 +106,7 @@ kind b = elim (cases_lt 0x88 b) [
   ]
 ]
 
--- ---- what an answer states of the input
+-- ---- what a result says about the input
 
 abbrev pub States : List ℕ → Taken Token → Type 0
 States input (Got token used) = (used ≤ length input) × SpellsToken token (take used input)
@@ -186,7 +186,7 @@ states_letter b bytes high out fits (Some letter) e (Bad offset reason) number =
     let byte : b ≡ letter_byte letter = found_at letter_byte b all_letters letter e in
     (letter, bytes, ap (λ x. x ∷ bytes) byte, inl (bad-number_at bytes fits (bad_is bytes offset reason number)))
 
--- an answer that is got stands for a prefix that spells it
+-- if a token is returned, a prefix of the input spells it
 pub got_prefix : (input : List ℕ) (r : Taken Token) → States input r → IfGot r (λ token used. (used ≤ length input) × SpellsToken token (take used input))
 got_prefix input (Got token used) states = states
 got_prefix input More states = tt
@@ -200,7 +200,7 @@ states (b ∷ bytes) fits = elim (kind b) [
   | of_letter high out ↦ rw (letter_kind b bytes high out) (states_letter b bytes high out fits.1 (letter_of b) refl (number_at bytes) refl)
 ]
 
--- ---- what the input states of the answer
+-- ---- what the input says about the result
 
 number_low : (n lead : ℕ) (bytes : List ℕ) → SpellsNumber n (lead ∷ bytes) → lead ≤ 0x88
 number_low n lead bytes (inl short) = omega (arith, short.0)

@@ -34,7 +34,7 @@ got_same t u n k e = cc
 got_length : (t u : Token) (n k : ℕ) → ◌≡◌ {A = Taken Token} (Got t n) (Got u k) → n ≡ k
 got_length t u n k e = cc
 
--- no token is spelled by no bytes
+-- each token is spelled by at least one byte
 no_empty : (t : Token) (prefix back : List ℕ) → SpellsToken t prefix → [] ≡ prefix ++ back → ⊥
 no_empty t prefix back spells e =
     let no : ◌≡◌ {A = Taken Token} More (Got t (length prefix)) = ap token_at e ∙ token_at-spelling t prefix back spells in cc

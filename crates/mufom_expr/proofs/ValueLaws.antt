@@ -1,4 +1,4 @@
--- Values of trees: other variables, residues, and where there is none.
+-- Values of trees: renaming, residues, and when there is no value.
 use Rattle.std.proofs.Common.{◌≡◌, ◌⊎◌, ℕ, zero, suc, ◌+◌, ◌-◌, ◌*◌, ◌/◌, ◌%◌, ◌^◌, ◌<◌, ◌≤◌, ◌==◌, ◌||◌, Bool, true, false, Option, Some, None, refl}
 use Rattle.std.proofs.Common.{ap, inl, inr, arith}
 use Rattle.std.specs.Prelude.{option_map, IfSome, if◌then◌else◌, nat_lt}
@@ -24,12 +24,12 @@ value_at-renamed m env rename (two f a b) =
     let right = value_at-renamed m env rename b in
     λ i. both (two_value m f) (left i) (right i)
 
--- ---- where there is none
+-- ---- when there is no value
 
 some_or : {P : Type 0} (v : ℕ) → ◌≡◌ {A = Option ℕ} (Some v) None → P
 some_or v e = let no : ◌≡◌ {A = Option ℕ} (Some v) None = e in absurd cc
 
--- a function of two operands has no value where an operand has none, or where it divides by 0
+-- a function of two operands has no value if an operand has none, or if it divides by 0
 abbrev divides : TwoOperands → Option ℕ → Bool
 divides f y = if is_division f then is_zero y else false
 

@@ -50,11 +50,11 @@ all_letters = I ∷ L ∷ P ∷ R ∷ S ∷ X ∷ []
 abbrev pub all_functions : List Function
 all_functions = Abs ∷ Neg ∷ Plus ∷ Minus ∷ Divide ∷ Times ∷ Max ∷ Min ∷ Mod ∷ Less ∷ Greater ∷ Equal ∷ Unequal ∷ And ∷ Or ∷ Xor ∷ []
 
--- the letter of a byte, where it is that of one
+-- the letter of a byte, if it is the byte of one
 abbrev pub letter_of : ℕ → Option Letter
 letter_of b = find (λ letter. b == letter_byte letter) all_letters
 
--- the function of a byte, where it is that of one
+-- the function of a byte, if it is the byte of one
 abbrev pub function_of : ℕ → Option Function
 function_of b = find (λ f. b == function_byte f) all_functions
 

@@ -33,17 +33,17 @@ two_operands functions.Or = Some or_bits
 two_operands functions.Xor = Some xor_bits
 two_operands _ = None
 
--- a function over one tree, where it takes one
+-- a function of one tree, if it takes one
 abbrev pub over_one : Option OneOperand → Option Tree → Option Tree
 over_one (Some f) (Some a) = Some (one f a)
 over_one _ _ = None
 
--- a function over two trees, where it takes two
+-- a function of two trees, if it takes two
 abbrev pub over_two : Option TwoOperands → Option Tree → Option Tree → Option Tree
 over_two (Some f) (Some a) (Some b) = Some (two f a b)
 over_two _ _ _ = None
 
--- the tree, or none where a function stands over another number of trees than it takes
+-- the tree, or none if a function does not have as many operands as it takes
 abbrev pub tree_of_expr : Expr → Option Tree
 tree_of_expr (Number n) = Some (number n)
 tree_of_expr (Var letter place) = Some (variable letter place)
@@ -57,19 +57,19 @@ tokens_of_expr (Var letter place) = tokens.Var letter place ∷ []
 tokens_of_expr (One' f p a) = tokens_of_expr a ++ tokens.Fun f ∷ []
 tokens_of_expr (Two' f p a q b) = (tokens_of_expr a ++ tokens_of_expr b) ++ tokens.Fun f ∷ []
 
--- Each function stands over as many trees as it takes, and there are at most 255 tokens.
+-- Each function has as many operands as it takes, and there are at most 255 tokens.
 abbrev pub IsExpression : Expr → Type 0
 IsExpression expr = IsSomeAnd (tree_of_expr expr) (λ t. length (tokens_of t) ≤ 255)
 
--- ---- the trees that stand while the tokens of an expression are gone through, the last first
+-- ---- the stack of trees while the tokens of an expression are processed, the topmost tree first
 
--- the trees that are after a function of one or two operands
+-- the stack of trees after a function of one or two operands
 abbrev pub trees_applied : ℕ → Function → List (Option Tree) → List (Option Tree)
 trees_applied (suc zero) f (a ∷ trees) = over_one (one_operand f) a ∷ trees
 trees_applied (suc (suc zero)) f (b ∷ a ∷ trees) = over_two (two_operands f) a b ∷ trees
 trees_applied _ f trees = trees
 
--- the trees that are after a token
+-- the stack of trees after a token
 abbrev pub trees_with : List (Option Tree) → Token → List (Option Tree)
 trees_with trees (tokens.Number n) = Some (number n) ∷ trees
 trees_with trees (tokens.Var letter place) = Some (variable letter place) ∷ trees

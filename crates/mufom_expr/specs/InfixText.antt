@@ -17,7 +17,7 @@ letter_text R = codes "R"
 letter_text S = codes "S"
 letter_text X = codes "X"
 
--- what is before the operands of a function
+-- the text before the operands of a function
 abbrev pub opening_text : Function → List ℕ
 opening_text Abs = codes "abs("
 opening_text Neg = codes "neg("
@@ -29,7 +29,7 @@ opening_text Or = codes "or("
 opening_text Xor = codes "xor("
 opening_text _ = codes "("
 
--- what is between the two operands of a function
+-- the text between the two operands of a function
 abbrev pub middle_text : Function → List ℕ
 middle_text Plus = codes " + "
 middle_text Minus = codes " - "

@@ -27,27 +27,27 @@ SpellsTokens (token ∷ tokens) bytes = (prefix : List ℕ) × (back : List ℕ)
 abbrev pub SpellsTree : Tree → List ℕ → Type 0
 SpellsTree tree bytes = (length (tokens_of tree) ≤ 255) × SpellsTokens (tokens_of tree) bytes
 
--- ---- what no token begins
+-- ---- bytes that do not begin a token
 
 -- the first byte is such a byte
 abbrev pub BeginsWith : (ℕ → Type 0) → List ℕ → Type 0
 BeginsWith Is [] = ⊥
 BeginsWith Is (b ∷ _) = Is b
 
--- a byte of the functions that is that of none that is read
+-- a byte in the range of functions that is not the byte of a supported function
 abbrev pub IsLeftOutFunction : ℕ → Type 0
 IsLeftOutFunction b = (FIRST_FUNCTION ≤ b) × (b ≤ LAST_FUNCTION) × ((f : Function) → b ≢ function_byte f)
 
--- a byte that begins no number, is none of the functions' and is that of no letter that is read
+-- a byte that does not begin a number, is not in the range of functions, and is not the byte of a supported letter
 abbrev pub IsLeftOutLetter : ℕ → Type 0
 IsLeftOutLetter b = (LAST_NUMBER < b) × ((b < FIRST_FUNCTION) ⊎ (LAST_FUNCTION < b)) × ((letter : Letter) → b ≢ letter_byte letter)
 
--- a letter, and then no number, or one that is no index
+-- a letter that is not followed by a number, or by one that is too large for an index
 abbrev pub HasBadIndex : List ℕ → Type 0
 HasBadIndex input = (letter : Letter) × (rest : List ℕ) × (input ≡ letter_byte letter ∷ rest)
     × (BeginsIn 0x89 0xFF rest ⊎ ((n : ℕ) × (text : List ℕ) × (more : List ℕ) × (2 ^ 32 ≤ n) × SpellsNumber n text × (rest ≡ text ++ more)))
 
--- the prefix of a number and not all of it, or a letter and such a prefix
+-- a proper prefix of a number, or a letter and such a prefix
 abbrev pub IsCutOffToken : List ℕ → Type 0
 IsCutOffToken input = ((n : ℕ) × IsCutOff (SpellsNumber n) input)
     ⊎ ((letter : Letter) × (rest : List ℕ) × (input ≡ letter_byte letter ∷ rest) × (n : ℕ) × IsCutOff (SpellsNumber n) rest)
@@ -61,13 +61,13 @@ pub record Indexes : Type 0 where
   pub references : List ℕ
   pub debug_names : List ℕ
 
--- the list that a letter's index is one of
+-- the index list for a letter
 abbrev pub list_of : Indexes → Letter → List ℕ
 list_of ix I = ix.publics
 list_of ix X = ix.references
 list_of ix _ = ix.sections
 
--- the second tree has the index of the file where the first has a position
+-- the second tree has the index of the file in each place where the first has a position
 abbrev pub IsIndexed : Indexes → Tree → Tree → Type 0
 IsIndexed ix (number n) (number m) = n ≡ m
 IsIndexed ix (variable letter position) (variable other index) = (letter ≡ other) × (slice_get (list_of ix letter) position ≡ Some index)

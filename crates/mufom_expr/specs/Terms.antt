@@ -8,12 +8,12 @@ use Rattle.mufom_expr.specs.Codes.{operands_of}
 use Rattle.mufom_expr.specs.Tree.{Tree, number, variable, one, two, OneOperand, absolute, negated, TwoOperands, plus, minus, divided, times, larger}
 use Rattle.mufom_expr.specs.Tree.{smaller, modulo, is_less, is_greater, is_equal, is_unequal, and_bits, or_bits, xor_bits}
 
--- the terms after a function of one operand, the topmost first, or none where it finds too few
+-- the terms after a function of one operand, the topmost first, or none if it finds too few
 abbrev pub on_one : OneOperand → List Tree → Option (List Tree)
 on_one f [] = None
 on_one f (a ∷ terms) = Some (one f a ∷ terms)
 
--- the same after a function of two operands, of which the topmost term is the second
+-- the same after a function of two operands; the topmost term is its second operand
 abbrev pub on_two : TwoOperands → List Tree → Option (List Tree)
 on_two f [] = None
 on_two f (b ∷ []) = None
@@ -62,7 +62,7 @@ the_term tokens = the_only (terms_after tokens [])
 abbrev pub LeaveOneTerm : List Token → Type 0
 LeaveOneTerm tokens = terms_after tokens [] ≡ Some (the_term tokens ∷ [])
 
--- how many terms the tokens leave, or none where a function finds too few
+-- how many terms the tokens leave, or none if a function finds too few
 abbrev pub leaves : List Token → Option ℕ
 leaves tokens = option_map length (terms_after tokens [])
 

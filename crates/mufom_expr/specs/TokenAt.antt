@@ -11,7 +11,7 @@ use Rattle.mufom_expr.specs.declared.token.Token.{Token}
 use Rattle.mufom_expr.specs.declared.token.Token.TheVariants.{Number, Var, Fun}
 use Rattle.mufom_expr.specs.Codes.{letter_of, function_of}
 
--- a byte of those from low to high
+-- a byte in the range from low to high
 abbrev pub is_from_to : ℕ → ℕ → ℕ → Bool
 is_from_to low high b = nat_le low b && nat_le b high
 
@@ -19,7 +19,7 @@ is_from_to low high b = nat_le low b && nat_le b high
 abbrev pub begins_number : ℕ → Bool
 begins_number b = nat_le b LAST_NUMBER
 
--- a byte that begins a number, a function or a letter, those that are left out too
+-- a byte that begins a number, a function or a letter, including those that the profile leaves out
 abbrev pub begins_token : ℕ → Bool
 begins_token b = begins_number b || (is_from_to FIRST_FUNCTION LAST_FUNCTION b || is_from_to LETTER_A LETTER_Z b)
 
@@ -29,7 +29,7 @@ number_token (Got n used) = Got (Number n) used
 number_token More = More
 number_token (Bad offset reason) = Bad offset reason
 
--- a function as a token, or the fault of one that is left out
+-- a function as a token, or the error for one that the profile leaves out
 abbrev pub function_token : Option Function → Taken Token
 function_token (Some f) = Got (Fun f) 1
 function_token None = Bad 0 UnsupportedFunction
@@ -48,7 +48,7 @@ token_at (b ∷ bytes) = if begins_number b then number_token (number_at (b ∷ 
     else (if is_from_to FIRST_FUNCTION LAST_FUNCTION b then function_token (function_of b)
     else variable_token (letter_of b) (number_at bytes))
 
--- a token that was got, and those after it
+-- a token that was read, and those after it
 abbrev pub first_token : Taken Token → (ℕ → List Token) → List Token
 first_token (Got token used) after = token ∷ after used
 first_token _ after = []

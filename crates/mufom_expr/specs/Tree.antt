@@ -1,4 +1,4 @@
--- An expression as a tree (IEEE Std 695, expressions), which is what a postfix expression stands for. A function of the
+-- An expression as a tree (IEEE Std 695, expressions), which is the meaning of a postfix expression. A function of the
 -- tree has as many operands as its constructor states, so each tree is one of an expression.
 use Rattle.std.specs.Prelude.{ℕ, ◌<◌, ◌^◌, List, [], ◌∷◌, ◌++◌}
 use Rattle.mufom_expr.specs.declared.token.Letter.{Letter}

@@ -1,4 +1,4 @@
--- The code of a tree, by which a proof shows two trees apart: the tokens as numbers.
+-- The code of a tree, its tokens as numbers, by which a proof can tell two trees apart.
 use Rattle.std.specs.Prelude.{◌≡◌, ℕ, ◌==◌, List, [], ◌∷◌, ◌++◌, Some, if◌then◌else◌, refl, option_and_then}
 use Rattle.std.proofs.Common.{sym, ◌∙◌, ap, append_assoc, append-nil}
 use Rattle.std.specs.Coded.{Coded, code_by, coded×, coded_list, coded_ℕ}

@@ -6,7 +6,7 @@ use Rattle.mufom_expr.specs.declared.token.Letter.{Letter}
 use Rattle.mufom_expr.specs.Tree.{Tree, number, variable, one, two, OneOperand, absolute, negated, TwoOperands, plus, minus, divided, times, larger}
 use Rattle.mufom_expr.specs.Tree.{smaller, modulo, is_less, is_greater, is_equal, is_unequal, and_bits, or_bits, xor_bits}
 
--- what each variable is worth, or none
+-- the value of each variable, or none
 abbrev pub Environment : Type 0
 Environment = Letter → ℕ → Option ℕ
 
@@ -14,12 +14,12 @@ Environment = Letter → ℕ → Option ℕ
 abbrev pub minus_modulo : ℕ → ℕ → ℕ
 minus_modulo m a = (m - a) % m
 
--- a function of one residue modulo m: the magnitude of its two's complement reading, or its negative
+-- a function of one residue modulo m: the magnitude of its two's complement reading, or its negation
 abbrev pub one_value : ℕ → OneOperand → ℕ → ℕ
 one_value m absolute a = if nat_lt (a + a) m then a else minus_modulo m a
 one_value m negated a = minus_modulo m a
 
--- what a test gives
+-- the value of a test
 abbrev pub bit_of : Bool → ℕ
 bit_of b = if b then 1 else 0
 
@@ -45,14 +45,14 @@ two_value m and_bits a b = Some (bit_and a b)
 two_value m or_bits a b = Some (bit_or a b)
 two_value m xor_bits a b = Some (bit_xor a b)
 
--- both operands, where both have a value
+-- both operands, if both have a value
 abbrev pub both : (ℕ → ℕ → Option ℕ) → Option ℕ → Option ℕ → Option ℕ
 both f (Some a) (Some b) = f a b
 both f (Some a) None = None
 both f None b = None
 
--- The value of a tree modulo m, where the environment states what each variable is worth. It is none where a variable
--- that is in the tree has none, or where a divisor is 0.
+-- The value of a tree modulo m, in an environment that gives each variable its value. There is none if a variable of
+-- the tree has no value, or if a divisor is 0.
 abbrev pub value_at : ℕ → Environment → Tree → Option ℕ
 value_at m env (number n) = Some (n % m)
 value_at m env (variable letter place) = option_map (λ v. v % m) (env letter place)
@@ -66,7 +66,7 @@ variables_of (variable letter place) = (letter, place) ∷ []
 variables_of (one f a) = variables_of a
 variables_of (two f a b) = variables_of a ++ variables_of b
 
--- the tree with another variable in the place of each
+-- the tree with each variable replaced by another
 abbrev pub with_variables : (Letter → ℕ → Letter × ℕ) → Tree → Tree
 with_variables rename (number n) = number n
 with_variables rename (variable letter place) = let v = rename letter place in variable v.0 v.1
@@ -85,7 +85,7 @@ is_division divided = true
 is_division modulo = true
 is_division _ = false
 
--- somewhere in the tree a divisor has the value 0, where the value of each part is given
+-- somewhere in the tree a divisor has the value 0, given a function that values each part
 abbrev pub divides_by_zero : (Tree → Option ℕ) → Tree → Bool
 divides_by_zero worth (number n) = false
 divides_by_zero worth (variable letter place) = false

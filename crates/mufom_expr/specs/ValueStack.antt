@@ -1,4 +1,4 @@
--- The values that stand while the tokens of an expression are gone through, the last first.
+-- The stack of values while the tokens of an expression are processed, the topmost value first.
 use Rattle.std.specs.Prelude.{ℕ, zero, suc, ◌%◌, ◌<◌, List, [], ◌∷◌, Option, Some, None, option_map, slice_get, IfSome, Bool, false}
 use Rattle.std.specs.List.{AllByRecursion}
 use Rattle.mufom_expr.specs.declared.token.Function.{Function}
@@ -33,19 +33,19 @@ binary_value m functions.Or a b = two_value m or_bits a b
 binary_value m functions.Xor a b = two_value m xor_bits a b
 binary_value m _ a b = None
 
--- the values that are after a function of one or two operands, where these are before it
+-- the stack of values after a function of one or two operands, given the stack before it
 abbrev pub values_applied : ℕ → ℕ → Function → List (Option ℕ) → List (Option ℕ)
 values_applied m (suc zero) f (a ∷ values) = option_map (unary_value m f) a ∷ values
 values_applied m (suc (suc zero)) f (b ∷ a ∷ values) = both (binary_value m f) a b ∷ values
 values_applied m _ f values = values
 
--- the values that are after a token
+-- the stack of values after a token
 abbrev pub values_with : ℕ → Environment → List (Option ℕ) → Token → List (Option ℕ)
 values_with m env values (Number n) = Some (n % m) ∷ values
 values_with m env values (Var letter place) = option_map (λ v. v % m) (env letter place) ∷ values
 values_with m env values (Fun f) = values_applied m (operands f) f values
 
--- the values that are after the tokens
+-- the stack of values after the tokens
 abbrev pub values_after : ℕ → Environment → List (Option ℕ) → List Token → List (Option ℕ)
 values_after m env values [] = values
 values_after m env values (token ∷ tokens) = values_after m env (values_with m env values token) tokens
@@ -59,7 +59,7 @@ abbrev pub zero_there : Option (Option ℕ) → Bool
 zero_there None = false
 zero_there (Some value) = is_zero value
 
--- the token divides by the last of these values, and that is 0
+-- the token divides by the topmost of these values, and that is 0
 abbrev pub token_divides_by_zero : List (Option ℕ) → Token → Bool
 token_divides_by_zero values (Fun functions.Divide) = zero_there (slice_get values 0)
 token_divides_by_zero values (Fun functions.Mod) = zero_there (slice_get values 0)

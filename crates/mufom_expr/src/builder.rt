@@ -14,8 +14,8 @@ use std::marker::Model;
 
 const MAX_TOKENS: usize = 255;
 
-/// Tokens of which each function found its operands, at most 255. Contracts see them as their
-/// list.
+/// Builds an expression from its tokens in postfix order: at most 255 tokens, in which each function finds
+/// its operands. Contracts see the list of the tokens.
 #[derive(Debug, Drop)]
 pub struct Builder {
     tokens: Vec<Token>,
@@ -35,7 +35,7 @@ impl Model for Builder {
 }
 
 impl Builder {
-    /// No tokens. Does not allocate.
+    /// A builder without tokens. Does not allocate.
     pub fn new(alloc: Global) -> Builder
         ensures { result ≡ [] }
     {
@@ -45,7 +45,7 @@ impl Builder {
         }
     }
 
-    /// No tokens, with room for `count` of them.
+    /// A builder without tokens, with room for `count` of them.
     pub fn with_capacity(alloc: Global, count: usize) -> Result<Builder, NoMemory>
         ensures { IfOk result (λ b. b ≡ []) }
     {
@@ -55,8 +55,8 @@ impl Builder {
 
     /// Adds a token at the end.
     ///
-    /// `TooLong` where 255 tokens stand, and else `Underflow` where the token is a function that
-    /// finds fewer terms than it takes. A refused call changes nothing.
+    /// Returns `TooLong` if there are 255 tokens already, and otherwise `Underflow` if the token is a
+    /// function that finds fewer terms than it takes. After an error nothing has changed.
     pub fn push(&mut self, token: Token) -> Result<(), ExprFault>
         ensures ok { OnOk result (self.new ≡ self.old ++ token ∷ []) }
         ensures err { OnErr result (self.new ≡ self.old) }
@@ -79,10 +79,10 @@ impl Builder {
         Ok(())
     }
 
-    /// The expression that the tokens are. Does not allocate.
+    /// The expression that consists of the tokens. Does not allocate.
     ///
-    /// `Empty` where no token stands, and `SurplusTerms` where more than one term stands. A refused
-    /// call gives nothing back.
+    /// Returns `Empty` if there are no tokens, and `SurplusTerms` if more than one term is left. On an
+    /// error the tokens are dropped.
     pub fn finish(self) -> Result<Postfix, ExprFault>
         ensures tree { IfOk result (λ p. p ≡ the_term self) }
         ensures tokens { IfOk result (λ p. tokens_of p ≡ self) }

@@ -5,17 +5,17 @@ ghost use Rattle.mufom_expr.specs.declared.token.Letter.{Letter};
 
 use crate::token::Letter;
 
-/// What gives variables their values.
+/// An environment: it gives variables their values.
 pub trait Env {
     /// The value of a variable, by its letter and its number, or none.
     ghost meaning: { Self → Letter → ℕ → Option ℕ };
 
-    /// The value of a variable, or `None` where it has none.
+    /// The value of a variable, or `None` if it has none.
     fn lookup(&self, letter: Letter, index: u32) -> Option<u64>
         ensures { result ≡ meaning self.now letter index };
 }
 
-/// What puts other variables in the place of variables.
+/// A renaming: it replaces variables by other variables.
 pub trait VarMap {
     /// The variable that replaces a variable, by letter and number.
     ghost meaning: { Self → Letter → ℕ → Letter × ℕ };

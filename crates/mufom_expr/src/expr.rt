@@ -19,7 +19,7 @@ pub enum Expr {
     Two(Function, Box<Expr>, Box<Expr>),
 }
 
-/// Takes the last tree off a stack that has one.
+/// Pops the last tree of a stack that is not empty.
 pub(crate) fn pop_expr(stack: &mut Vec<Expr>) -> Expr
     requires { 0 < length stack.old.items }
     ensures trees { reverse stack.old.items ≡ result ∷ reverse stack.new.items }
@@ -63,7 +63,7 @@ fn join_two(alloc: Global, stack: &mut Vec<Expr>, function: Function) -> Result<
     )
 }
 
-/// What a token makes of the trees that stand.
+/// Applies a token to the stack: pushes the tree of a number or variable, or replaces a function's operands by its tree.
 pub(crate) fn grow(alloc: Global, stack: &mut Vec<Expr>, token: Token) -> Result<(), NoMemory>
     requires { operands_of token ≤ length stack.old.items }
     ensures trees { OnOk result (map tree_of_expr (reverse stack.new.items) ≡ trees_with (map tree_of_expr (reverse stack.old.items)) token) }

@@ -1,8 +1,8 @@
-//! Why tokens are not one expression.
+//! Errors of token sequences that are not one expression.
 
 use thiserror::Error;
 
-/// Why tokens are no expression.
+/// Why a sequence of tokens is not an expression.
 #[derive(Clone, Copy, Debug, PartialEq, Eq, Error)]
 pub enum ExprFault {
     /// A function finds fewer terms before it than it has operands.
@@ -11,7 +11,7 @@ pub enum ExprFault {
     /// More than one term is left at the end.
     #[error("more than one term is left")]
     SurplusTerms,
-    /// There is no token at the end.
+    /// There are no tokens.
     #[error("there is no token")]
     Empty,
     /// A 256th token.

@@ -9,10 +9,10 @@ use crate::token::{Function, Letter};
 use mufom_numbers::{Bytes, NoMemory};
 use std::alloc::Global;
 
-/// The expression in infix form, as `(R0 + 4)`.
+/// The expression in infix form, for example `(R0 + 4)`.
 ///
-/// Each function stands over as many trees as it takes, and there are at most 255 tokens, as in
-/// each tree of `Postfix::to_expr`.
+/// Each function must have as many operands as it takes, and there must be at most 255 tokens. Both hold
+/// for each tree that `Postfix::to_expr` returns.
 pub fn infix(alloc: Global, expr: &Expr) -> Result<Bytes, NoMemory>
     requires { IsExpression expr.now }
     ensures { IfOk result (λ text. IfSome (tree_of_expr expr.now) (λ t. text ≡ infix_text t)) }
@@ -36,7 +36,7 @@ pub fn letter_name(letter: Letter) -> &'static str
     }
 }
 
-/// What is before the operands of a function in the infix form.
+/// The text before the operands of a function in the infix form.
 pub fn infix_opening(function: Function) -> &'static str
     ensures { result.now ≡ opening_text function }
 {
@@ -53,7 +53,7 @@ pub fn infix_opening(function: Function) -> &'static str
     }
 }
 
-/// What is between the two operands of a function in the infix form.
+/// The text between the two operands of a function in the infix form.
 pub fn infix_middle(function: Function) -> &'static str
     ensures { result.now ≡ middle_text function }
 {
@@ -70,7 +70,7 @@ pub fn infix_middle(function: Function) -> &'static str
     }
 }
 
-// Adds the infix form at the end of the text.
+// Appends the infix form to the text.
 fn write_infix(text: &mut String, expr: &Expr) -> Result<(), NoMemory>
     requires { IsSome (tree_of_expr expr.now) }
     ensures { OnOk result (IfSome (tree_of_expr expr.now) (λ t. string_bytes text.new ≡ string_bytes text.old ++ infix_text t)) }

@@ -1,10 +1,10 @@
-//! Expressions of object modules: tokens as a file spells them, expressions in postfix form, the
-//! trees that they are, and their values.
+//! Expressions of object modules: tokens as a file spells them, expressions in postfix form, their
+//! trees, and their values.
 //!
-//! It depends on `mufom_numbers`, `arrayvec` and `thiserror`. Valuing does not allocate. Its main clause
-//! is that of [`Postfix::value`]: what the run over the tokens leaves is the value of the
-//! expression's tree modulo 2 to the width, for everything that gives variables their values.
-//! Contracts see a [`Postfix`] as its tree, which its tokens give and which gives them back.
+//! It depends on `mufom_numbers`, `arrayvec` and `thiserror`. Evaluation does not allocate. Its main
+//! clause is that of [`Postfix::value`]: evaluating the tokens with a stack gives the value of the
+//! expression's tree modulo 2 to the width, in every environment. Contracts see a [`Postfix`] as its
+//! tree; tree and tokens determine each other.
 #![tactic(auto)]
 
 mod builder;

@@ -6,8 +6,8 @@ ghost use Rattle.mufom_expr.specs.Mentions.{variables_in};
 use crate::token::{Letter, Token};
 use std::marker::Model;
 
-/// The variables of an expression, one for each mention, in the order of its tokens. Contracts see
-/// those that are still to come.
+/// An iterator over the variables of an expression, one for each mention, in the order of its tokens.
+/// Contracts see those that are still to come.
 #[derive(Debug, Drop)]
 pub struct Mentions<'a> {
     rest: &'a [Token],

@@ -28,7 +28,7 @@ pub struct Postfix {
     tokens: Tokens,
 }
 
-/// The tokens of an expression. One alone, as most expressions have, is held without memory of its own.
+/// The tokens of an expression. A single token, the usual case, is held without an allocation.
 #[derive(Drop)]
 pub(crate) enum Tokens {
     One(Token),
@@ -87,8 +87,8 @@ impl Postfix {
         }
     }
 
-    /// The expression itself, with another variable in the place of each: that which the map gives. Takes
-    /// no memory.
+    /// The expression itself, with each variable replaced by the one that the map gives. Does not
+    /// allocate.
     pub fn renamed<M: VarMap>(self, map: &M) -> Postfix
         ensures { result ≡ with_variables (M.meaning map.now) self }
     {
@@ -99,7 +99,7 @@ impl Postfix {
         }
     }
 
-    /// The expression of tokens that are one. Does not allocate.
+    /// The expression of these tokens, which must form one. Does not allocate.
     pub fn of(tokens: Vec<Token>) -> Postfix
         requires one { LeaveOneTerm tokens.items }
         requires few { length tokens.items ≤ 255 }
@@ -123,8 +123,8 @@ impl Postfix {
         self.tokens.as_slice()
     }
 
-    /// The value modulo 2 to the width, which is 8 to 64: `None` where a variable of the expression has
-    /// no value or a divisor is 0. Does not allocate.
+    /// The value modulo 2 to the width, which is 8 to 64 bits, or `None` if a variable of the expression
+    /// has no value or a divisor is 0. Does not allocate.
     pub fn value<E: Env>(&self, env: &E, width: u32) -> Option<u64>
         requires low { 8 ≤ width }
         requires high { width ≤ 64 }
@@ -138,7 +138,7 @@ impl Postfix {
     }
 
     /// Whether a divisor somewhere in the expression has the value 0 modulo 2 to the width, which is 8
-    /// to 64. A divisor without a value does not count. Does not allocate.
+    /// to 64 bits. A divisor without a value does not count. Does not allocate.
     pub fn divides_by_zero<E: Env>(&self, env: &E, width: u32) -> bool
         requires low { 8 ≤ width }
         requires high { width ≤ 64 }
@@ -147,8 +147,8 @@ impl Postfix {
         has_zero_divisor(self.tokens.as_slice(), env, width)
     }
 
-    /// The variables of the expression, one for each mention, in the order of its tokens. Takes no
-    /// memory.
+    /// The variables of the expression, one for each mention, in the order of its tokens. Does not
+    /// allocate.
     pub fn mentions(&self) -> Mentions<'_>
         ensures tokens { result ≡ variables_in (tokens_of self.now) }
         ensures tree { result ≡ variables_of self.now }
@@ -156,8 +156,8 @@ impl Postfix {
         Mentions::of(self.tokens())
     }
 
-    /// The same expression with another variable in the place of each: that which the map gives. An
-    /// expression of one token does not allocate.
+    /// A copy of the expression, with each variable replaced by the one that the map gives. Does not
+    /// allocate if the expression has one token.
     pub fn map_vars<M: VarMap>(&self, alloc: Global, map: &M) -> Result<Postfix, NoMemory>
         ensures tree { IfOk result (λ p. p ≡ with_variables (M.meaning map.now) self.now) }
         ensures tokens { IfOk result (λ p. tokens_of p ≡ renamed_tokens (M.meaning map.now) (tokens_of self.now)) }
@@ -184,7 +184,7 @@ impl Postfix {
         Ok(pop_expr(&mut stack))
     }
 
-    /// A copy, which is the same expression.
+    /// A copy of the expression.
     pub fn copy(&self, alloc: Global) -> Result<Postfix, NoMemory>
         ensures { IfOk result (λ p. p ≡ self.now) }
     {
@@ -195,7 +195,7 @@ impl Postfix {
         Ok(Postfix { tokens })
     }
 
-    /// Whether the two are the same expression: the same tokens, so the same tree. Does not allocate.
+    /// Whether the two expressions are the same: they have the same tokens, and so the same tree. Does not allocate.
     pub fn equals(&self, other: &Postfix) -> bool
         ensures { IsTrue result ↔ (self.now ≡ other.now) }
     {
@@ -203,7 +203,7 @@ impl Postfix {
     }
 }
 
-// The value of tokens that are an expression.
+// The value of tokens that form an expression.
 fn stack_value<E: Env>(tokens: &[Token], env: &E, width: u32) -> Option<u64>
     requires one { LeaveOneTerm tokens.now }
     requires few { length tokens.now ≤ 255 }
@@ -219,7 +219,7 @@ fn stack_value<E: Env>(tokens: &[Token], env: &E, width: u32) -> Option<u64>
     pop_value(&mut stack)
 }
 
-// The value of tokens that are an expression, without the stack where they are few enough.
+// The value of tokens that are an expression; a short form is evaluated without the stack.
 fn several_value<E: Env>(tokens: &[Token], env: &E, width: u32) -> Option<u64>
     requires one { LeaveOneTerm tokens.now }
     requires few { length tokens.now ≤ 255 }
@@ -234,7 +234,7 @@ fn several_value<E: Env>(tokens: &[Token], env: &E, width: u32) -> Option<u64>
     }
 }
 
-// Whether a divisor in the expression that these tokens are has the value 0.
+// Whether a divisor in the expression of these tokens has the value 0.
 fn has_zero_divisor<E: Env>(tokens: &[Token], env: &E, width: u32) -> bool
     requires one { LeaveOneTerm tokens.now }
     requires few { length tokens.now ≤ 255 }
@@ -278,7 +278,7 @@ fn renamed_all<M: VarMap>(alloc: Global, map: &M, tokens: &[Token]) -> Result<Ve
     Ok(all)
 }
 
-// The tokens with their variables renamed, in their place.
+// The tokens with their variables renamed in place.
 fn rename_all<M: VarMap>(map: &M, mut tokens: Vec<Token>) -> Vec<Token>
     ensures value { result.items ≡ renamed_tokens (M.meaning map.now) tokens.items }
     ensures range { AllByRecursion IsInRange result.items }

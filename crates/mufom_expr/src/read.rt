@@ -10,7 +10,7 @@ ghost use Rattle.mufom_expr.specs.TokenAt.{token_at, variable_token};
 use crate::token::{Function, Letter, Token};
 use mufom_numbers::{Reason, Taken, codes, read_number};
 
-// The first byte that is no number by itself, but the lead of one.
+// The first byte that is the lead of a number and not a number by itself.
 const FIRST_LEAD: u8 = 0x80;
 
 #[inline(always)]
@@ -52,17 +52,21 @@ fn function(b: u8) -> Option<Function>
     }
 }
 
-/// Reads the token at the start of the input, and states how many bytes it takes.
+/// Reads the token at the start of the input, and returns it with the length of its spelling in bytes.
 ///
-/// `Bad` is at offset 0 with `UnsupportedFunction` where the first byte is that of a function which is
-/// left out, at offset 0 with `UnsupportedVariable` for every other byte that begins no number and is
-/// no letter that is read (the caller hands in bytes that begin a token), and at offset 1 with
-/// `BadNumber` where a letter is followed by no number or by one of 2^32 or more. Does not allocate.
+/// Returns `Bad`
+///
+/// - at offset 0 with `UnsupportedFunction`, if the first byte is that of a function which this profile leaves out,
+/// - at offset 0 with `UnsupportedVariable`, if it is any other byte that does not begin a number and is not a
+///   supported letter (callers pass bytes that begin a token), and
+/// - at offset 1 with `BadNumber`, if a letter is not followed by a number, or by one of 2^32 or more.
+///
+/// Does not allocate.
 #[inline(always)]
 pub fn read_token(input: &[u8]) -> Taken<Token>
-    // What is taken is the prefix of the input, and spells the token.
+    // The bytes taken are a prefix of the input, and spell the token.
     ensures got { IfGot result (λ t used. (used ≤ length input.now) × SpellsToken t (take used input.now)) }
-    // An input that begins with a spelling gives its token.
+    // If the input begins with a spelling of a token, the result is that token.
     ensures only { (t : Token) (text rest : List ℕ) → SpellsToken t text → input.now ≡ text ++ rest → result ≡ Taken.Got t (length text) }
     ensures more { (result ≡ Taken.More) ↔ IsCutOffToken input.now }
     ensures function { (result ≡ Taken.Bad 0 Reason.UnsupportedFunction) ↔ BeginsWith IsLeftOutFunction input.now }
@@ -111,7 +115,7 @@ fn token(input: &[u8]) -> Taken<Token>
     }
 }
 
-// The variable of this letter, of which the index is next: most have one byte.
+// The variable with this letter, whose index comes next; most indexes have one byte.
 #[inline(always)]
 fn variable(letter: Letter, rest: &[u8]) -> Taken<Token>
     ensures exact { result ≡ variable_token (Some letter) (number_at rest.now) }
@@ -125,7 +129,7 @@ fn variable(letter: Letter, rest: &[u8]) -> Taken<Token>
     variable_of_number(letter, rest)
 }
 
-// The variable of this letter, of which the index is the number that is next.
+// The variable with this letter, whose index is the number that comes next.
 #[inline(never)]
 fn variable_of_number(letter: Letter, rest: &[u8]) -> Taken<Token>
     ensures exact { result ≡ variable_token (Some letter) (number_at rest.now) }

@@ -4,7 +4,7 @@ ghost use Rattle.std.specs.Prelude.{◌≡◌};
 ghost use Rattle.mufom_expr.specs.Codes.{operands_of};
 ghost use Rattle.mufom_expr.specs.Tree.{IsInRange};
 
-/// What a variable stands for, by the letter of the format.
+/// What a variable means, by its letter in the format.
 #[derive(Clone, Copy, Debug, PartialEq, Eq)]
 pub enum Letter {
     /// The value of a public name.
@@ -50,8 +50,8 @@ pub enum Function {
     Xor,
 }
 
-/// One token of a postfix expression. A variable's number is an index in a file, and a position
-/// in memory.
+/// One token of a postfix expression. The number of a variable is the index that a file gives to the
+/// entry, or in memory the position of the entry in its list.
 #[derive(Clone, Copy, Debug, PartialEq, Eq)]
 pub enum Token {
     Number(u64),
@@ -59,7 +59,7 @@ pub enum Token {
     Fun(Function),
 }
 
-/// How many terms a token takes as its operands.
+/// The number of operands of a token: 0, 1 or 2.
 pub fn operands(token: Token) -> usize
     ensures count { result ≡ operands_of token }
     ensures range { IsInRange token }

@@ -1,4 +1,4 @@
-//! Values on a stack of residues.
+//! Evaluating expressions with a stack of residues.
 
 ghost use Rattle.std.specs.Prelude.{◌≡◌, ◌+◌, ◌^◌, ◌<◌, ◌≤◌, ◌%◌, ◌||◌};
 ghost use Rattle.std.specs.Prelude.{Some, length, reverse, option_map, slice_get, [], ◌∷◌, IfSome};
@@ -11,7 +11,7 @@ use crate::env::Env;
 use crate::token::{Function, Token, operands};
 use arrayvec::ArrayVec;
 
-/// The values that stand, the last at the end: one for each token at most.
+/// The values on the stack, the topmost at the end: at most one for each token.
 pub(crate) type Stack = ArrayVec<Option<u64>, 255>;
 
 fn unary(function: Function, a: u64, width: u32) -> u64
@@ -84,7 +84,7 @@ fn push_value(stack: &mut Stack, value: Option<u64>)
     stack.push(value);
 }
 
-/// Takes the last value off a stack that has one.
+/// Pops the topmost value of a stack that is not empty.
 pub(crate) fn pop_value(stack: &mut Stack) -> Option<u64>
     requires { 0 < length stack.old.items }
     ensures value { reverse stack.old.items ≡ result ∷ reverse stack.new.items }
@@ -154,7 +154,7 @@ fn apply_binary(stack: &mut Stack, function: Function, width: u32)
     push_value(stack, binary_of(function, a, b, width));
 }
 
-/// What a token makes of the values that stand.
+/// Applies a token to the stack: pushes the value of a number or variable, or replaces a function's operands by its value.
 pub(crate) fn step<E: Env>(stack: &mut Stack, token: Token, env: &E, width: u32)
     requires low { 1 ≤ width }
     requires high { width ≤ 64 }
@@ -194,7 +194,7 @@ pub(crate) fn single_value<E: Env>(token: Token, env: &E, width: u32) -> Option<
     }
 }
 
-// The value of a function of two tokens that are no functions themselves. Needs no stack.
+// The value of a function of two tokens, neither of which is a function. Needs no stack.
 fn pair_value<E: Env>(
     left: Token,
     right: Token,
@@ -215,7 +215,7 @@ fn pair_value<E: Env>(
     binary_of(function, left, right, width)
 }
 
-// The same for the token of a function.
+// The same, with the function given as a token.
 fn triple_value<E: Env>(
     left: Token,
     right: Token,
@@ -237,8 +237,8 @@ fn triple_value<E: Env>(
     }
 }
 
-/// The value of tokens that are a function of two tokens that are no functions. Needs no stack.
-/// `None` for tokens of another form, even if these have a value.
+/// The value of three tokens: a function of two tokens, neither of which is a function. Needs no stack.
+/// Returns `None` for tokens of another form, even if these have a value.
 pub(crate) fn value_of_pair<E: Env>(tokens: &[Token], env: &E, width: u32) -> Option<Option<u64>>
     requires low { 1 ≤ width }
     requires high { width ≤ 64 }
@@ -282,8 +282,8 @@ fn token_divides_by_zero(stack: &Stack, token: Token) -> bool
     }
 }
 
-/// Whether this was found already, or the token is a quotient or a remainder by the last value that
-/// stands, and that is 0.
+/// Whether a zero divisor was found already, or the token is a quotient or a remainder and its divisor,
+/// the topmost value of the stack, is 0.
 pub(crate) fn finds_zero_divisor(found: bool, stack: &Stack, token: Token) -> bool
     ensures { result ≡ (found || token_divides_by_zero (reverse stack.now.items) token) }
 {

@@ -1,4 +1,4 @@
--- What holds of several calls in a row, from what holds of each.
+-- What holds for several calls in a row, derived from what holds for each.
 use Rattle.std.proofs.Common.{◌≡◌, refl, sym, ◌∙◌, ap, ℕ, ◌+◌, ◌≤◌, min, List, [], ◌++◌, length, take, drop, Option, Some, None, Ok, OnSome}
 use Rattle.std.proofs.Common.{append_assoc, arith}
 use Rattle.std.proofs.Math.Seq.{take-append-add, take-length}
@@ -92,7 +92,7 @@ module _ {T : Type 0} where
   GrowsByPrefix-more (Some old) b xs ys p =
       (min p.0 (length xs), p.1 ∙ ap (λ t. Some (old ++ t)) (sym (take-prefix p.0 xs ys)))
 
-  -- a list that is known at the end grows by what was added before, and then
+  -- if a list is known at the end, it grows by what was added first and then by what was added last
   pub GrowsBy-known : (a b c : Option (List T)) (xs ys : List T) → GrowsBy a b xs → OnSome c (GrowsBy b c ys) → OnSome c (GrowsBy a c (xs ++ ys))
   GrowsBy-known a b None xs ys p q = tt
   GrowsBy-known a b (Some new) xs ys p q = GrowsBy-trans a b (Some new) xs ys p q
@@ -148,6 +148,6 @@ ReadsOff-trans (Some left) b c xs ys p q =
     let r = rw p.2 at q in
     (r.0, p.1 ∙ (ap (λ t. xs ++ t) r.1 ∙ sym (append_assoc xs ys r.0)), r.2)
 
--- where nothing is left, what was read is all
+-- if nothing is left, everything was read
 pub ReadsOff-all : (left : List ℕ) (b : Option (List ℕ)) (xs : List ℕ) → ReadsOff (Some left) b xs → b ≡ Some [] → left ≡ xs
 ReadsOff-all left b xs p none = p.1 ∙ (ap (λ t. xs ++ t) (same_Some _ _ (sym p.2 ∙ none)) ∙ append-nil xs)

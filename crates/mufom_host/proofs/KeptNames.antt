@@ -1,4 +1,4 @@
--- Names laid one after another are cut apart again.
+-- Names that are stored one after another can be cut apart again.
 use Rattle.std.proofs.Common.{◌≡◌, refl, sym, ◌∙◌, ap, ℕ, ◌+◌, ◌*◌, ◌<◌, ◌≤◌, true, false, sum, List, [], ◌∷◌, ◌++◌, length, take, drop, Some, None}
 use Rattle.std.proofs.Common.{arith, length-drop}
 use Rattle.std.specs.Prelude.{nat_le, if◌then◌else◌}

@@ -21,7 +21,7 @@ data Begun : Option NamedFile → List NamedFile → ℕ → Type 0 where
   unbegun : {n : ℕ} → n ≤ 1 → Begun None [] n
   begun : {making : Option NamedFile} {made : List NamedFile} → Begun making made 0
 
--- what holds of a host before modest calls
+-- what holds for a host before modest calls
 record IsReady (m : Memory) (calls : List Call) (opened_names created_names : List (List ℕ)) : Type 0 where
   reads_pass : m.fail_reads ≡ []
   writes_pass : m.fail_writes ≡ []
@@ -35,7 +35,7 @@ record IsReady (m : Memory) (calls : List Call) (opened_names created_names : Li
   complained : length m.err + sum_by complained_by calls ≤ m.room
   one : Begun m.making m.made (sum_by begun_by calls)
 
--- a call leaves a host that counts no more and is ready for the calls that follow
+-- after a call the host has counted no further errors and is ready for the calls that follow
 record Step (m : Memory) (call : Call) (calls : List Call) : Type 0 where
   next : Memory
   is_next : after_call m call ≡ next
@@ -67,20 +67,20 @@ Begun-finish : {making : Option NamedFile} {made : List NamedFile} {n : ℕ} →
 Begun-finish (unbegun h) = unbegun h
 Begun-finish begun = begun
 
--- where a file is begun, none was before and none follows
+-- if a call starts to make a file, no call before or after it does
 Begun-create : {making : Option NamedFile} {made : List NamedFile} {count : ℕ} → Begun making made count → (n : ℕ) → count ≡ 1 + n
     → (has_any made ≡ false) × (n ≡ 0)
 Begun-create (unbegun h) n e = (refl, omega (arith, h, e))
 Begun-create begun n e = absurd (omega (arith, e))
 
--- what a call leaves as it is
+-- what a call leaves unchanged
 record IsSameHost (m next : Memory) : Type 0 where
   files : next.files ≡ m.files
   room : next.room ≡ m.room
   reads : next.fail_reads ≡ m.fail_reads
   writes : next.fail_writes ≡ m.fail_writes
 
--- what a call adds to the names, the file that is made and both outputs: no more than it may
+-- what a call adds to the names, the file that is made and both outputs is within its room
 record AddsLittle (m next : Memory) (call : Call) (o c opened_names created_names : List (List ℕ)) : Type 0 where
   opened : name_weight opened_names ≤ name_weight o + opened_by call
   created : name_weight created_names ≤ name_weight c + created_by call

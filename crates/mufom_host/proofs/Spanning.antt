@@ -1,4 +1,4 @@
--- Calls of one kind in a row: where they begin, and one call more.
+-- Calls of one kind in a row: before the first call, and after one more.
 use Rattle.std.proofs.Common.{refl, ℕ, List, [], ◌++◌, take, Ok, arith}
 use Rattle.mufom_host.specs.World.{Meaning, Faults, HasCause, Reads, Writes, Grows, KeepsAllButReads, KeepsAllButWrites, KeepsAllButLeft}
 use Rattle.mufom_host.specs.World.{KeepsAllButMaking, KeepsAllButOut}

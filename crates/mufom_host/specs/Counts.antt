@@ -1,4 +1,4 @@
--- What counts of faults a host keeps.
+-- The counts of errors that a host keeps.
 use Rattle.mufom_host.specs.World.{Faults}
 use Rattle.mufom_host.specs.declared.counts.Counts.{Counts}
 

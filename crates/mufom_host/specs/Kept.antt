@@ -4,12 +4,12 @@ use Rattle.std.specs.Prelude.{is_some, unwrap_or, ◌==◌, slice_get}
 use Rattle.std.specs.List.{list_any, sum_by}
 use Rattle.mufom_host.specs.World.{NamedFile, file_named, optional}
 
--- bytes that are kept, and how many at most
+-- stored bytes, and the greatest number of them
 pub record Store : Type 0 where
   pub bytes : List ℕ
   pub room : ℕ
 
--- names that are kept, known until one passed their room
+-- stored names, known until one of them exceeds the room
 pub record NameStore : Type 0 where
   pub names : Option (List (List ℕ))
   pub room : ℕ
@@ -33,12 +33,12 @@ pub record Input : Type 0 where
   pub files : List NamedFile
   pub left : List ℕ
 
--- what is left of a file from an offset on
+-- the bytes of a file from an offset on
 abbrev pub rest_of : Option NamedFile → ℕ → List ℕ
 rest_of None at = []
 rest_of (Some file) at = drop at file.1
 
--- what is left of the file at a position, from an offset on
+-- the bytes of the file at a position, from an offset on
 abbrev pub left_of : List NamedFile → Option ℕ → ℕ → List ℕ
 left_of files None at = []
 left_of files (Some place) at = rest_of (slice_get files place) at
@@ -47,11 +47,11 @@ left_of files (Some place) at = rest_of (slice_get files place) at
 abbrev pub has_file : List ℕ → List NamedFile → Bool
 has_file name files = is_some (file_named name files)
 
--- the bytes of the file with this name, and what was left before where there is none
+-- the bytes of the file with this name, or if there is none, what was left before
 abbrev pub bytes_after : List ℕ → List NamedFile → List ℕ → List ℕ
 bytes_after name files left = unwrap_or (file_named name files) left
 
--- the bytes of the file with this name are left, where there is one
+-- the bytes of the file with this name are left to read, if there is one
 abbrev pub opened_file : Input → List ℕ → Input
 opened_file input name = record input { left = bytes_after name input.files input.left }
 
@@ -59,7 +59,7 @@ opened_file input name = record input { left = bytes_after name input.files inpu
 abbrev pub is_listed : ℕ → List ℕ → Bool
 is_listed number failing = list_any (λ k. k == number) failing
 
--- the one file that is made, while it is made and when it is finished, and how many bytes it has at most
+-- the one file that is made, while it is being made and when it is finished, and its greatest length in bytes
 pub record FileStore : Type 0 where
   pub making : Option NamedFile
   pub made : List NamedFile
@@ -70,11 +70,11 @@ abbrev pub has_any : List NamedFile → Bool
 has_any [] = false
 has_any (file ∷ files) = true
 
--- the file being made has no room for `count` further bytes; while none is being made there is room for any
+-- the file being made has no room for `count` more bytes; while none is being made, there is room for any number
 abbrev pub passes_file : Option NamedFile → ℕ → ℕ → Bool
 passes_file None room count = false
 passes_file (Some file) room count = nat_lt room (length file.1 + count)
 
--- the file being made is finished, where there is one
+-- the file being made is finished, if there is one
 abbrev pub finished : FileStore → FileStore
 finished store = record store { making = None; made = store.made ++ optional store.making }

@@ -8,15 +8,15 @@ pub record Memory : Type 0 where
   -- the files that may be opened, and what the open one has left
   pub files : List NamedFile
   pub left : List ℕ
-  -- the one file that is made, while it is made and when it is finished
+  -- the one file that is made, while it is being made and when it is finished
   pub making : Option NamedFile
   pub made : List NamedFile
   pub out : List ℕ
   pub err : List ℕ
-  -- the names opened and created, none once one passed the room
+  -- the names opened and created, none once one exceeds the room
   pub opened : Option (List (List ℕ))
   pub created : Option (List (List ℕ))
-  -- how many bytes each of the texts, the file made and the lists of names has at most
+  -- the greatest size in bytes of each of the texts, of the file made and of each list of names
   pub room : ℕ
   pub faults : Faults
   -- the numbers of the calls that fail, and of the calls that come next
@@ -84,12 +84,12 @@ is_failing_read m = is_listed m.read_number m.fail_reads
 abbrev pub is_failing_write : Memory → Bool
 is_failing_write m = is_listed m.write_number m.fail_writes
 
--- ---- each call: where it fails, and what it leaves
+-- ---- each call: when it fails, and what state it leaves
 
 abbrev pub after_read : Memory → ℕ → Memory
 after_read m size = if is_failing_read m then read_failed m else record (read_called m) { left = drop (min size (length m.left)) m.left }
 
--- a name passes the room, now or before, or is not there
+-- the name or an earlier one exceeds the room, or no file has the name
 abbrev pub open_fails : Memory → List ℕ → Bool
 open_fails m name = is_failing_read m || (not (is_some (names_with m.room m.opened name)) || not (has_file name m.files))
 
@@ -106,7 +106,7 @@ write_fails m chunk = is_failing_write m || passes_file m.making m.room (length 
 abbrev pub after_write : Memory → List ℕ → Memory
 after_write m chunk = if write_fails m chunk then write_failed m else record (write_called m) { making = with_bytes m.making chunk }
 
--- a name passes the room, now or before, or a file is finished already
+-- the name or an earlier one exceeds the room, or a file is finished already
 abbrev pub create_fails : Memory → List ℕ → Bool
 create_fails m name = is_failing_write m || (not (is_some (names_with m.room m.created name)) || has_any m.made)
 

@@ -30,7 +30,7 @@ abbrev pub after_calls : Memory → List Call → Memory
 after_calls m [] = m
 after_calls m (call ∷ calls) = after_calls (after_call m call) calls
 
--- how much room a call takes of each part
+-- how much room of each part a call takes
 abbrev pub opened_by : Call → ℕ
 opened_by (opens name) = length name + 8
 opened_by call = 0
@@ -51,12 +51,12 @@ abbrev pub complained_by : Call → ℕ
 complained_by (complains text) = length text
 complained_by call = 0
 
--- how many files a call begins
+-- how many files a call starts to make
 abbrev pub begun_by : Call → ℕ
 begun_by (creates name) = 1
 begun_by call = 0
 
--- a call opens nothing, or a file that is there
+-- a call opens nothing, or a file that exists
 abbrev pub OpensWhatIsThere : List NamedFile → Call → Type 0
 OpensWhatIsThere files (opens name) = has_file name files ≡ true
 OpensWhatIsThere files call = Unit {0}
@@ -65,7 +65,7 @@ abbrev pub AllOpenWhatIsThere : List NamedFile → List Call → Type 0
 AllOpenWhatIsThere files [] = Unit {0}
 AllOpenWhatIsThere files (call ∷ calls) = OpensWhatIsThere files call × AllOpenWhatIsThere files calls
 
--- files that are there, enough room, and at most one file
+-- only existing files are opened, there is enough room, and at most one file is made
 pub record IsModest (files : List NamedFile) (room : ℕ) (calls : List Call) : Type 0 where
   pub there : AllOpenWhatIsThere files calls
   pub opened : sum_by opened_by calls ≤ room

@@ -9,7 +9,7 @@ use Rattle.mufom_host.specs.declared.world.Failed.{Failed}
 abbrev pub NamedFile : Type 0
 NamedFile = List ℕ × List ℕ
 
--- what is outside: each part is none where it is not known
+-- the state of a host: each part is none if it is not known
 pub record Meaning : Type 0 where
   -- what the open input has left, empty while nothing is open
   pub left : Option (List ℕ)
@@ -48,11 +48,11 @@ pub record Faults : Type 0 where
   pub writes : ℕ
   pub complaints : ℕ
 
--- one more than a counter's value; the last value stays
+-- one more than a counter's value; the greatest value stays
 abbrev pub one_more : ℕ → ℕ
 one_more count = min (count + 1) (2 ^ 64 - 1)
 
--- a count rose, or is at the last value of a counter
+-- a count rose, or is at the greatest value of a counter
 abbrev pub Rose : ℕ → ℕ → Type 0
 Rose before now = one_more before ≤ now
 
@@ -72,7 +72,7 @@ KeepsAllButWrites old new = new ≡ record old { writes = new.writes }
 abbrev pub KeepsAllButComplaints : Faults → Faults → Type 0
 KeepsAllButComplaints old new = new ≡ record old { complaints = new.complaints }
 
--- ---- how a part changes, where it is known
+-- ---- how a part changes, if it is known
 
 -- it stays as it is
 abbrev pub StaysKnown : {T : Type 0} → Option T → Option T → Type 0
@@ -82,11 +82,11 @@ StaysKnown before after = IfSome before (λ part. after ≡ Some part)
 abbrev pub GrowsBy : {T : Type 0} → Option (List T) → Option (List T) → List T → Type 0
 GrowsBy before after added = IfSome before (λ old. after ≡ Some (old ++ added))
 
--- a list grows by the prefix of these items
+-- a list grows by a prefix of these items
 abbrev pub GrowsByPrefix : {T : Type 0} → Option (List T) → Option (List T) → List T → Type 0
 GrowsByPrefix before after added = IfSome before (λ old. (n : ℕ) × (after ≡ Some (old ++ take n added)))
 
--- bytes are added to the file being made; where none is being made, none is
+-- the file being made, with these bytes added; if no file is being made, nothing
 abbrev pub with_bytes : Option NamedFile → List ℕ → Option NamedFile
 with_bytes None bytes = None
 with_bytes (Some file) bytes = Some (file.0, file.1 ++ bytes)
@@ -95,11 +95,11 @@ with_bytes (Some file) bytes = Some (file.0, file.1 ++ bytes)
 abbrev pub MakingGrowsBy : Option (Option NamedFile) → Option (Option NamedFile) → List ℕ → Type 0
 MakingGrowsBy before after bytes = IfSome before (λ making. after ≡ Some (with_bytes making bytes))
 
--- the file being made grows by the prefix of these bytes
+-- the file being made grows by a prefix of these bytes
 abbrev pub MakingGrowsByPrefix : Option (Option NamedFile) → Option (Option NamedFile) → List ℕ → Type 0
 MakingGrowsByPrefix before after bytes = IfSome before (λ making. (n : ℕ) × (after ≡ Some (with_bytes making (take n bytes))))
 
--- the bytes are read off the prefix of what is left
+-- the bytes are read off the start of what is left
 abbrev pub ReadsOff : Option (List ℕ) → Option (List ℕ) → List ℕ → Type 0
 ReadsOff before after bytes = IfSome before (λ left. (rest : List ℕ) × (left ≡ bytes ++ rest) × (after ≡ Some rest))
 
@@ -126,7 +126,7 @@ abbrev pub Grows : Option (List ℕ) → Option (List ℕ) → Result (Unit {0})
 Grows before after (Ok done) text = GrowsBy before after text
 Grows before after (Err e) text = GrowsByPrefix before after text
 
--- the first `n` bytes of the chunk are added where the answer is `n`, some where there are any; on a failure the prefix of the chunk may be
+-- if the result is `n`, the first `n` bytes of the chunk are added, at least one of a chunk that is not empty; on a failure a prefix of it may be
 abbrev pub Writes : Option (Option NamedFile) → Option (Option NamedFile) → Result ℕ Failed → List ℕ → Type 0
 Writes before after (Ok n) chunk = MakingGrowsBy before after (take n chunk) × (0 < length chunk → 0 < n)
 Writes before after (Err e) chunk = MakingGrowsByPrefix before after chunk
@@ -136,7 +136,7 @@ abbrev pub WritesAll : Option (Option NamedFile) → Option (Option NamedFile) �
 WritesAll before after (Ok done) bytes = MakingGrowsBy before after bytes
 WritesAll before after (Err e) bytes = MakingGrowsByPrefix before after bytes
 
--- the list of names grows by the name; on a failure it may be known no longer
+-- the list of names grows by the name; after a failure it may no longer be known
 abbrev pub NamesGrow : Option (List (List ℕ)) → Option (List (List ℕ)) → Result (Unit {0}) Failed → List ℕ → Type 0
 NamesGrow before after (Ok done) name = GrowsBy before after (name ∷ [])
 NamesGrow before after (Err e) name = OnSome after (GrowsBy before after (name ∷ []))
@@ -158,12 +158,12 @@ abbrev pub optional : Option NamedFile → List NamedFile
 optional None = []
 optional (Some file) = file ∷ []
 
--- the finished files grow by the one being made, where there is one; a failure changes nothing
+-- the finished files grow by the one being made, if there is one; a failure changes nothing
 abbrev pub Finishes : Meaning → Meaning → Result (Unit {0}) Failed → Type 0
 Finishes old new (Ok done) = IfSome old.making (λ making. (new.making ≡ Some None) × IfSome old.made (λ made. new.made ≡ Some (made ++ optional making)))
 Finishes old new (Err e) = new ≡ old
 
--- ---- what stays: each part but those that a call names
+-- ---- what stays: each part except those that a call names
 
 abbrev pub KeepsAll : Meaning → Meaning → Type 0
 KeepsAll old new = new ≡ old
@@ -200,9 +200,9 @@ KeepsAllButErr old new = new ≡ record old { err = new.err }
 abbrev pub KeepsAllButFile : Meaning → Meaning → Type 0
 KeepsAllButFile old new = new ≡ record old { making = new.making; made = new.made; created = new.created }
 
--- ---- calls of one kind alone: all else outside stays, and the count of such faults does not fall
+-- ---- calls of one kind alone: everything else stays, and the count of errors of that kind does not fall
 
--- nothing but the open input is read
+-- only the open input is read
 abbrev pub OnlyReads : Meaning → Meaning → Faults → Faults → Type 0
 OnlyReads old new before after = KeepsAllButLeft old new × KeepsAllButReads before after × (before.reads ≤ after.reads)
 

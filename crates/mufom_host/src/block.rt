@@ -2,11 +2,11 @@
 
 use std::marker::Model;
 
-// How many bytes there is room for.
+// The size of a block, in bytes.
 const SIZE: usize = 65_536;
 
-/// A block of at most 65,536 bytes, gathered to be passed on at once. Contracts see the bytes. It
-/// allocates nothing.
+/// A buffer that gathers at most 65,536 bytes, to pass them on at once. Contracts see the bytes. Does
+/// not allocate.
 #[derive(Drop)]
 pub struct Block {
     bytes: [u8; SIZE],
@@ -27,7 +27,7 @@ impl Model for Block {
 impl Block {
     ghost use Rattle.std.specs.Prelude.{◌≡◌, [], ◌++◌, true, false};
 
-    /// A block without bytes.
+    /// An empty block.
     pub fn new() -> Block
         ensures { result ≡ [] }
     {
@@ -52,7 +52,7 @@ impl Block {
         if bytes.len() > SIZE - self.used {
             return false;
         }
-        // Often it is one byte, for which a copy of a slice would take longer.
+        // Often there is only one byte, and copying a slice would take longer.
         if let [byte] = bytes {
             self.bytes[self.used] = *byte;
             self.used += 1;

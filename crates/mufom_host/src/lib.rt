@@ -1,10 +1,10 @@
-//! The outside of the program as traits, with two hosts: one in memory for tests, and the files and
-//! standard streams of the process.
+//! The input and output of the program as traits, with two implementations (hosts): one in memory for
+//! tests, and the files and standard streams of the process.
 //!
-//! It depends on `mufom_numbers`. A host reveals as much as it likes of what is outside, and the
-//! contracts of the traits speak of what it reveals. Their main clause is that a call returns
-//! [`Failed`] only where its count of faults rose, and that all bytes go where the call states and
-//! all else stays.
+//! It depends on `mufom_numbers` and `thiserror`. A host may reveal all of its state, parts of it or
+//! nothing, and the contracts of the traits speak of what it reveals. Their main clause is that a call
+//! returns [`Failed`] only if its count of errors rose, that all bytes go where the call states, and
+//! that everything else stays as it was.
 #![tactic(auto)]
 
 mod block;

@@ -4,12 +4,12 @@ use crate::block::Block;
 use std::fs::File;
 use std::io::Write;
 
-/// Bytes could not be passed on to a file.
+/// The error that bytes could not be passed on to a file.
 #[derive(Drop)]
 pub(crate) struct NotWritten;
 
-// A file of the system. Once a write to it has failed, a part of the bytes may be there: nothing more
-// is passed on then.
+// A file of the system. Once a write to it has failed, it may have some of the bytes, and nothing more
+// is passed on to it.
 #[derive(Drop)]
 struct Target {
     file: File,
@@ -31,8 +31,9 @@ impl Target {
     }
 }
 
-/// A file of the system that is being made. What is written to it is gathered in a block, which is
-/// passed on to the system when the next bytes have no room in it, and by [`flush`](Making::flush).
+/// A file of the system that is being made. Bytes that are written to it are gathered in a block. The
+/// block is passed on to the system when it has no room for the next bytes, and by
+/// [`flush`](Making::flush).
 ///
 /// After an error the file keeps a prefix of what was written, and each later flush fails too.
 #[derive(Drop)]
@@ -42,7 +43,7 @@ pub(crate) struct Making {
 }
 
 impl Making {
-    /// Begins with a file that is empty.
+    /// Starts with an empty file.
     pub(crate) fn new(file: File) -> Making {
         Making {
             target: Target {
@@ -65,7 +66,7 @@ impl Making {
         self.target.pass_on(bytes)
     }
 
-    /// Passes on what is gathered.
+    /// Passes on the bytes gathered so far.
     pub(crate) fn flush(&mut self) -> Result<(), NotWritten> {
         self.target.pass_on(self.block.as_slice())?;
         self.block.clear();

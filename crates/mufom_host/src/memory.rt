@@ -25,15 +25,20 @@ use output::Output;
 use std::alloc::Global;
 use std::marker::Model;
 
-/// A host in memory, for tests: files that are given, one file that is made, and two texts. It reveals
-/// all that is in it.
+/// A host in memory, for tests: the files that may be opened, one file that is made, and the texts of the
+/// output and the error output. It reveals all of its state.
 ///
-/// It numbers its `open` and `read` calls together from 0, and its `create`, `write`, `finish`,
-/// `print` and `complain` calls together from 0. A call whose number is in the list of its kind
-/// fails. So do a call whose bytes or name pass the room, the opening of a name that is not there,
-/// and a `create` after a finished file. A failed call changes nothing but its count of faults and,
-/// for `open` and `create`, the list of names, which a name that passes the room ends: it is known
-/// no longer, and each later call of that kind fails.
+/// It numbers its calls from 0: `open` and `read` share one counter, and `create`, `write`, `finish`,
+/// `print` and `complain` share another. A call fails if
+///
+/// - its number is in the list of failing calls of its counter,
+/// - its bytes or its name exceed the room,
+/// - it opens a name that no file has, or
+/// - it is a `create` after a file was finished.
+///
+/// Besides the counter of calls, a failed call changes only its count of errors and, for `open` and
+/// `create`, the list of names. Once a name exceeds the room, that list is no longer known, and each
+/// later call of that kind fails.
 pub struct MemHost {
     files: Files,
     output: Output,
@@ -91,11 +96,11 @@ impl Drop for MemHost {
 }
 
 impl MemHost {
-    /// A host with these files, in which the calls with the numbers in the two lists fail.
+    /// A host with these files. The calls whose numbers are in the two lists fail.
     ///
-    /// It takes room for `room` bytes in each of the two texts, the file that is made, the names
-    /// opened and the names created, where a name counts its bytes and 8 more. No other call takes
-    /// memory.
+    /// It allocates room for `room` bytes each for the two texts, the file that is made, the names
+    /// opened and the names created; a name counts as its length in bytes plus 8. No other call
+    /// allocates.
     pub fn new(
         alloc: Global,
         files: List<(Text, Bytes)>,
@@ -123,28 +128,28 @@ impl MemHost {
         })
     }
 
-    /// The name and the bytes of the finished file, and `None` where there is none.
+    /// The name and the bytes of the finished file, or `None` if no file is finished.
     pub fn made(&self) -> Option<(&[u8], &[u8])>
         ensures { optional (option_map (λ file. (file.0.now, file.1.now)) result) ≡ self.now.made }
     {
         self.output.made()
     }
 
-    /// The name and the bytes so far of the file being made, and `None` where there is none.
+    /// The name and the bytes so far of the file being made, or `None` if no file is being made.
     pub fn making(&self) -> Option<(&[u8], &[u8])>
         ensures { option_map (λ file. (file.0.now, file.1.now)) result ≡ self.now.making }
     {
         self.output.making()
     }
 
-    /// What was printed.
+    /// The text that was printed.
     pub fn out(&self) -> &[u8]
         ensures { result.now ≡ self.now.out }
     {
         self.out.as_slice()
     }
 
-    /// What was printed on the error output.
+    /// The text that was printed on the error output.
     pub fn err(&self) -> &[u8]
         ensures { result.now ≡ self.now.err }
     {
@@ -192,7 +197,7 @@ impl Sink for MemHost {
         ensures cause { HasCause (memory_faults self.old).writes (memory_faults self.new).writes result }
         ensures counts { KeepsAllButWrites (memory_faults self.old) (memory_faults self.new) }
 
-        // Exactly which calls fail, and the state after each: all of the chunk is taken.
+        // Exactly which calls fail, and the state after each: a call that succeeds takes the whole chunk.
         ensures fails { is_err result ≡ write_fails self.old chunk.now }
         ensures count { IfOk result (λ n. n ≡ length chunk.now) }
         ensures after { self.new ≡ after_write self.old chunk.now }

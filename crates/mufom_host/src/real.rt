@@ -10,15 +10,15 @@ use std::fs::File;
 use std::io::{ErrorKind, Read, Write};
 use std::marker::Model;
 
-/// The files and the standard streams of the process: the trusted edge. It reveals no content.
+/// The files and the standard streams of the process. It is trusted code, and reveals no content.
 ///
-/// [`print`](Host::print) and [`complain`](Host::complain) pass all that they are given on to the system
-/// before they return, so that nothing is left to print when the program ends: give them large chunks.
+/// [`print`](Host::print) and [`complain`](Host::complain) pass their whole text on to the system before
+/// they return, so that nothing is left to print when the program ends: give them large chunks.
 /// [`write`](Sink::write) gathers bytes and passes them on in blocks of up to 65,536 bytes, and
-/// [`finish`](Host::finish) passes on the last one. So the failure of a block is reported by a later call than
-/// the one that wrote its bytes, at the latest by `finish`; the file then keeps a prefix of what was
-/// written, and can't be finished any more. A call of the system that fails is a counted fault. Of this
-/// host only the causes are proved; that files and streams hold what was written is tested.
+/// [`finish`](Host::finish) passes on the last one. So the failure of a block may be reported by a later call
+/// than the one that wrote its bytes, at the latest by `finish`. The file then keeps a prefix of what was
+/// written, and can't be finished any more. Each failed call of the system is counted as an error. For this
+/// host it is proved only that a failed call has raised its count; that files and streams hold what was written is tested.
 #[derive(Drop)]
 pub struct RealHost {
     rt: HostRuntime,
@@ -48,7 +48,7 @@ impl World for RealHost {
 }
 
 impl RealHost {
-    /// A host that has opened nothing and counted no fault, over main's access to the system.
+    /// A host that has opened no file and counted no errors, over main's access to the system.
     pub fn new(rt: HostRuntime) -> RealHost
         ensures { result ≡ record { reads = 0; writes = 0; complaints = 0 } }
     {
@@ -100,7 +100,7 @@ impl Host for RealHost {
         }
     }
 
-    /// It empties a file that is there.
+    /// Empties the file if it exists already.
     fn create(&mut self, name: &str) -> Result<(), Failed> {
         let Ok(file) = fs::create(&self.rt, name) else {
             return Err(self.counts.write_failed());

@@ -7,18 +7,19 @@ ghost use Rattle.mufom_host.specs.World.{KeepsAllButOut, KeepsAllButErr, KeepsAl
 
 use thiserror::Error;
 
-/// A call of the outside failed, and its count of faults rose.
+/// The error of a host's call: the call failed, and its count of errors rose.
 #[derive(Clone, Copy, Debug, PartialEq, Eq, Error)]
 #[error("the operation failed")]
 pub struct Failed;
 
-/// What is outside, each part of it known or not, and how often calls failed.
+/// The state of a host, each part of it known or not, and how often its calls failed.
 ///
-/// It has no calls, so that a reader over [`Source`] alone and a writer over [`Sink`] alone can state
-/// what stays. A call leaves each part and each count that its own clauses do not name, after `Ok`
-/// and after `Failed`. A part that is known stays known, but for the names of files after a failed
-/// [`open`](Host::open) or [`create`](Host::create). Files that are known hold bytes. The counts
-/// never fall; one that is at the last `u64` is stated to have risen all the same.
+/// The trait has no calls, so that a reader over [`Source`] alone and a writer over [`Sink`] alone can
+/// state what stays. A call leaves unchanged each part and each count that its own clauses do not name,
+/// after `Ok` and after `Failed`. A part that is known stays known, with one exception: the names of
+/// files may become unknown after a failed [`open`](Host::open) or [`create`](Host::create). Files that
+/// are known hold bytes. The counts never fall; a count at the greatest `u64` can't rise, and counts as
+/// risen all the same.
 pub trait World {
     ghost meaning: { Self → Meaning };
 
@@ -29,10 +30,10 @@ pub trait World {
 
 /// Where the bytes of the open input come from.
 pub trait Source: World {
-    /// Takes bytes of the open input to the start of the buffer, and returns how many: 0 for a
-    /// buffer that is not empty means that none is left.
+    /// Moves bytes of the open input to the start of the buffer, and returns how many: 0 for a buffer
+    /// that is not empty means that no bytes are left.
     ///
-    /// `Failed` leaves what is left; the buffer may have changed.
+    /// After `Failed` the same bytes are left to read; the buffer may have changed.
     fn read(&mut self, buffer: &mut [u8]) -> Result<usize, Failed>
         ensures bound { AtMost result (length buffer.new) }
         ensures bytes { Reads (Self.meaning self.old).left (Self.meaning self.new).left result buffer.new }
@@ -43,11 +44,11 @@ pub trait Source: World {
 
 /// Where the bytes of the file being made go.
 pub trait Sink: World {
-    /// Adds the first bytes of the chunk to the file being made, and returns how many bytes it took: at
-    /// least 1 of a chunk that is not empty. While no file is being made it may take the whole
-    /// chunk, and changes nothing.
+    /// Adds the first bytes of the chunk to the file being made, and returns how many: at least 1 of a
+    /// chunk that is not empty. While no file is being made, the call may take the whole chunk, and
+    /// nothing changes.
     ///
-    /// `Failed` may have added a prefix of the chunk.
+    /// After `Failed` a prefix of the chunk may have been added.
     fn write(&mut self, chunk: &[u8]) -> Result<usize, Failed>
         ensures bound { AtMost result (length chunk.now) }
         ensures bytes { Writes (Self.meaning self.old).making (Self.meaning self.new).making result chunk.now }
@@ -56,7 +57,7 @@ pub trait Sink: World {
         ensures counts { KeepsAllButWrites (Self.faults self.old) (Self.faults self.new) };
 }
 
-/// The whole outside of a program that reads named files, makes named files, and prints text and errors.
+/// All input and output of a program that reads named files, makes named files, and prints text and errors.
 pub trait Host: Source + Sink {
     /// Opens the file with this name as the input, in place of the one before.
     ///
@@ -67,34 +68,33 @@ pub trait Host: Source + Sink {
         ensures cause { HasCause (Self.faults self.old).reads (Self.faults self.new).reads result }
         ensures counts { KeepsAllButReads (Self.faults self.old) (Self.faults self.new) };
 
-    /// Begins to make a file with this name and no bytes, in place of one that was not finished.
+    /// Starts to make a file with this name and no bytes, in place of one that was not finished.
     ///
-    /// After `Failed` the file being made is that before the call, or the new one.
+    /// After `Failed` the file being made is the one before the call, or the new one.
     fn create(&mut self, name: &str) -> Result<(), Failed>
         ensures creates { Creates (Self.meaning self.old) (Self.meaning self.new) result name.now }
         ensures stays { KeepsAllButCreated (Self.meaning self.old) (Self.meaning self.new) }
         ensures cause { HasCause (Self.faults self.old).writes (Self.faults self.new).writes result }
         ensures counts { KeepsAllButWrites (Self.faults self.old) (Self.faults self.new) };
 
-    /// Finishes the file being made, all of whose bytes then stand. While no file is being made it
-    /// changes nothing.
+    /// Finishes the file being made, which then has all of its bytes. While no file is being made,
+    /// nothing changes.
     ///
-    /// `Failed` changes nothing.
+    /// After `Failed` nothing has changed.
     fn finish(&mut self) -> Result<(), Failed>
         ensures finishes { Finishes (Self.meaning self.old) (Self.meaning self.new) result }
         ensures stays { KeepsAllButMade (Self.meaning self.old) (Self.meaning self.new) }
         ensures cause { HasCause (Self.faults self.old).writes (Self.faults self.new).writes result }
         ensures counts { KeepsAllButWrites (Self.faults self.old) (Self.faults self.new) };
 
-    /// Writes the whole text to the output of the program. `Failed` may have written a prefix of it.
+    /// Writes the whole text to the output of the program. After `Failed` a prefix of it may have been written.
     fn print(&mut self, text: &[u8]) -> Result<(), Failed>
         ensures bytes { Grows (Self.meaning self.old).out (Self.meaning self.new).out result text.now }
         ensures stays { KeepsAllButOut (Self.meaning self.old) (Self.meaning self.new) }
         ensures cause { HasCause (Self.faults self.old).writes (Self.faults self.new).writes result }
         ensures counts { KeepsAllButWrites (Self.faults self.old) (Self.faults self.new) };
 
-    /// Writes the whole text to the error output. `Failed` may have written a prefix of
-    /// it.
+    /// Writes the whole text to the error output. After `Failed` a prefix of it may have been written.
     fn complain(&mut self, text: &[u8]) -> Result<(), Failed>
         ensures bytes { Grows (Self.meaning self.old).err (Self.meaning self.new).err result text.now }
         ensures stays { KeepsAllButErr (Self.meaning self.old) (Self.meaning self.new) }
@@ -102,9 +102,9 @@ pub trait Host: Source + Sink {
         ensures counts { KeepsAllButComplaints (Self.faults self.old) (Self.faults self.new) };
 }
 
-/// Writes the whole of the bytes, in as many calls as the sink asks for.
+/// Writes all of the bytes, in as many calls as the sink needs.
 ///
-/// `Failed` may have added a prefix of the bytes.
+/// After `Failed` a prefix of the bytes may have been added.
 pub fn write_all<S: Sink>(sink: &mut S, bytes: &[u8]) -> Result<(), Failed>
     ensures bytes { WritesAll (S.meaning sink.old).making (S.meaning sink.new).making result bytes.now }
     ensures stays { KeepsAllButMaking (S.meaning sink.old) (S.meaning sink.new) }

@@ -1,4 +1,4 @@
--- The entries with their values are those of the location, where each expression has a value.
+-- The entries with their values are those of the location, if each expression has a value.
 use Rattle.std.proofs.Common.{◌≡◌, ◌≢◌, ◌*◌, ◌^◌, ◌≤◌, inl, inr, List, [], ◌∷◌, map, length, Option, Some, None, refl, sym, ◌∙◌, ap, subst, append-nil, arith}
 use Rattle.std.specs.Prelude.{filter, option_map, option_to_list}
 use Rattle.mufom_expr.specs.Tree.{Tree}

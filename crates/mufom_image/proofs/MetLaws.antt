@@ -1,4 +1,4 @@
--- What is met in one stage of locating is what is answered, where nothing is met in the stages before it.
+-- The fact found in one stage of locating is the result, if no fact is found in the stages before it.
 use Rattle.std.proofs.Common.{◌≡◌, [], ◌∷◌, Option, Some, None, refl, sym, ◌∙◌, ap, subst}
 use Rattle.mufom_module.specs.declared.module.Parts.{Parts}
 use Rattle.mufom_plan.specs.declared.plan.Plan.{Plan}
@@ -14,7 +14,7 @@ use Rattle.mufom_image.specs.declared.refusal.LocateRefusal.TheVariants as refus
 use Rattle.mufom_image.specs.Refusals.{IsMet}
 use Rattle.mufom_image.specs.Stages.{unplaced, unresolved, roomless, circular, oversized, judged, IsJudged}
 
--- what is met is met before all else
+-- a fact that is found comes before all others
 pub met-first : (met other : Option LocateFact) (refusal : LocateRefusal) → IsMet met refusal → IsMet (met or_else other) refusal
 met-first met other (refusals.Place refusal) h = ap (λ o. o or_else other) h
 met-first met other (refusals.Undefined name) h = ap (λ o. o or_else other) h
@@ -27,11 +27,11 @@ met-first met other (refusals.LoadedTwice address) h = ap (λ o. o or_else other
 met-first met other (refusals.ImageLimit count) h = ap (λ o. o or_else other) h
 met-first met other refusals.NoMemory h = tt {0}
 
--- what is met after nothing is met first
+-- a fact that is found after a stage in which none is found
 pub met-after : (before met : Option LocateFact) (refusal : LocateRefusal) → before ≡ None → IsMet met refusal → IsMet (before or_else met) refusal
 met-after before met refusal none h = subst (λ o. IsMet (o or_else met) refusal) (sym none) h
 
--- nothing is met, where nothing is met first nor after it
+-- no fact is found, if none is found first and none after it
 pub none-met : (before after : Option LocateFact) → before ≡ None → after ≡ None → before or_else after ≡ None
 none-met before after first then = ap (λ o. o or_else after) first ∙ then
 
@@ -43,7 +43,7 @@ module _ (m : Parts) (plan : Plan) where
   abbrev walk : Option LocateFact
   walk = walk_answer (m ∷ []) (setting (m ∷ []) (planned_bases (m ∷ []) plan))
 
-  -- what is answered, in three stages
+  -- what is returned, in three stages
   stages : locate_answer (m ∷ []) plan ≡ (unplaced m plan or_else (judged m plan or_else walk))
   stages =
       locate_answer-order (m ∷ []) plan

@@ -55,7 +55,7 @@ place-prefix-from n (x ∷ names) extra name there = by_case (bytes_eq name x) t
   by_case true h later = refl
   by_case false h later = later h
 
--- a name that is there stands where it stood with more names after these
+-- a name keeps its position if more names follow
 pub place-prefix : (names extra : List (List ℕ)) (name : List ℕ) → has_name names name ≡ true → place_in (names ++ extra) name ≡ place_in names name
 place-prefix names extra name there = place-prefix-from 0 names extra name there
 
@@ -71,7 +71,7 @@ place-end-from n (x ∷ names) name none =
     ∙ place-end-from (suc n) names name two.1
     ∙ ap Some count
 
--- a new name stands after the others
+-- a new name comes after the others
 pub place-end : (names : List (List ℕ)) (name : List ℕ) → has_name names name ≡ false → place_in (names ++ name ∷ []) name ≡ Some (length names)
 place-end names name none =
     let count : 0 + length names ≡ length names = omega arith in

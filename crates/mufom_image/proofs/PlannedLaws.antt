@@ -1,4 +1,4 @@
--- A module that stands where a plan puts it: what is known of the module, of it as it is placed.
+-- A module that is placed where a plan puts it: what is known of the module is known of it as placed.
 use Rattle.std.proofs.Common.{◌≡◌, ℕ, List, [], ◌∷◌, length, take, drop, None, sym, ◌∙◌, ap, subst}
 use Rattle.std.specs.Prelude.{option_map}
 use Rattle.mufom_names.specs.Names.{names_of, AreDistinct}
@@ -58,7 +58,7 @@ module _ (m : Parts) (met : List Resolution) (bases : List ℕ) (placed : Placed
       commons = at.commons ∙ ap (drop (length m.sections)) there.bases ∙ (λ i. drop (length (back i).sections) (base_list (back i ∷ []) plan));
     }
 
-    -- what is met on its walk is what is met on that of the module where the plan puts it
+    -- the fact found on its walk is the one found on the walk of the module where the plan puts it
     walk-same : walk_answer (placed.graph.parts.now ∷ []) (setting_of placed) ≡ walk_answer (m ∷ []) (setting (m ∷ []) (planned_bases (m ∷ []) plan))
     walk-same =
         ap (λ (b : Bases). walk_answer (placed.graph.parts.now ∷ []) (setting (placed.graph.parts.now ∷ []) b)) (same-bases plan placed planned-by)

@@ -1,4 +1,4 @@
--- Where nothing is met before the walk, a module may be walked over.
+-- If no fact is found before the walk, a module may be walked over.
 use Rattle.std.proofs.Common.{◌≡◌, ℕ, ◌+◌, ◌^◌, ◌<◌, ◌≤◌, inr, List, [], ◌∷◌, ◌++◌, length, Option, Some, None, Bool, true, false, refl, sym, ◌∙◌, ap}
 use Rattle.std.proofs.Common.{subst, append-nil, length-append, arith}
 use Rattle.std.specs.Prelude.{slice_get, option_map, option_to_list, unwrap_or}
@@ -37,7 +37,7 @@ use Rattle.mufom_image_entries.specs.Valued.{parts_of, IsValued}
 use Rattle.mufom_image.specs.Placements.{placing_refusal, ArePlaced}
 use Rattle.mufom_image.specs.Stages.{IsJudged, IsPlannedBy, public_division, bases_of, valuation_of, MayBeWalked}
 
--- a module alone may be linked, where none of its publics has the name of another
+-- a module alone may be linked, if none of its publics has the name of another
 pub linkable-alone : (m : Parts) → AreDistinct (names_of m.names.publics) → link_answer (m ∷ []) ≡ None
 linkable-alone m names = (no_link_answer_is_linkable (m ∷ [])).1 (record {
   descriptor = ((refl, refl), tt {0});
@@ -110,7 +110,7 @@ placed-count m plan sections bases placed =
     let own = ap length (append-nil m.sections) in
     omega (arith, all, both, own)
 
--- the bases of a module that stands where the plan puts it are those of the plan
+-- the bases of a module that is placed where the plan puts it are those of the plan
 pub same-bases : (plan : Plan) (placed : PlacedModule) → IsPlannedBy plan placed → bases_of placed ≡ planned_bases (placed.graph.parts.now ∷ []) plan
 same-bases plan placed by =
     let m = placed.graph.parts.now in

@@ -108,9 +108,9 @@ pub room-push : (commons : List Section) (asked : Option Room) (room : Room) (na
 room-push commons asked room name e past =
     ap (with_room_at commons room name) (sym (slice_get_past commons room.common past)) ∙ ap (λ o. with_asked commons o name) (sym e)
 
--- ---- what a reference stands for and asks
+-- ---- what a reference resolves to and asks for
 
--- what stands for a common and is of a positive size asks for room there
+-- a reference that resolves to a common and has a positive size asks for room there
 room-asks : (o u : Option ℕ) (weak : Option Weak) (room : Room) → room_of (resolution_by o u weak) weak ≡ Some room
     → (o ≡ None) × (u ≡ Some room.common) × (common_size weak ≡ room.size) × (not (common_size weak == 0) ≡ true)
 room-asks (Some n) u None room e = absurd cc

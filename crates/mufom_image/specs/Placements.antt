@@ -29,7 +29,7 @@ pub record ArePlaced (m : Parts) (plan : Plan) (placed : List Section) (at : Lis
   pub sections : placed ≡ extended_sections (m ∷ []) plan
   pub bases : at ≡ base_list (m ∷ []) plan
 
--- a module without a defect, with what its references stand for: the first of the bases are those of its sections, the others those of
+-- a module without a defect, with what its references resolve to: the first of the bases are those of its sections, the others those of
 -- its commons
 pub record StandsAt (m : Parts) (met : List Resolution) (all : List ℕ) (placed : PlacedModule) : Type 0 where
   pub valid : IsValid placed.graph.parts.now

@@ -6,7 +6,7 @@ use Rattle.mufom_image_values.specs.declared.resolutions.Resolution.{Resolution}
 use Rattle.mufom_image_values.specs.declared.resolutions.Resolution.TheVariants as resolutions
 use Rattle.mufom_image.specs.declared.commons.Room.{Room}
 
--- the room that a reference asks for, by what it stands for: it is weak, its size is not 0, and it stands for a common
+-- the room that a reference asks for, by what it resolves to: it is weak, its size is not 0, and it resolves to a common
 abbrev pub room_of : Resolution → Option Weak → Option Room
 room_of (resolutions.Common n) (Some weak) = if weak.size == 0 then None else Some (record { common = n; size = weak.size })
 room_of resolution weak = None
@@ -19,7 +19,7 @@ common_of name size = record { name = name; absolute = false; purpose = None; si
 abbrev pub raised : ℕ → Section → Section
 raised size section = record section { size = max size section.size }
 
--- the commons where a common is at the place of a room, and where none does
+-- the commons with this room: an existing common at its place is enlarged if needed, and otherwise one is added
 abbrev pub with_room_at : List Section → Room → List ℕ → Option Section → List Section
 with_room_at commons room name (Some section) = slice_set commons room.common (raised room.size section)
 with_room_at commons room name None = commons ++ common_of name room.size ∷ []

@@ -43,11 +43,11 @@ circular m = first_some (cycle_at (m ∷ [])) (public_names (m ∷ []))
 abbrev pub oversized : Parts → Option LocateFact
 oversized m = image_limit_at (loaded_total (m ∷ []))
 
--- what is met once the module is placed and before its expressions are walked over, in this order
+-- the fact found once the module is placed and before its expressions are walked over, in this order
 abbrev pub judged : Parts → Plan → Option LocateFact
 judged m plan = unresolved m or_else (roomless m plan or_else (circular m or_else oversized m))
 
--- nothing of it is met
+-- no such fact is found
 pub record IsJudged (m : Parts) (plan : Plan) : Type 0 where
   pub undefined : unresolved m ≡ None
   pub commons : roomless m plan ≡ None
@@ -58,7 +58,7 @@ pub record IsJudged (m : Parts) (plan : Plan) : Type 0 where
 abbrev pub public_division : Setting → Option LocateFact
 public_division s = first_some (public_fact s) s.publics
 
--- the start, where it divides by 0
+-- the start, if it divides by 0
 abbrev pub start_division : Parts → Setting → Option LocateFact
 start_division m s = first_some (start_fact s) (start_trees (m ∷ []))
 

@@ -15,7 +15,7 @@ use mufom_plan::{Plan, Region};
 use mufom_sections::Section;
 use std::alloc::Global;
 
-// Where a common begins: at a multiple of this.
+// The alignment of a common, in addressable units.
 const COMMON_ALIGN: u64 = 8;
 
 // The room that a reference asks for: `size` addressable units in the common at a position.

@@ -1,8 +1,8 @@
 //! Locating a module: its sections at their bases, each expression its value, the loaded bytes as an
 //! image.
 //!
-//! [`locate`] returns the location of one module by a plan, exactly where nothing keeps the module
-//! from being located, and else the first thing that does, in a fixed order. It depends on
+//! [`locate`] returns the location of one module by a plan if nothing keeps the module from being
+//! located, and otherwise the first thing that does, in a fixed order. It depends on
 //! `mufom_place` for the bases, on `mufom_image_values` for the values of names, on
 //! `mufom_image_bytes` for the image, on `mufom_image_entries` for the entries and on
 //! `mufom_located` for what is returned; what a location is and what keeps a module from having one

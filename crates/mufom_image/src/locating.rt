@@ -83,7 +83,7 @@ fn located(
 /// reference, a common that no region places, a public that leads back to itself, more than 67,108,864
 /// loaded bytes; then, expression by expression, in the publics, the loads, the start and the debug
 /// items: an item outside its section, an address that is loaded twice, a divisor of 0, and a value that
-/// does not fit its field. `NoMemory` may come at any step.
+/// does not fit its field. `NoMemory` may be returned at any step.
 pub fn locate(alloc: Global, module: &Module, plan: &Plan) -> Result<Located, LocateRefusal>
     requires names { AreDistinct (names_of «module».now.names.publics) }
     requires plan { IsSoundPlan plan.now }
@@ -92,7 +92,7 @@ pub fn locate(alloc: Global, module: &Module, plan: &Plan) -> Result<Located, Lo
     ensures located { IfOk result (IsLocation («module».now ∷ []) plan.now) }
     // Its absolute module weighs little more than the module.
     ensures light { IfOk result (λ located. weight (absolute_of located) ≤ most_weight «module».now) }
-    // A refusal is the first thing that keeps the module from being located, or memory ran out.
+    // The error is the first thing that keeps the module from being located, or out of memory.
     ensures refused { IfErr result (IsMet (locate_answer («module».now ∷ []) plan.now)) }
 {
     let resolutions = resolve_references(alloc, module)?;

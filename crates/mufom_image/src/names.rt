@@ -18,7 +18,7 @@ use mufom_numbers::limits::MOST_IMAGE_BYTES;
 use mufom_plan::Plan;
 use std::alloc::Global;
 
-// No strong reference is without a public and a common, or the first one is named.
+// Checks that each strong reference has a public or a common; the error names the first that has neither.
 fn check_undefined(
     alloc: Global,
     module: &Module,
@@ -34,7 +34,7 @@ fn check_undefined(
     }
 }
 
-// A region takes the commons, or there are none, or the first one is named.
+// Checks that a region takes the commons if there are any; the error names the first common.
 fn check_commons(
     alloc: Global,
     module: &Module,
@@ -54,7 +54,7 @@ fn check_commons(
     }
 }
 
-// The groups of publics, where no public's expression leads back to itself; or the first such public
+// The groups of publics, if no public's expression leads back to itself; or the first such public
 // is named.
 fn acyclic_groups(alloc: Global, graph: &Graph<'_>) -> Result<Components, LocateRefusal>
     requires { IsGraph graph.now }
@@ -68,7 +68,7 @@ fn acyclic_groups(alloc: Global, graph: &Graph<'_>) -> Result<Components, Locate
     }
 }
 
-// The loads have no more bytes than an image, or their count is named.
+// Checks that the loads have no more bytes than an image may have; the error gives their number.
 fn check_limit(module: &Module) -> Result<(), LocateRefusal>
     ensures ok { OnOk result (oversized «module».now ≡ None) }
     ensures refused { IfErr result (IsMet (oversized «module».now)) }
@@ -81,7 +81,7 @@ fn check_limit(module: &Module) -> Result<(), LocateRefusal>
     Ok(())
 }
 
-/// The groups of the publics, where nothing keeps the module from being located before its
+/// The groups of the publics, if nothing keeps the module from being located before its
 /// expressions are looked at, its placement aside; or the first thing that does: a reference without
 /// a meaning, a common without room, a public that leads back to itself, too many loaded bytes.
 pub(crate) fn judged(

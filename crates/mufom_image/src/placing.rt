@@ -47,7 +47,7 @@ fn extended(
     Ok(all)
 }
 
-// The refusal of what is returned in place of the bases.
+// The error of locating for an error of placing.
 fn refused(refusal: PlaceRefusal) -> LocateRefusal
     ensures { (answer : Option PlaceRefusal) → IsAnswer answer refusal → IsMet (option_map placement answer) result }
 {

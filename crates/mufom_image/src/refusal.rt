@@ -6,7 +6,7 @@ use mufom_numbers::{Bytes, NoMemory};
 use mufom_place::PlaceRefusal;
 use thiserror::Error;
 
-/// Why a module is not located. Sections go by their positions, commons after those of the module;
+/// Why a module is not located. Sections are given by their positions, commons after those of the module;
 /// addresses are in addressable units.
 #[derive(Debug, Drop, Error)]
 pub enum LocateRefusal {
@@ -16,7 +16,7 @@ pub enum LocateRefusal {
     /// The name of the first strong reference that neither a public nor a common has.
     #[error("undefined symbol")]
     Undefined(Bytes),
-    /// The name of the first weak reference that asks for room, where no region takes commons.
+    /// The name of the first weak reference that asks for room, if no region takes commons.
     #[error("no region takes common symbols")]
     CommonUnplaced(Bytes),
     /// The name of the first public whose expression leads back to itself.

@@ -20,7 +20,7 @@ use mufom_meaning::{Run, Site};
 use mufom_numbers::List;
 use std::alloc::Global;
 
-// No public divides by 0, or the first that does is named.
+// Checks that no public divides by 0; the error names the first that does.
 fn check_publics(alloc: Global, valued: &ValuedModule<'_>) -> Result<(), LocateRefusal>
     requires { IsValued valued.now }
     ensures ok { OnOk result (public_division (setting_of valued.now.placed.now) ≡ None) }
@@ -35,7 +35,7 @@ fn check_publics(alloc: Global, valued: &ValuedModule<'_>) -> Result<(), LocateR
     }
 }
 
-// What ends the walk over the loads, as a refusal.
+// What ends the walk over the loads, as an error of locating.
 fn refusal_of(stop: Stop) -> LocateRefusal
     ensures { IsMet (Some (fact_of stop)) result }
 {
@@ -62,7 +62,7 @@ fn refusal_of(stop: Stop) -> LocateRefusal
     }
 }
 
-// The rows of the bytes that the module loads, or what is met first on the walk over its loads.
+// The rows of the bytes that the module loads, or the first thing found on the walk over its loads.
 fn runs_of(alloc: Global, valued: &ValuedModule<'_>) -> Result<List<Run>, LocateRefusal>
     requires valued { IsValued valued.now }
     requires ready { IsReady (parts_of valued.now) (bases_of valued.now.placed.now) valued.now.placed.now.bases.now (valuation_of valued.now) }
@@ -82,7 +82,7 @@ fn runs_of(alloc: Global, valued: &ValuedModule<'_>) -> Result<List<Run>, Locate
     }
 }
 
-// The start does not divide by 0.
+// Checks that the start does not divide by 0.
 fn check_start(valued: &ValuedModule<'_>) -> Result<(), LocateRefusal>
     requires { IsValued valued.now }
     ensures ok { OnOk result (start_division (parts_of valued.now) (setting_of valued.now.placed.now) ≡ None) }
@@ -94,7 +94,7 @@ fn check_start(valued: &ValuedModule<'_>) -> Result<(), LocateRefusal>
     Ok(())
 }
 
-// No debug expression divides by 0, or the number of the first that does is named.
+// Checks that no debug expression divides by 0; the error gives the number of the first that does.
 fn check_debug(alloc: Global, valued: &ValuedModule<'_>) -> Result<(), LocateRefusal>
     requires { IsValued valued.now }
     ensures ok { OnOk result (debug_division (parts_of valued.now) (setting_of valued.now.placed.now) ≡ None) }
@@ -106,7 +106,7 @@ fn check_debug(alloc: Global, valued: &ValuedModule<'_>) -> Result<(), LocateRef
     }
 }
 
-/// The rows of the bytes that the module loads, or the first thing that is met in its publics, its
+/// The rows of the bytes that the module loads, or the first thing found in its publics, its
 /// loads, its start and its debug expressions, in this order.
 pub(crate) fn walked(alloc: Global, valued: &ValuedModule<'_>) -> Result<List<Run>, LocateRefusal>
     requires valued { IsValued valued.now }

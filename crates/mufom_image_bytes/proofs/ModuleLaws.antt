@@ -146,7 +146,7 @@ module _ (home : Sited) where
       either_own step (repeated count (item_steps home current items)) (steps_of home current loads) h
       (λ k. own_items current items two.0 step (In-repeated count step (item_steps home current items) k)) (own_steps current loads two.1 step)
 
--- ---- from a public no zero divisor is met
+-- ---- from a public no zero divisor is found
 
 module _ (s : Setting) (clear : (q : SitedPublic) → StandsIn q s.publics → has_zero_divisor s q.site None q.entry.value ≡ false) where
   public_clear : (c : CounterPlace) (site : Sited) (t : Tree) → MeetsZeroDivisor s c site t → c ≡ None → (q : SitedPublic) → StandsIn q s.publics

@@ -25,7 +25,7 @@ module _ (layout : Layout) (valuation : ValuationAt) (section : ℕ) where
     chosen true e = refl
     chosen false e = absurd cc
 
-  -- another one is put where none of its bytes lies outside
+  -- another one is put if none of its bytes lies outside
   pub item_placed : (item : Item) (p : Progress) (at count : ℕ) (outside : Option LocateFact) → byte_count item ≢ 0 → at
       ≡ slice_index p.counters section → count ≡ byte_count item
       → outside ≡ outside_in layout section at count → item_outcome layout valuation section item p ≡ placed_outcome layout valuation section at item outside p

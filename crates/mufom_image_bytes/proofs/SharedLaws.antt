@@ -1,4 +1,4 @@
--- Chunks that go by address share an address exactly where one begins before the end of the one before it.
+-- Chunks that go by address share an address exactly if one begins before the end of the one before it.
 use Rattle.std.proofs.Common.{◌≡◌, ℕ, zero, suc, ◌+◌, ◌-◌, ◌<◌, ◌≤◌, min, List, [], ◌∷◌, ◌++◌, length, take, drop, Some, None, Bool, true, false}
 use Rattle.std.proofs.Common.{◌||◌, ◌&&◌, inl, inr, refl, sym, ◌∙◌, ap, subst, arith, length-append}
 use Rattle.std.specs.Prelude.{◌==◌, nat_lt, nat_le, slice_get, if◌then◌else◌}
@@ -18,7 +18,7 @@ use Rattle.mufom_image_bytes.specs.Chunks.{chunk_addresses, addresses_of, AreCon
 use Rattle.mufom_image_bytes.specs.Shared.{part_of, shares_from, AreRisingFrom, HasByte}
 use Rattle.mufom_image_bytes.proofs.TwiceLaws.{passed, twice-append}
 
--- ---- how often a number stands in a list
+-- ---- how often a number occurs in a list
 
 abbrev bit : Bool → ℕ
 bit b = if b then 1 else 0
@@ -47,7 +47,7 @@ same_bit a b e = grind (arith, e)
 other_bit : (a b : ℕ) → (a == b) ≡ false → bit (a == b) ≡ 0
 other_bit a b e = ap bit e
 
--- where no number stands twice each stands once at most, and none that stands earlier
+-- if no number occurs twice, each occurs once at most, and not again if it occurred earlier
 none_often : (xs earlier : List ℕ) → first_twice earlier xs ≡ None → (a : ℕ) → (times a xs ≤ 1) × (has_number earlier a ≡ true → times a xs ≡ 0)
 none_often [] earlier e a = (omega arith, λ there. refl)
 none_often (x ∷ xs) earlier e a = by_case (has_number earlier x) refl e (none_often xs (x ∷ earlier)) where
@@ -97,7 +97,7 @@ often_none (x ∷ xs) earlier few none =
 not_zero : (n : ℕ) → (suc n == 0) ≡ false
 not_zero n = grind arith
 
--- ---- how often an address stands in a chunk
+-- ---- how often an address occurs in a chunk
 
 abbrev covers : ℕ → ℕ → ℕ → ℕ
 covers low count a = bit (nat_le low a && nat_lt a (low + count))
@@ -169,7 +169,7 @@ take-append (suc m) (x ∷ xs) ys =
 
 -- ---- consecutive chunks
 
--- how often an address stands in the part of a chunk among the first bytes
+-- how often an address occurs in the part of a chunk among the first bytes
 abbrev in_part : ℕ → ℕ → Chunk → ℕ
 in_part k a c = covers c.address (part_of k c) a
 
@@ -247,7 +247,7 @@ byte_there start end (c ∷ chunks) h n low high = by_case (nat_lt n (start + c.
 
 -- ---- chunks by address
 
--- where none begins before the end of the one before it, each address stands in one at most, and at the end or after it
+-- if none begins before the end of the one before it, each address is in one at most, and at the end or after it
 apart_chunks : (k end : ℕ) (chunks : List Chunk) → shares_from k end chunks ≡ false → (a : ℕ) → (total (in_part k a) chunks ≤ 1)
     × (a < end → total (in_part k a) chunks ≡ 0)
 apart_chunks k end [] e a = (omega arith, λ less. refl)
@@ -292,7 +292,7 @@ weaker_rise : (low other : ℕ) (chunks : List Chunk) → low ≤ other → AreR
 weaker_rise low other [] less h = h
 weaker_rise low other (c ∷ chunks) less h = let first = h.0 in (omega (arith, less, first), h.1)
 
--- where one begins before the end of the one before it, its first address stands in both
+-- if one begins before the end of the one before it, its first address is in both
 abbrev HasDouble : ℕ → Chunk → List Chunk → Type 0
 HasDouble k p chunks = (a : ℕ) × (2 ≤ in_part k a p + total (in_part k a) chunks)
 
@@ -359,7 +359,7 @@ none_share end (c ∷ chunks) =
     ap (λ n. if n == 0 then shares_from 0 end chunks else (if nat_lt c.address end then true else shares_from 0 (c.address + n) chunks)) none
     ∙ none_share end chunks
 
--- so where some share one there is a byte
+-- so if some share one, there is a byte
 pub some_byte : (count end : ℕ) (chunks : List Chunk) → shares_from count end chunks ≡ true → 0 < count
 some_byte zero end chunks e = absurd (let none = none_share end chunks in cc)
 some_byte (suc count) end chunks e = omega arith
@@ -375,7 +375,7 @@ module _ (loaded chunks : List Chunk) (end : ℕ) (permuted : IsPermutation load
       let same : k ≡ k - 0 = omega arith in
       ap (λ n. times a (take n all)) same ∙ times_consecutive k a 0 end loaded tiles ∙ total-permuted (in_part k a) loaded chunks permuted
 
-  -- among the first bytes no address stands twice
+  -- among the first bytes no address occurs twice
   pub apart_part : (k : ℕ) → shares_from k 0 chunks ≡ false → first_twice [] (take k all) ≡ None
   apart_part k e = often_none (take k all) [] (λ a. let same = times_part k a in let most = (apart_chunks k 0 chunks e a).0 in
       omega (arith, same, most)) (λ a there. absurd cc)
@@ -389,7 +389,7 @@ module _ (loaded chunks : List Chunk) (end : ℕ) (permuted : IsPermutation load
         take_whole (suc n) [] less = refl
         take_whole (suc n) (x ∷ xs) less = ap (λ rest. x ∷ rest) (take_whole n xs (omega (arith, less)))
 
-  -- among the first bytes some address stands twice
+  -- among the first bytes some address occurs twice
   shared_part : (k : ℕ) → AreRisingFrom 0 chunks → shares_from k 0 chunks ≡ true → first_twice [] (take k all) ≡ None → ⊥
   shared_part k rise e none =
       let there = shared_chunks k chunks rise e in
@@ -402,7 +402,7 @@ module _ (loaded chunks : List Chunk) (end : ℕ) (permuted : IsPermutation load
   split_at zero a (x ∷ xs) e = let same : x ≡ a = cc in (ap (λ y. y ∷ xs) same, ap (λ y. y ∷ []) same)
   split_at (suc n) a (x ∷ xs) e = let later = split_at n a xs e in (ap (λ rest. x ∷ rest) later.0, ap (λ rest. x ∷ rest) later.1)
 
-  -- the byte after which an address first stands twice
+  -- the byte after which an address first occurs twice
   pub double_at : (n a : ℕ) → AreRisingFrom 0 chunks → shares_from n 0 chunks ≡ false → shares_from (n + 1) 0 chunks ≡ true → slice_get all n ≡ Some a
       → first_twice [] all ≡ Some (loaded_twice a)
   double_at n a rise apart shared at =

@@ -117,7 +117,7 @@ run_cells-push (first ∷ runs) run =
     ap (λ cells. cells_from first.address first.bytes ++ cells) (run_cells-push runs run)
     ∙ sym (append_assoc (cells_from first.address first.bytes) (run_cells runs) (cells_from run.address run.bytes))
 
--- what stands where some rows are runs, and the other chunks come after them
+-- the state if some rows are runs, and the other chunks come after them
 pub record AreRowsSoFar (bytes : List ℕ) (chunks rest : List Chunk) (runs : List Run) : Type 0 where
   pub spread : AreSpread (free_after 0 runs) rest
   pub among : All (IsAmong bytes) rest

@@ -41,7 +41,7 @@ module _ (s : Setting) (layout : Layout) (valuation : ValuationAt) (laid : IsLai
   step_taken earlier p h (counter_step site section t) w = counter_taken s layout valuation laid earlier p h site section w.0 t w.1
   step_taken earlier p h (item_step site section item) w = item_taken s layout valuation laid earlier p h site section w.0 item w.1
 
-  -- what the walk of some steps answers
+  -- what the walk of some steps returns
   record IsWalk (earlier steps : List Step) (p : Progress) (o : Outcome) : Type 0 where
     facts : (first_twice [] (addresses p.cells) or_else steps_fact s earlier steps) ≡ (first_twice [] (addresses o.0.cells) or_else o.1)
     cells : o.1 ≡ None → o.0.cells ≡ p.cells ++ address_map layout.order s.modulus (readings_after s earlier steps)

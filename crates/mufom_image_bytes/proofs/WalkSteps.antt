@@ -1,4 +1,4 @@
--- One step of the walk by places and values, against what is met at it.
+-- One step of the walk by places and values, against what is found at it.
 use Rattle.std.proofs.Common.{◌≡◌, ◌≢◌, ℕ, zero, suc, ◌+◌, ◌<◌, ◌≤◌, List, [], ◌∷◌, ◌++◌, map, length, get_or, set, Option, Some, None, Bool, true}
 use Rattle.std.proofs.Common.{false, ◌||◌, ◌⊎◌, inl, inr, refl, sym, ◌∙◌, ap, subst, arith, append-nil, add-zero, length-set, get_or-set_other}
 use Rattle.std.proofs.Common.{get_or-set_same}
@@ -44,7 +44,7 @@ own_residues modulus (suc n) at high =
     ap (λ a. a ∷ map (λ b. b % modulus) (counted_from n (suc at))) (mod-eq_of_lt less)
     ∙ ap (λ rest. at ∷ rest) (own_residues modulus n (suc at) (omega (arith, high)))
 
--- where none of them lies outside, they lie inside
+-- if none of them lies outside, they lie inside
 all_inside : (modulus section base size n at : ℕ) → first_some (outside_at modulus section base size) (counted_from (suc n) at) ≡ None
     → (base ≤ at) × (at + suc n ≤ base + size)
 all_inside modulus section base size zero at e =
@@ -140,7 +140,7 @@ module _ (s : Setting) (layout : Layout) (valuation : ValuationAt) (laid : IsLai
         fitting true = refl
         fitting false = refl
 
-  -- what is met at the bytes of an item is what the definitions meet at its field
+  -- what is found at the bytes of an item is what the definitions meet at its field
   item_facts : (site : Sited) (section at : ℕ) (item : Item) → IsPlainItem s valuation site item → (item_bytes layout valuation section at item).1
       ≡ field_fact s site section at item
   item_facts site section at (Literal bytes) h = refl
@@ -156,7 +156,7 @@ module _ (s : Setting) (layout : Layout) (valuation : ValuationAt) (laid : IsLai
       let found = field_outcome (2 ^ layout.width) section at kind size (valuation at t) in
       length-in_byte_order layout.order (number_bytes size found.0) ∙ length-number_bytes size found.0
 
-  -- where nothing is met the bytes are those of the definitions
+  -- if no fact is found, the bytes are those of the definitions
   item_cells : (site : Sited) (section at : ℕ) (item : Item) → IsPlainItem s valuation site item → (item_bytes layout valuation section at item).1 ≡ None
       → cells_from at (item_bytes layout valuation section at item).0 ≡ step_cells layout.order s.modulus (item_reading s site section (Some at) item)
   item_cells site section at (Literal bytes) h e = refl
@@ -190,7 +190,7 @@ module _ (s : Setting) (layout : Layout) (valuation : ValuationAt) (laid : IsLai
     pub below : (n : ℕ) → n < length s.bases → get_or p.counters n 0 < s.modulus
     pub members : (a : ℕ) → has_number (loaded_addresses s earlier) a ≡ has_number (addresses p.cells) a
 
-  -- what a step does where nothing ends the walk at it, and what ends it
+  -- what a step does if nothing ends the walk at it, and what ends it
   pub record IsTaken (earlier : List Step) (step : Step) (p : Progress) (o : Outcome) : Type 0 where
     pub agrees : o.1 ≡ None → Agrees (step ∷ earlier) o.0
     pub cells : o.1 ≡ None → o.0.cells ≡ p.cells ++ step_cells layout.order s.modulus (step_reading s earlier step)

@@ -8,7 +8,7 @@ use Rattle.mufom_image_bytes.specs.declared.chunk.Chunk.{Chunk}
 abbrev pub end_of_chunk : Chunk → ℕ
 end_of_chunk c = c.address + c.count
 
--- the bytes of a chunk with their addresses, where these bytes are loaded
+-- the bytes of a chunk with their addresses, if these bytes are loaded
 abbrev pub chunk_cells : List ℕ → Chunk → List Cell
 chunk_cells bytes c = cells_from c.address (take c.count (drop c.start bytes))
 

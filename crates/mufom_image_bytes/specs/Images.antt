@@ -27,18 +27,18 @@ pub record IsImage (cells : List Cell) (stop : Option LocateFact) (runs : List R
   pub single : AreLow cells → first_twice [] (cell_addresses cells) ≡ None
   pub rows : AreRowsOf cells runs
 
--- an address occurs twice, and else the loads ended there
+-- an address occurs twice, or otherwise the loads ended there
 abbrev pub IsRefusal : List Cell → Option LocateFact → ImageRefusal → Type 0
 IsRefusal cells stop (refusals.Stopped other) = AreLow cells → (first_twice [] (cell_addresses cells) or_else stop) ≡ Some (fact_of other)
 IsRefusal cells stop refusals.NoMemory = Unit {0}
 
--- where the loads are walked so, nothing is met, and the runs are the rows of what they load
+-- if the loads are walked so, no fact is found, and the runs are the rows of what they load
 abbrev pub IsImageOf : Layout → ValuationAt → List Load → List Run → Type 0
 IsImageOf layout valuation loads runs =
     (s : Setting) (site : Sited) → AreWalked s site layout valuation loads → let steps = steps_of site None loads in
     (steps_fact s [] steps ≡ None) × AreRowsOf (address_map layout.order s.modulus (step_readings s steps)) runs
 
--- where the loads are walked so, this is met first
+-- if the loads are walked so, this is the first fact found
 abbrev pub IsRefusalOf : Layout → ValuationAt → List Load → ImageRefusal → Type 0
 IsRefusalOf layout valuation loads (refusals.Stopped stop) =
     (s : Setting) (site : Sited) → AreWalked s site layout valuation loads → steps_fact s [] (steps_of site None loads) ≡ Some (fact_of stop)

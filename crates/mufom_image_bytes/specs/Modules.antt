@@ -36,13 +36,13 @@ pub record IsReady (m : Parts) (placed : Bases) (bases : List ℕ) (valuation : 
   pub publics : first_some (public_fact (setting (m ∷ []) placed)) (setting (m ∷ []) placed).publics ≡ None
   pub is_value : (at : ℕ) (t : Tree) → valuation at t ≡ value (setting (m ∷ []) placed) (home_of m) (Some at) t
 
--- where the module is ready, nothing is met at its steps, and the runs are the rows of what they load
+-- if the module is ready, no fact is found at its steps, and the runs are the rows of what they load
 abbrev pub IsImageOfModule : Parts → List ℕ → ValuationAt → List Run → Type 0
 IsImageOfModule m bases valuation runs =
     (placed : Bases) → IsReady m placed bases valuation → let s = setting (m ∷ []) placed in
     (steps_fact s [] (steps (m ∷ [])) ≡ None) × AreRowsOf (address_map m.order s.modulus (readings (m ∷ []) placed).steps) runs
 
--- where the module is ready, this is met first at its steps
+-- if the module is ready, this is the first fact found at its steps
 abbrev pub IsRefusalOfModule : Parts → List ℕ → ValuationAt → ImageRefusal → Type 0
 IsRefusalOfModule m bases valuation (refusals.Stopped stop) =
     (placed : Bases) → IsReady m placed bases valuation → steps_fact (setting (m ∷ []) placed) [] (steps (m ∷ [])) ≡ Some (fact_of stop)

@@ -30,7 +30,7 @@ pub record Progress : Type 0 where
 abbrev pub Outcome : Type 0
 Outcome = Progress × Option LocateFact
 
--- goes on where nothing ended the loads
+-- goes on if nothing ended the loads
 abbrev pub continued : Progress → Option LocateFact → (Progress → Outcome) → Outcome
 continued p None next = next p
 continued p (Some fact) next = (p, Some fact)
@@ -54,13 +54,13 @@ IsFirstOutside base size at count first =
     (modulus section : ℕ)
     → first_some (outside_at modulus section base size) (counted_from count at) ≡ option_map (λ a. load_outside section (a % modulus)) first
 
--- the number that the bytes of a field spell, or 0 and what is met in its place
+-- the number that the bytes of a field spell, or 0 and the fact found in its place
 abbrev pub field_outcome : ℕ → ℕ → ℕ → FieldKind → ℕ → Option ℕ → ℕ × Option LocateFact
 field_outcome modulus section at kind size None = (0, Some (zero_divisor (sites.Field section at)))
 field_outcome modulus section at kind size (Some v) =
     if fits modulus kind size v then (field_number modulus kind size v, None) else (0, Some (overflow section at kind size v))
 
--- the bytes of an item at a counter, and what is met at them
+-- the bytes of an item at a counter, and the fact found at them
 abbrev pub item_bytes : Layout → ValuationAt → ℕ → ℕ → Item → List ℕ × Option LocateFact
 item_bytes layout valuation section at (Literal bytes) = (bytes, None)
 item_bytes layout valuation section at (Field kind size t) =
@@ -72,7 +72,7 @@ abbrev pub with_bytes : Layout → ℕ → ℕ → List ℕ → ℕ → Progress
 with_bytes layout section at bytes count p =
     record { counters = slice_set p.counters section ((at + count) % 2 ^ layout.width); cells = p.cells ++ cells_from at bytes }
 
--- the bytes of an item are put, where none lies outside
+-- the bytes of an item are put, if none lies outside
 abbrev pub placed_outcome : Layout → ValuationAt → ℕ → ℕ → Item → Option LocateFact → Progress → Outcome
 placed_outcome layout valuation section at item (Some fact) p = (p, Some fact)
 placed_outcome layout valuation section at item None p =
@@ -90,7 +90,7 @@ items_outcome layout valuation section [] p = (p, None)
 items_outcome layout valuation section (item ∷ items) p =
     let first = item_outcome layout valuation section item p in continued first.0 first.1 (λ q. items_outcome layout valuation section items q)
 
--- the same in the current section, where there is one
+-- the same in the current section, if there is one
 abbrev pub current_outcome : Layout → ValuationAt → Option ℕ → List Item → Progress → Outcome
 current_outcome layout valuation None items p = (p, None)
 current_outcome layout valuation (Some section) items p = items_outcome layout valuation section items p

@@ -28,7 +28,7 @@ AreRisingFrom low (c ∷ chunks) = (low ≤ c.address) × AreRisingFrom c.addres
 abbrev pub HasByte : Chunk → ℕ → Type 0
 HasByte c number = (c.start ≤ number) × (number < c.start + c.count)
 
--- the address of the byte of this number, where a chunk has it and its address fits 64 bits
+-- the address of the byte of this number, if a chunk has it and its address fits 64 bits
 abbrev pub IsAddressOf : List Chunk → ℕ → ℕ → Type 0
 IsAddressOf chunks number address =
     (c : Chunk) → Contains chunks c → HasByte c number
@@ -47,7 +47,7 @@ abbrev pub IsFirstDouble : List Chunk → ℕ → Option ℕ → Type 0
 IsFirstDouble chunks count double =
     (loaded : List Chunk) → AreOrdered chunks count loaded → first_twice [] (addresses_of loaded) ≡ option_map loaded_twice double
 
--- the first address that occurs twice, and else what ended the loads
+-- the first address that occurs twice, or otherwise what ended the loads
 abbrev pub EndsFirst : List Chunk → ℕ → Option LocateFact → Option LocateFact → Type 0
 EndsFirst chunks count stop first =
     (loaded : List Chunk) → AreOrdered chunks count loaded → first ≡ (first_twice [] (addresses_of loaded) or_else stop)

@@ -1,4 +1,4 @@
--- What ends the walk over the loads, as what is met there.
+-- What ends the walk over the loads, as the fact found there.
 use Rattle.mufom_meaning.specs.declared.located.Site.TheVariants as sites
 use Rattle.mufom_meaning.specs.Facts.{LocateFact, zero_divisor, load_outside, loaded_twice, overflow}
 use Rattle.mufom_image_bytes.specs.declared.stop.Stop.{Stop}

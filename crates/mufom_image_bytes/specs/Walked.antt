@@ -19,7 +19,7 @@ pub record IsLaidOut (s : Setting) (layout : Layout) : Type 0 where
   pub sections : s.sections ≡ layout.sections.now
   pub inside : (n : ℕ) → base_number s n + size_at s n ≤ s.modulus
 
--- At each counter the code computes the value of the expression, a residue, and where it has none the expression itself divides by 0.
+-- At each counter the code computes the value of the expression, a residue, and if it has none, the expression itself divides by 0.
 pub record HasValuation (s : Setting) (valuation : ValuationAt) (site : Sited) (t : Tree) : Type 0 where
   pub is_value : (at : ℕ) → valuation at t ≡ value s site (Some at) t
   pub residue : (at v : ℕ) → value s site (Some at) t ≡ Some v → v < s.modulus

@@ -26,7 +26,7 @@ Reaches walk stop outcome = ◌≡◌ {A = Outcome} (progress_of walk, option_ma
 abbrev pub LoadsItem : Layout → ValuationAt → ℕ → Item → Walk → Walk → Option Stop → Type 0
 LoadsItem layout valuation section item before after stop = Reaches after stop (item_outcome layout valuation section item (progress_of before))
 
--- the same of items, one after another, where there was memory
+-- the same of items, one after another, unless memory ran out
 abbrev pub LoadsItems : {E : Type 0} → Layout → ValuationAt → ℕ → List Item → Walk → Walk → Result (Option Stop) E → Type 0
 LoadsItems layout valuation section items before after result =
     IfOk result (λ stop. Reaches after stop (items_outcome layout valuation section items (progress_of before)))
@@ -39,7 +39,7 @@ Copies layout valuation section count items before after result = LoadsItems lay
 abbrev pub PutsItem : Layout → ValuationAt → ℕ → ℕ → Item → Walk → Walk → Option Stop → Type 0
 PutsItem layout valuation section at item before after stop = Reaches after stop (placed_outcome layout valuation section at item None (progress_of before))
 
--- the same of one load, where this section is the current one
+-- the same of one load, if this section is the current one
 abbrev pub LoadsOne : Layout → ValuationAt → Option ℕ → Load → Walk → Walk → Option Stop → Type 0
 LoadsOne layout valuation current load before after stop = Reaches after stop (load_outcome layout valuation current load (progress_of before))
 

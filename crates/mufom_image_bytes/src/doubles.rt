@@ -31,7 +31,7 @@ fn shares(chunks: &[Chunk], count: usize) -> bool
     false
 }
 
-// The number of the first byte that shares an address with one before it, where some byte does.
+// The number of the first byte that shares an address with one before it, if some byte does.
 fn first_shared(chunks: &[Chunk], count: usize) -> usize
     requires { shares_from count 0 chunks.now ≡ true }
     ensures within { result < count }

@@ -35,7 +35,7 @@ fn sort_by_address(chunks: &mut Vec<Chunk>)
     chunks.sort_unstable_by_key(|chunk| chunk.address);
 }
 
-// The first byte that is loaded on another, and else what ended the loads. The chunks go by address.
+// The first byte that is loaded on another, or otherwise what ended the loads. The chunks go by address.
 fn first_stop(chunks: &[Chunk], count: usize, stop: Option<Stop>) -> Option<Stop>
     requires { AreRisingFrom 0 chunks.now }
     ensures stop { EndsFirst chunks.now count (option_map fact_of stop) (option_map fact_of result) }
@@ -67,8 +67,8 @@ fn rows_of(alloc: Global, chunks: &[Chunk], bytes: Vec<u8>) -> Result<List<Run>,
     maximal_rows(alloc, chunks, &bytes)
 }
 
-/// The maximal rows of loaded bytes, or the first address that has two of them, and else what ended the
-/// loads.
+/// The maximal rows of loaded bytes, or the first address that is loaded twice, or otherwise what ended
+/// the loads.
 pub fn rows_of_loaded(
     alloc: Global,
     loaded: Loaded,

@@ -9,10 +9,10 @@ use crate::chunk::Chunk;
 use mufom_numbers::NoMemory;
 use std::alloc::Global;
 
-/// Bytes in the order in which they were loaded, and where they lie.
+/// Bytes in the order in which they were loaded, with their addresses.
 #[derive(Drop)]
 pub struct Loaded {
-    /// The chunks but the last.
+    /// All chunks except the last one.
     pub chunks: Vec<Chunk>,
     /// The chunk that grows. It may have no byte yet.
     pub last: Chunk,
@@ -36,7 +36,7 @@ pub fn nothing_loaded(alloc: Global) -> Loaded
 }
 
 impl Loaded {
-    // Puts the last chunk with the others, where it has a byte.
+    // Adds the last chunk to the others, if it has a byte.
     fn close(&mut self) -> Result<(), NoMemory>
         requires { IsTiled self.old }
         ensures consecutive { OnOk result (AreConsecutive 0 self.new.chunks.items (length self.new.bytes.items)) }

@@ -130,7 +130,7 @@ fn load_counter<V: Values>(
     }
 }
 
-// One load, where this section is the current one.
+// One load, if this section is the current one.
 fn load_one<V: Values>(
     alloc: Global,
     layout: &Layout<'_>,
@@ -190,7 +190,7 @@ fn first_counters(alloc: Global, layout: &Layout<'_>) -> Result<Vec<u64>, NoMemo
     Ok(counters)
 }
 
-/// Where the loads end, and how far they went until then.
+/// Walks the loads: how far they went, and what ended the walk, if anything did.
 pub fn walked<V: Values>(
     alloc: Global,
     layout: &Layout<'_>,

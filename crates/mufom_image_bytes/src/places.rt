@@ -1,4 +1,4 @@
-//! Where item copies lie.
+//! The addresses of copies of items.
 
 ghost use Rattle.std.specs.Prelude.{◌≡◌, ◌≤◌, ◌%◌, ◌^◌, option_map};
 ghost use Rattle.mufom_meaning.specs.Facts.{load_outside};
@@ -26,14 +26,14 @@ pub fn first_outside(at: u64, count: u64, base: u64, size: u64) -> Option<u128>
 }
 
 impl<'a> Layout<'a> {
-    // The base of a section, and 0 where there is none.
+    // The base of a section, or 0 if there is none.
     fn base(&self, section: u32) -> u64
         ensures { result ≡ base_in self.now section }
     {
         self.bases.get(section as usize).copied().unwrap_or(0)
     }
 
-    // The size of a section, and 0 where there is none.
+    // The size of a section, or 0 if there is none.
     fn size(&self, section: u32) -> u64
         ensures { result ≡ size_in self.now section }
     {

@@ -18,7 +18,7 @@ fn end_of(chunk: &Chunk) -> u128
     chunk.address as u128 + chunk.count as u128
 }
 
-// How many chunks the first row has: the first chunk, and those that go on where the one before ends.
+// How many chunks the first row has: the first chunk, and those that start where the one before ends.
 fn row_count(chunks: &[Chunk]) -> usize
     ensures count { result ≡ first_row chunks.now }
     ensures within { result ≤ length chunks.now }
@@ -35,7 +35,7 @@ fn row_count(chunks: &[Chunk]) -> usize
     count
 }
 
-// How many bytes the chunks have, as room to take for them.
+// The number of bytes that the chunks have, for which room is allocated.
 fn room_for(chunks: &[Chunk]) -> usize {
     let mut room: usize = 0;
     for chunk in chunks {
@@ -56,7 +56,7 @@ fn joined(alloc: Global, chunks: &[Chunk], bytes: &[u8]) -> Result<Vec<u8>, NoMe
     Ok(all)
 }
 
-// The bytes of a row of chunks. Those of a single chunk are copied at once, and do not allocate where
+// The bytes of a row of chunks. Those of a single chunk are copied at once, and do not allocate if
 // they are few.
 fn row_bytes(alloc: Global, chunks: &[Chunk], bytes: &[u8]) -> Result<Bytes, NoMemory>
     requires { All (IsAmong bytes.now) chunks.now }

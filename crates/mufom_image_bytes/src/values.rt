@@ -5,13 +5,13 @@ ghost use Rattle.mufom_expr.specs.Tree.{Tree};
 
 use mufom_expr::Postfix;
 
-/// What gives the expressions of a module their values.
+/// A source of values for the expressions of a module.
 pub trait Values {
     /// The value of an expression, by the width of an address and the program counter, or none.
     ghost meaning: { Self → ℕ → ℕ → Tree → Option ℕ };
 
-    /// The value of an expression modulo 2 to the width, which is 8 to 64, where the program counter
-    /// has this value. `None` where it has none.
+    /// The value of an expression modulo 2 to the power of the width, which is 8 to 64 bits, if the program
+    /// counter has this value. `None` if the expression has no value.
     fn value(&self, width: u32, counter: u64, expression: &Postfix) -> Option<u64>
         requires low { 8 ≤ width }
         requires high { width ≤ 64 }

@@ -26,14 +26,14 @@ pub struct Walk {
     pub loaded: Loaded,
 }
 
-/// The counter of a section, and 0 where there is none.
+/// The counter of a section, or 0 if there is none.
 pub fn counter_of(counters: &[u64], section: u32) -> u64
     ensures { result ≡ slice_index counters.now section }
 {
     counters.get(section as usize).copied().unwrap_or(0)
 }
 
-/// Sets the counter of a section, where there is one.
+/// Sets the counter of a section, if there is one.
 pub fn set_counter(counters: &mut [u64], section: u32, value: u64)
     ensures { counters.new ≡ slice_set counters.old section value }
 {

@@ -15,7 +15,7 @@ use Rattle.mufom_copies.specs.Mapped.{mapped_head}
 use Rattle.mufom_image_entries.specs.Valued.{valued_mark}
 
 module _ (s : Setting) (m : Parts) where
-  -- the value, and 0 where there is none
+  -- the value, and 0 if there is none
   abbrev pub or_zero : Tree → ℕ
   or_zero t = unwrap_or (value s (alone m) None t) 0
 

@@ -19,7 +19,7 @@ pub record IsValued (valued : ValuedModule) : Type 0 where
 abbrev pub parts_of : ValuedModule → Parts
 parts_of valued = valued.placed.now.graph.parts.now
 
--- the value of an expression that finds no program counter, and 0 where it has none
+-- the value of an expression that finds no program counter, or 0 if it has none
 abbrev pub value_of : ValuedModule → Tree → ℕ
 value_of valued t = unwrap_or (value (setting_of valued.placed.now) (alone (parts_of valued)) None t) 0
 
@@ -35,7 +35,7 @@ valued_public valued p = record { name = p.name; value = value_of valued p.value
 abbrev pub number_for : ValuedModule → Tree → Tree
 number_for valued t = number (value_of valued t)
 
--- a debug mark with the values of its expressions
+-- a debug record with the values of its expressions
 abbrev pub valued_mark : (Tree → ℕ) → DebugMark → DebugMark
 valued_mark f mark = mapped_mark (λ t. number (f t)) mark
 

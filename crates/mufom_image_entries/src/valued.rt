@@ -28,7 +28,7 @@ impl<'a> ValuedModule<'a> {
         placed.graph.parts
     }
 
-    /// The value of an expression of the module that finds no program counter, and 0 where it has none.
+    /// The value of an expression of the module that finds no program counter, or 0 if it has none.
     pub(crate) fn value(&self, expression: &Postfix) -> u64
         requires { IsValued self.now }
         ensures { result ≡ value_of self.now expression.now }

@@ -9,7 +9,7 @@ use mufom_numbers::List;
 use std::alloc::Global;
 use std::process::Abort;
 
-// Where the one section is placed.
+// The address at which the one section is placed.
 const AT_256: &str = "[[region]]\nname = \"r\"\nbase = 256\nsize = 16\nsections = [\"t\"]\n";
 
 // What a function declares: a local name, a note on it, and its value.
@@ -66,7 +66,7 @@ fn program(rt: &impl Abort, alloc: Global) -> Block {
     }
 }
 
-// The number that an expression is, where it is one.
+// The number that an expression is, if it is one.
 fn number(tokens: &[Token]) -> Option<u64> {
     match tokens {
         [Number(value)] => Some(*value),

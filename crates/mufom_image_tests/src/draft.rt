@@ -1,4 +1,4 @@
-//! Modules that are made entry by entry, and the result of locating them. Where there is no memory, a
+//! Modules that are made entry by entry, and the result of locating them. If memory runs out, a
 //! test fails.
 
 use mufom_debug::{Block, Boxed, DebugItem};
@@ -48,7 +48,7 @@ impl Draft {
         Draft { alloc, parts }
     }
 
-    /// A section `t` of this size, which is absolute where it has a base.
+    /// A section `t` of this size, which is absolute if it has a base.
     pub(crate) fn section(&mut self, rt: &impl Abort, size: u64, base: Option<u64>) {
         let section = Section {
             name: bytes(rt, self.alloc, b"t"),

@@ -23,7 +23,7 @@ impl Env for Counter {
     }
 }
 
-// The values where each variable is the program counter.
+// The values if each variable is the program counter.
 #[derive(Drop)]
 struct Counted;
 

@@ -1,4 +1,4 @@
--- The code's environment of an expression is that of the definitions, where what the expression mentions is known.
+-- The code's environment of an expression is that of the definitions, if what the expression mentions is known.
 use Rattle.std.proofs.Common.{◌≡◌, ℕ, ◌+◌, List, [], ◌∷◌, Option, Some, None, Bool, true, false, refl, sym, ◌∙◌, ap, append-nil, zero-add, arith}
 use Rattle.std.specs.Prelude.{slice_get, option_map, option_and_then, ◌==◌, if◌then◌else◌}
 use Rattle.std.specs.Str.{bytes_eq}
@@ -29,7 +29,7 @@ use Rattle.mufom_image_values.proofs.ResolutionLaws.{distinct-has}
 use Rattle.mufom_image_values.proofs.PublicLaws.{at_site, first-some, first-none}
 use Rattle.mufom_image_values.proofs.MentionLaws.{flat-alone, met-public, variable-mention}
 
--- a name that has a position stands among the names
+-- a name that has a position is among the names
 has-some : (names : List (List ℕ)) (name : List ℕ) (k : ℕ) → place_in names name ≡ Some k → has_name names name ≡ true
 has-some names name k e =
     let there = place-some 0 names name k e in
@@ -65,7 +65,7 @@ module _ (m : Parts) (bases commons : List ℕ) (valuation : Valuation) (values 
       let named : first_named s.publics r.name ≡ Some q = ap (λ (qs : List SitedPublic). first_named qs r.name) whole ∙ there.2.1 in
       known ∙ ap (valuation_of valuation) found ∙ sym (ap (λ o. reference_value valuation o (unresolved_value s r)) named)
 
-  -- no public has a name that stands nowhere
+  -- no public has a name without a position
   unnamed : (r : Reference) → place_in (names_of m.names.publics) r.name ≡ None → first_named s.publics r.name ≡ None
   unnamed r e = ap (λ (qs : List SitedPublic). first_named qs r.name) (flat-alone m) ∙ first-none (alone m) 0 m.names.publics r.name e
 
@@ -90,7 +90,7 @@ module _ (m : Parts) (bases commons : List ℕ) (valuation : Valuation) (values 
   by_reference None known = refl
   by_reference (Some r) known = by_place r (place_in (names_of m.names.publics) r.name) refl (λ c e. known c (met-public m r ∙ e))
 
-  -- the code and the definitions give a variable the same value, where the public that it mentions is known
+  -- the code and the definitions give a variable the same value, if the public that it mentions is known
   pub valuation_by-is : (l : Letter) (n : ℕ) → ((c : ℕ) → public_named (resolutions_of m) l n ≡ Some c → IsKnown c)
       → valuation_by m.sections bases commons values (resolutions_of m) pc l n ≡ environment s valuation (alone m) pc l n
   valuation_by-is letters.R n known = ap (slice_get bases) (sym (zero-add n))
@@ -104,7 +104,7 @@ module _ (m : Parts) (bases commons : List ℕ) (valuation : Valuation) (values 
       ap (valuation_met values commons) (slice_get-map (resolution_of m) m.names.references n)
       ∙ by_reference (slice_get m.names.references n) (λ c e. known c (ap public_met (slice_get-map (resolution_of m) m.names.references n) ∙ e))
 
-  -- and so is an expression, where what it mentions is known
+  -- and so is an expression, if what it mentions is known
   pub value_by-is : (t : Tree) → ((c : ℕ) → In c (mentions_of (resolutions_of m) (tokens_of t)) → IsKnown c)
       → value_at s.modulus (valuation_by m.sections bases commons values (resolutions_of m) pc) t ≡ value_at s.modulus (environment s valuation (alone m) pc) t
   value_by-is t known =

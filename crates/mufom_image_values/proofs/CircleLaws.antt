@@ -1,4 +1,4 @@
--- A public lies on a cycle of names exactly where its position lies on a circle of the graph.
+-- A public lies on a cycle of names exactly if its position lies on a circle of the graph.
 use Rattle.std.proofs.Common.{◌≡◌, ℕ, zero, suc, ◌<◌, ◌⊎◌, inl, inr, List, [], ◌∷◌, length, Option, Some, None, Bool, true, false, ◌||◌, refl, sym}
 use Rattle.std.proofs.Common.{◌∙◌, ap, subst, append-nil, arith}
 use Rattle.std.specs.Prelude.{slice_get, option_map, option_and_then, if◌then◌else◌, Contains}
@@ -38,13 +38,13 @@ use Rattle.mufom_image_values.proofs.MentionLaws.{sit, flat-alone, named-public,
 
 -- ---- lists
 
--- what stands at a position below the length
+-- what is at a position below the length
 pub there_is : {A : Type 0} (xs : List A) (i : ℕ) → i < length xs → (x : A) × (slice_get xs i ≡ Some x)
 there_is [] i less = absurd (omega (arith, less))
 there_is (x ∷ xs) zero less = (x, refl)
 there_is (x ∷ xs) (suc i) less = there_is xs i (omega (arith, less))
 
--- an element passes where the test of any does
+-- an element passes if the test of any does
 found : {A : Type 0} (p : A → Bool) (xs : List A) → list_any p xs ≡ true → (x : A) × In x xs × (p x ≡ true)
 found p [] e = absurd cc
 found {A} p (x ∷ xs) e = by_case (either (p x) (list_any p xs) e) (found p xs) where
@@ -52,7 +52,7 @@ found {A} p (x ∷ xs) e = by_case (either (p x) (list_any p xs) e) (found p xs)
   by_case (inl h) later = (x, inl refl, h)
   by_case (inr h) later = let there = later h in (there.0, inr there.1, there.2)
 
--- where no element gives an answer, none is first
+-- if no element gives an answer, none is first
 pub none_first : {A B : Type 0} (f : A → Option B) (xs : List A) → ((i : ℕ) (x : A) → slice_get xs i ≡ Some x → f x ≡ None) → first_some f xs ≡ None
 none_first f [] none = refl
 none_first f (x ∷ xs) none = ap (λ o. o or_else first_some f xs) (none 0 x refl) ∙ none_first f xs (λ i y e. none (suc i) y e)
@@ -211,7 +211,7 @@ module _ (m : Parts) (valid : IsValid m) (distinct : AreDistinct (names_of m.nam
       (ap (λ b. if b then Some (cycle p.name) else None) test)
       (λ j name less f. not_at j name f (none j less))
 
--- where no cycle is named there is none
+-- if no cycle is named there is none
 pub no_cycle : (m : Parts) → first_some (cycle_at (m ∷ [])) (public_names (m ∷ [])) ≡ None → (name : List ℕ) → ¬ IsOnCycle (m ∷ []) name
 no_cycle m none name h = by_first (first_named (setting (m ∷ []) no_bases).publics name) refl h.1 where
   test : is_on_cycle (m ∷ []) name ≡ true

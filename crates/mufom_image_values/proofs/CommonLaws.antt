@@ -1,4 +1,4 @@
--- The first reference that stands for the first common has its name, and the first that passes a test is found one after another.
+-- The first reference that resolves to the first common has its name, and the first that passes a test is found one after another.
 use Rattle.std.proofs.Common.{◌≡◌, ℕ, zero, suc, ◌<◌, inl, inr, List, [], ◌∷◌, map, get_or, Option, Some, None, is_none, Bool, true, false, not, cond}
 use Rattle.std.proofs.Common.{if◌then◌else◌, refl, sym, ap, ◌∙◌, append-nil, arith}
 use Rattle.std.specs.Prelude.{filter, find, option_map, slice_get, ◌==◌}
@@ -59,7 +59,7 @@ first-place (x ∷ names) name e =
     let same : x ≡ name = cc in
     ap (λ b. if b then Some 0 else position_of (numbered_from 1 names) name) ((bytes_eq-Decides name x).1 (sym same))
 
--- a reference stands for the first common where no public and the first common have its name
+-- a reference resolves to the first common if no public and the first common have its name
 stands-first : (o u : Option ℕ) (weak : Option Weak) → o ≡ None → u ≡ Some 0 → is_first_common (resolution_by o u weak) ≡ true
 stands-first (Some n) u weak e f = absurd cc
 stands-first None None weak e f = absurd cc
@@ -79,7 +79,7 @@ module _ (m : Parts) where
   abbrev pub stands : Reference → Bool
   stands r = is_first_common (resolution_of m r)
 
-  -- where there is a common, a reference stands for it
+  -- if there is a common, a reference resolves to it
   asked-for : (name : List ℕ) → slice_get (common_names (m ∷ [])) 0 ≡ Some name → (r : Reference) × In r m.names.references × (stands r ≡ true)
   asked-for name e =
       let pair = map-In (λ (common : List ℕ × ℕ). common.0) name (commons (m ∷ [])) (In-at name (common_names (m ∷ [])) 0 e) in
@@ -108,7 +108,7 @@ module _ (m : Parts) where
       moved : (x : Reference) {xs ys : List Reference} → xs ≡ ys → In x xs → In x ys
       moved x f h = rw (← f) h
 
-  -- the name of the first reference that stands for the first common is that of the common
+  -- the name of the first reference that resolves to the first common is that of the common
   pub first_common-is : slice_get (common_names (m ∷ [])) 0 ≡ option_map (λ r. r.name) (find stands m.names.references)
   first_common-is = by_find (find stands m.names.references) refl (slice_get (common_names (m ∷ [])) 0) refl where
     by_find : (o : Option Reference) → find stands m.names.references ≡ o → (u : Option (List ℕ)) → slice_get (common_names (m ∷ [])) 0 ≡ u
@@ -126,7 +126,7 @@ module _ (m : Parts) where
         let fails : stands r.0 ≡ false = find_none stands m.names.references e r.0 at.0 at.1 in
         absurd (let passes : stands r.0 ≡ true = r.2 in cc)
 
--- what a reference stands for stands at its position
+-- what a reference resolves to is at its position
 pub resolution-at : (m : Parts) (met : List Resolution) (i : ℕ) (d : Resolution) (r : Reference) → met ≡ resolutions_of m → slice_get m.names.references i
     ≡ Some r → get_or met i d ≡ resolution_of m r
 resolution-at m met i d r same e =

@@ -1,4 +1,4 @@
--- Where all publics are evaluated, each expression has its value, and the first public that divides by 0 itself is found.
+-- Once all publics are evaluated, each expression has its value, and the first public that divides by 0 itself is found.
 use Rattle.std.proofs.Common.{◌≡◌, ◌≢◌, ℕ, ◌<◌, List, Option, Some, None, Bool, true, false, refl, sym, ◌∙◌, ap}
 use Rattle.std.specs.Prelude.{slice_get, option_map, if◌then◌else◌}
 use Rattle.std.proofs.lemmas.Option.{slice_get-map}
@@ -46,7 +46,7 @@ module _ (placed : PlacedModule) (h : IsPlaced placed) (values : List Evaluation
     by_test true e = absurd (no_value evaluation to other ((values-right placed values v).right n p evaluation at to)
         (zero_divisor-none (s placed h) (alone (m placed h)) None p.value e))
 
-  -- what is met at a public, by whether it divides by 0
+  -- what is found at a public, by whether it divides by 0
   pub fact-none : (p : Public) → has_zero_divisor (s placed h) (alone (m placed h)) None p.value ≡ false → public_fact (s placed h) (sit (m placed h) p) ≡ None
   fact-none p e = ap (λ b. if b then Some (zero_divisor (sites.Public p.name)) else None) e
 

@@ -9,7 +9,7 @@ leads_on edges zero a b c h m = (b, h, m)
 leads_on edges (suc k) a b c h m = (h.0, h.1, leads_on edges k h.0 b c h.2 m)
 
 module _ (number : ℕ → ℕ) (edges : ℕ → List ℕ) (falls : NeverRises number edges) where
-  -- a chain leads to a number that is no greater
+  -- a chain leads to a number that is not greater
   chain_falls : (k a b : ℕ) → Leads edges k a b → number b ≤ number a
   chain_falls zero a b m = falls a b m
   chain_falls (suc k) a b h = let first = falls a h.0 h.1 in let rest = chain_falls k h.0 b h.2 in omega (arith, first, rest)

@@ -1,4 +1,4 @@
--- The graph of positions against the mentions of the definitions: a position leads to another exactly where the public at the one
+-- The graph of positions against the mentions of the definitions: a position leads to another exactly if the public at the one
 -- mentions the public at the other.
 use Rattle.std.proofs.Common.{◌≡◌, ℕ, ◌<◌, inl, inr, List, [], ◌∷◌, ◌++◌, length, Option, Some, None, Bool, true, false, refl, sym, ◌∙◌, ap}
 use Rattle.std.proofs.Common.{append-nil, zero-add, arith}
@@ -96,7 +96,7 @@ named-public m name = by_place (place_in (names_of m.names.publics) name) refl w
       let place : there.0 ≡ k = omega (arith, there.1) in
       there.2.1 ∙ sym there.2.2 ∙ ap (slice_get (at_site (alone m) m.names.publics)) place
 
--- a reference stands for the public at the position of its name
+-- a reference resolves to the public at the position of its name
 pub met-public : (m : Parts) (r : Reference) → public_met (Some (resolution_of m r)) ≡ place_in (names_of m.names.publics) r.name
 met-public m r = by_place (place_in (names_of m.names.publics) r.name) (place_in (common_list m) r.name) r.weak where
   by_size : (b : Bool) (weak : Weak) → public_met (Some (if b then resolutions.Default weak.default else resolutions.Nothing)) ≡ None

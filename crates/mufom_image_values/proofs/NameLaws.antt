@@ -41,7 +41,7 @@ finds-more es publics i public inside is known name =
     ∙ map-append (λ p. p.name) (take i publics) (public ∷ []) in
     finds-push es (names_of (take i publics)) public.name i count known name ∙ ap (λ ns. place_in ns name) (sym names)
 
--- ---- where a name stands
+-- ---- the position of a name
 
 pub place-some : (n : ℕ) (names : List (List ℕ)) (name : List ℕ) (k : ℕ) → position_of (numbered_from n names) name ≡ Some k → (i : ℕ) × (k ≡ n + i)
     × (slice_get names i ≡ Some name)
@@ -66,7 +66,7 @@ place-none n (x ∷ names) name e = by_case (bytes_eq name x) refl e (place-none
 
 -- ---- names one after another
 
--- the index has a name exactly where it stands among the names
+-- the index has a name exactly if it is among the names
 pub has-place : (n : ℕ) (names : List (List ℕ)) (name : List ℕ) → is_none (position_of (numbered_from n names) name) ≡ not (has_name names name)
 has-place n [] name = refl
 has-place n (x ∷ names) name = by_case (bytes_eq name x) (has-place (suc n) names name) where
@@ -87,7 +87,7 @@ with_entry-numbered names name n count =
       by_case true e = refl
       by_case false e = e
 
--- a name that stands already adds none, and another one adds one
+-- a name that is there already adds none, and another one adds one
 pub counts-old : (names : List (List ℕ)) (name : List ℕ) (n k : ℕ) → n ≡ length names → position_of (numbered_from 0 names) name ≡ Some k
     → n ≡ length (with_name names name)
 counts-old names name n k count e = by_case (has_name names name) (sym (has-place 0 names name) ∙ ap is_none e) where
@@ -102,7 +102,7 @@ counts-new names name n count e = by_case (has_name names name) (sym (has-place 
   by_case true f = absurd cc
   by_case false f = omega (arith, count, length-append names (name ∷ []))
 
--- names one after another, each left out where it stands already
+-- names one after another, each left out if it is there already
 abbrev pub names_after : List (List ℕ) → List (List ℕ) → List (List ℕ)
 names_after names [] = names
 names_after names (x ∷ xs) = names_after (with_name names x) xs
@@ -146,7 +146,7 @@ filter-all (x ∷ xs) = ap (λ rest. x ∷ rest) (filter-all xs)
 names_after-is : (names xs : List (List ℕ)) → names_after names xs ≡ names ++ filter (new names) (distinct bytes_eq xs)
 names_after-is names [] = sym (append-nil names)
 names_after-is names (x ∷ xs) = by_case (has_name names x) refl (names_after-is names xs) (names_after-is (names ++ x ∷ []) xs) where
-  -- what is new and not x is new, where x is not
+  -- what is new and not x is new, if x is not
   weaker : has_name names x ≡ true → (y : List ℕ) → new names y ≡ true → not (bytes_eq x y) ≡ true
   weaker there y h = by_same (bytes_eq x y) refl where
     by_same : (b : Bool) → bytes_eq x y ≡ b → not b ≡ true

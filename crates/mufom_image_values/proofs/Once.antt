@@ -1,4 +1,4 @@
--- Where no name leads back to itself, a value is found from the values of the publics that it mentions: so each public is
+-- If no name leads back to itself, a value is found from the values of the publics that it mentions: so each public is
 -- evaluated once, after those.
 use Rattle.std.proofs.Common.{◌≡◌, ℕ, suc, ◌+◌, List, length, Option, None, refl, sym, ◌∙◌, ap, arith}
 use Rattle.mufom_expr.specs.Tree.{Tree}

@@ -1,4 +1,4 @@
--- Where the sections and commons stand as a plan puts them, the setting of the expressions is that of the plan.
+-- If the sections and commons are where a plan puts them, the setting of the expressions is that of the plan.
 use Rattle.std.proofs.Common.{◌≡◌, ℕ, zero, suc, ◌+◌, List, [], ◌∷◌, map, length, take, drop, Option, Some, None, Bool, true, false, refl, sym, ◌∙◌}
 use Rattle.std.proofs.Common.{ap, append-nil, zero-add, length-append, length-drop, arith}
 use Rattle.std.specs.Prelude.{slice_get, option_and_then, if◌then◌else◌}

@@ -1,4 +1,4 @@
--- What references stand for, against the names that are needed and the commons of the module.
+-- What references resolve to, against the names that are needed and the commons of the module.
 use Rattle.std.proofs.Common.{◌≡◌, ℕ, List, [], ◌∷◌, map, Option, Some, None, is_none, Bool, true, false, not, cond, ◌&&◌, refl, sym, ap, ◌∙◌, append-nil}
 use Rattle.std.specs.Prelude.{filter, find, option_map}
 use Rattle.std.specs.Str.{bytes_eq}
@@ -40,7 +40,7 @@ and-turned true false = refl
 and-turned false true = refl
 and-turned false false = refl
 
--- a reference asks for a common where none of the names of publics is its own
+-- a reference asks for a common if none of the names of publics is its own
 asks-is : (m : Parts) (publics : List Entry) → FindsFirst publics (names_of m.names.publics) → (r : Reference)
     → asks publics r ≡ (not (has_name (public_names (m ∷ [])) r.name) && is_common r)
 asks-is m publics finds r =
@@ -107,7 +107,7 @@ find-same : {A : Type 0} (p q : A → Bool) → ((x : A) → p x ≡ q x) → (x
 find-same p q same [] = refl
 find-same p q same (x ∷ xs) = let here = same x in let rest = find-same p q same xs in λ i. cond (here i) (Some x) (rest i)
 
--- the reference is strong, and stands for nothing
+-- the reference is strong, and resolves to nothing
 abbrev pub is_undefined : Parts → Reference → Bool
 is_undefined m r = is_nothing (resolution_of m r) && is_strong r
 
@@ -115,7 +115,7 @@ strong-nothing : (weak : Option Weak) → (is_nothing (resolution_without weak) 
 strong-nothing None = refl
 strong-nothing (Some weak) = and-turned (is_nothing (resolution_without (Some weak))) false
 
--- a name is among the distinct names exactly where it is among all
+-- a name is among the distinct names exactly if it is among all
 pub distinct-has : (names : List (List ℕ)) (name : List ℕ) → has_name (distinct bytes_eq names) name ≡ has_name names name
 distinct-has names name = by_case (has_name (distinct bytes_eq names) name) refl (has_name names name) refl where
   there : has_name names name ≡ true → has_name (distinct bytes_eq names) name ≡ true
@@ -135,7 +135,7 @@ distinct-has names name = by_case (has_name (distinct bytes_eq names) name) refl
   by_case false e true f = let h = there f in sym e ∙ h
   by_case false e false f = refl
 
--- it is so where neither a public nor a common has its name
+-- it is so if neither a public nor a common has its name
 undefined-is : (m : Parts) (r : Reference)
     → ((not (has_name (public_names (m ∷ [])) r.name) && is_strong r) && not (has_name (common_names (m ∷ [])) r.name)) ≡ is_undefined m r
 undefined-is m r =
@@ -167,7 +167,7 @@ first_undefined-is m =
     grouped true b c = refl
     grouped false b c = refl
 
--- what references stand for by indexes of these names is what they stand for
+-- what references resolve to by indexes of these names is what they resolve to by the definition
 pub resolutions-are : (m : Parts) (publics commons : List Entry) → FindsFirst publics (names_of m.names.publics) → commons
     ≡ numbered_from 0 (asked_after publics [] m.names.references)
     → map (λ r. resolution_by (position_of publics r.name) (position_of commons r.name) r.weak) m.names.references ≡ resolutions_of m

@@ -277,7 +277,7 @@ module _ (edges : ℕ → List ℕ) (count : ℕ) (closed : IsClosed edges count
     length-append rest (n ∷ []),
   )
 
-  -- at its end the origin is marked exactly where it is led back to
+  -- at its end the origin is marked exactly if it is led back to
   pub ends_search : (s : Search) → IsSearching edges count origin s → s.pending ≡ [] → (is_marked s origin ≡ true → IsOnCircle edges origin)
       × (IsOnCircle edges origin → is_marked s origin ≡ true)
   ends_search s h empty = (h.reached origin, λ circle. by_mark (is_marked s origin) refl circle) where

@@ -78,7 +78,7 @@ module _ (placed : PlacedModule) (h : IsPlaced placed) where
   once : (name : List ℕ) → ¬ LinkFactStands (m ∷ []) (duplicate name)
   once name f = h.graph.distinct f.0 (subst (λ (names : List (List ℕ)). RepeatsAt names f.0) (append-nil (names_of m.names.publics)) f.2)
 
-  -- an expression has its value, where what it mentions is known
+  -- an expression has its value, if what it mentions is known
   pub valuation_at-is : (values : List Evaluation) (counter : Option ℕ) (t : Tree)
       → ((c : ℕ) → In c (mentions_of (resolutions_of m) (tokens_of t)) → IsKnown m placed.bases.now placed.commons.now valuation values counter c)
       → valuation_at placed values counter t ≡ value s (alone m) counter t

@@ -17,7 +17,7 @@ use Rattle.mufom_image_values.specs.Circles.{Search, followed, is_down, leads_do
 use Rattle.mufom_image_values.proofs.SearchLaws.{followed-append}
 use Rattle.mufom_image_values.specs.Evaluated.{is_waiting, is_ready, AreEvaluated}
 
--- a test that passes where nothing is mentioned passes all tokens where it passes all that they mention
+-- a test that passes if nothing is mentioned passes all tokens if it passes all that they mention
 pub all-mentions : (met : List Resolution) (q : Option ℕ → Bool) → q None ≡ true → (tokens : List Token)
     → list_all (λ t. q (mentioned_in met t)) tokens ≡ list_all (λ n. q (Some n)) (mentions_of met tokens)
 all-mentions met q none [] = refl
@@ -51,7 +51,7 @@ waits-not (Some evaluations.Waiting) other = absurd (other refl)
 waits-not (Some evaluations.Nothing) other = refl
 waits-not (Some (evaluations.Value v)) other = refl
 
--- all positions are ready where all are evaluated
+-- all positions are ready if all are evaluated
 pub ready-evaluated : (values : List Evaluation) (positions : List ℕ) → list_all (λ n. is_ready values (Some n)) positions ≡ true
     → AreEvaluated values positions
 ready-evaluated values positions e n h = not-waiting (slice_get values n) (all-Contains (λ n. is_ready values (Some n)) positions e n h)
@@ -111,7 +111,7 @@ below_more P k earlier own n less = by_case (nat_choice n k) where
   by_case (inl same) = subst P (sym same) own
   by_case (inr other) = earlier n (lt-from_other n k other less)
 
--- where all steps from a position lead strictly down, each leads to a lesser number
+-- if all steps from a position lead strictly down, each leads to a lesser number
 pub strictly-down : (number : ℕ → ℕ) (edges : ℕ → List ℕ) (n : ℕ) → leads_down number edges true n ≡ true → (next : ℕ) → Contains (edges n) next
     → number next < number n
 strictly-down number edges n e next h = of_lt (number next) (number n) (all-Contains (λ next. is_down number (number n) true (Some next)) (edges n) e next h)

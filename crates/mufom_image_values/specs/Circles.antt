@@ -21,7 +21,7 @@ IsFirstOnCircle edges count (Some first) = (first < count) × IsOnCircle edges f
 abbrev pub number_at : List ℕ → ℕ → ℕ
 number_at numbers n = unwrap_or (slice_get numbers n) 0
 
--- the step leads to a lesser number, or where not strictly to the same one
+-- the step leads to a lesser number, or, if not strictly, to the same one
 abbrev pub is_down : (ℕ → ℕ) → ℕ → Bool → Option ℕ → Bool
 is_down number own strictly None = true
 is_down number own strictly (Some n) = if strictly then nat_lt (number n) own else nat_le (number n) own
@@ -46,7 +46,7 @@ search_of marks pending = record { marks = marks; pending = pending }
 abbrev pub is_marked : Search → ℕ → Bool
 is_marked s n = get_or s.marks n false
 
--- one position more, where it is not marked yet
+-- one position more, if it is not marked yet
 abbrev pub with_position : Search → ℕ → Search
 with_position s n = if is_marked s n then s else search_of (set s.marks n true) (s.pending ++ n ∷ [])
 

@@ -106,7 +106,7 @@ pub record IsPlaced (placed : PlacedModule) : Type 0 where
   pub graph : IsGraph placed.graph
   pub acyclic : first_some (cycle_at (placed.graph.parts.now ∷ [])) (public_names (placed.graph.parts.now ∷ [])) ≡ None
 
--- the surroundings are those of an expression of the module, where these are the values of publics and the counter
+-- the surroundings are those of an expression of the module, if these are the values of publics and the counter
 pub record AreSurroundings (placed : PlacedModule) (values : List Evaluation) (counter : Option ℕ) (s : Surroundings) : Type 0 where
   pub sections : s.sections.now ≡ placed.graph.parts.now.sections
   pub bases : s.bases.now ≡ placed.bases.now

@@ -9,7 +9,7 @@ use Rattle.mufom_names.specs.declared.name.Public.{Public}
 use Rattle.mufom_image_values.specs.declared.resolutions.Resolution.{Resolution}
 use Rattle.mufom_image_values.specs.declared.resolutions.Resolution.TheVariants as resolutions
 
--- the public that a reference stands for
+-- the public that a reference resolves to
 abbrev pub public_met : Option Resolution → Option ℕ
 public_met None = None
 public_met (Some (resolutions.Public n)) = Some n
@@ -36,7 +36,7 @@ mentioned_in met (Fun f) = None
 abbrev pub mentions_of : List Resolution → List Token → List ℕ
 mentions_of met tokens = flat_map (λ token. option_to_list (mentioned_in met token)) tokens
 
--- the tokens of a public, where there is one
+-- the tokens of a public, if there is one
 abbrev pub tokens_of_public : Option Public → List Token
 tokens_of_public None = []
 tokens_of_public (Some public) = tokens_of public.value

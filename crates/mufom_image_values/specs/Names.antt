@@ -5,7 +5,7 @@ use Rattle.mufom_names.specs.Index.{Entry, position_of, numbered_from}
 use Rattle.mufom_plan.specs.Names.{has_name}
 use Rattle.mufom_meaning.specs.Flat.{is_common}
 
--- the position at which the name first stands
+-- the position at which the name first occurs
 abbrev pub place_in : List (List ℕ) → List ℕ → Option ℕ
 place_in names name = position_of (numbered_from 0 names) name
 
@@ -13,7 +13,7 @@ place_in names name = position_of (numbered_from 0 names) name
 abbrev pub FindsFirst : List Entry → List (List ℕ) → Type 0
 FindsFirst entries names = (name : List ℕ) → position_of entries name ≡ place_in names name
 
--- one name more, which is left out where it stands already
+-- one name more, which is left out if it is there already
 abbrev pub with_name : List (List ℕ) → List ℕ → List (List ℕ)
 with_name names name = if has_name names name then names else names ++ name ∷ []
 

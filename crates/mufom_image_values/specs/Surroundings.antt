@@ -15,12 +15,12 @@ known evaluations.Waiting = None
 known evaluations.Nothing = None
 known (evaluations.Value v) = Some v
 
--- the same, where there is such a public
+-- the same, if there is such a public
 abbrev pub known_of : Option Evaluation → Option ℕ
 known_of None = None
 known_of (Some valuation) = known valuation
 
--- the value of a reference by what it stands for
+-- the value of a reference by what it resolves to
 abbrev pub valuation_met : List Evaluation → List ℕ → Option Resolution → Option ℕ
 valuation_met values commons None = None
 valuation_met values commons (Some (resolution.Public n)) = known_of (slice_get values n)
@@ -28,7 +28,7 @@ valuation_met values commons (Some (resolution.Common n)) = slice_get commons n
 valuation_met values commons (Some (resolution.Default v)) = Some v
 valuation_met values commons (Some resolution.Nothing) = None
 
--- the value of a variable by the sections, the bases of sections and of commons, the values of publics, what references stand for,
+-- the value of a variable by the sections, the bases of sections and of commons, the values of publics, what references resolve to,
 -- and the program counter
 abbrev pub valuation_by : List Section → List ℕ → List ℕ → List Evaluation → List Resolution → Option ℕ → Environment
 valuation_by sections bases commons values met counter letters.R n = slice_get bases n

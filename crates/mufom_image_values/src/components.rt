@@ -19,7 +19,7 @@ struct Visit {
     low: u32,
 }
 
-/// The groups of the publics that lead to one another. They speed up the search for a circle and the
+/// The groups of the publics that lead to one another. They speed up the search for a cycle and the
 /// evaluation of the publics.
 #[derive(Drop)]
 pub struct Components {
@@ -78,7 +78,7 @@ impl Walk {
         Ok(())
     }
 
-    // All that a public mentions was walked. Where it reached none that was entered before it, it
+    // All that a public mentions was walked. If it reached none that was entered before it, it
     // closes a group.
     fn leave(&mut self, visit: Visit) -> Result<(), NoMemory> {
         if self.seen.get(visit.public as usize) == Some(&visit.low) {
@@ -127,7 +127,7 @@ fn walk_from(walk: &mut Walk, graph: &Graph<'_>, root: u32) -> Result<(), NoMemo
     Ok(())
 }
 
-/// Groups of publics, as a search in depth meets them. Nothing is stated of them here: whether a public is on
+/// Groups of publics, as a depth-first search finds them. Nothing is stated of them here: whether a public is on
 /// a cycle is stated, and proved, where groups are used.
 pub fn groups_of(alloc: Global, graph: &Graph<'_>) -> Result<Components, NoMemory>
     requires { IsGraph graph.now }

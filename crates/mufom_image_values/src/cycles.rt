@@ -24,7 +24,7 @@ fn number_of(numbers: &[u32], position: u32) -> u32
     numbers.get(position as usize).copied().unwrap_or(0)
 }
 
-// Whether the mention leads down: to a lesser number, or where not `strictly` to the same one.
+// Whether the mention leads down: to a lesser number, or, if not `strictly`, to the same one.
 fn is_down(graph: &Graph<'_>, numbers: &[u32], own: u32, strictly: bool, token: Token) -> bool
     ensures { result ≡ is_down (number_at numbers.now) own strictly (mentioned_in graph.now.resolutions.now token) }
 {
@@ -113,8 +113,8 @@ fn leads_back(alloc: Global, graph: &Graph<'_>, position: u32) -> Result<bool, N
     Ok(marks[position as usize])
 }
 
-// The position of the first public that lies on a circle of mentions. Where no mention leads up, one
-// that leads strictly down is on none, and with the numbers of the groups the first other one is.
+// The position of the first public that lies on a cycle of mentions. If no mention leads up, a public
+// whose mentions all lead strictly down is on no cycle; with the numbers of the groups, the first other public is on one.
 fn first_on_circle(
     alloc: Global,
     graph: &Graph<'_>,
@@ -138,8 +138,8 @@ fn first_on_circle(
     Ok(None)
 }
 
-/// The first public, in order, that its own mentions lead back to. The answer is the same with all
-/// components; with those of the graph at most one public is searched from.
+/// The first public, in order, that its own mentions lead back to. The result is the same for all
+/// components; with those of the graph the search starts from at most one public.
 pub fn first_on_cycle<'a>(
     alloc: Global,
     graph: &Graph<'a>,

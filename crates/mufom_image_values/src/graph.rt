@@ -33,8 +33,8 @@ impl<'a> Graph<'a> {
         self.parts.names.publics.as_slice()
     }
 
-    // The position of the public that a variable mentions: I its own, X that to which the reference resolves
-    // for.
+    // The position of the public that a variable mentions: I its own, X the one to which the
+    // reference resolves.
     fn named(&self, letter: Letter, position: u32) -> Option<u32>
         ensures { result ≡ public_named self.now.resolutions.now letter position }
     {
@@ -55,7 +55,7 @@ impl<'a> Graph<'a> {
         }
     }
 
-    /// The tokens of the public at a position, and none where there is no such public.
+    /// The tokens of the public at a position, or none if there is no such public.
     pub(crate) fn tokens(&self, position: u32) -> &'a [Token]
         ensures tokens { result.now ≡ tokens_at self.now.parts.now.names.publics position }
         ensures few { length result.now ≤ 255 }

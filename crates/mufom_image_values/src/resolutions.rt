@@ -26,7 +26,7 @@ pub enum Resolution {
     Nothing,
 }
 
-// What a reference resolves to whose name neither a public nor a common has.
+// What a reference resolves to if neither a public nor a common has its name.
 fn unresolved(weak: Option<Weak>) -> Resolution
     ensures { result ≡ resolution_without weak }
 {
@@ -116,7 +116,7 @@ pub fn first_undefined<'a>(module: &'a Module, resolutions: &[Resolution]) -> Op
     None
 }
 
-/// The first reference that asks for a common, whose name is that of the first common.
+/// The first reference that asks for a common. Its name is the first common's.
 pub fn first_common<'a>(module: &'a Module, resolutions: &[Resolution]) -> Option<&'a Reference>
     requires { resolutions.now ≡ resolutions_of «module».now }
     ensures { option_map (λ reference. reference.now.name) result ≡ slice_get (common_names («module».now ∷ [])) 0 }

@@ -23,13 +23,13 @@ pub struct Surroundings<'a> {
     pub sections: &'a [Section],
     /// The base of each section.
     pub bases: &'a [u64],
-    /// The base of each common, by its position, where the plan places commons.
+    /// The base of each common, by its position, if the plan places commons.
     pub commons: &'a [u64],
     /// The value of each public.
     pub values: &'a [Evaluation],
     /// What each reference resolves to.
     pub resolutions: &'a [Resolution],
-    /// The program counter, where the expression finds one.
+    /// The program counter, if the expression finds one.
     pub counter: Option<u64>,
 }
 

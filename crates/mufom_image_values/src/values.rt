@@ -28,7 +28,7 @@ pub struct PlacedModule<'a> {
     pub graph: Graph<'a>,
     /// The base of each section.
     pub bases: &'a [u64],
-    /// The base of each common, by its position, where the plan places commons.
+    /// The base of each common, by its position, if the plan places commons.
     pub commons: &'a [u64],
 }
 
@@ -67,7 +67,7 @@ impl<'a> PlacedModule<'a> {
         8 * u32::from(self.graph.parts.maus)
     }
 
-    /// What an expression can name, where these are the values of the publics.
+    /// What an expression can name, given the values of the publics.
     pub fn surroundings<'b>(
         &'b self,
         values: &'b [Evaluation],
@@ -109,7 +109,7 @@ impl<'a> PlacedModule<'a> {
         self.all_ready(values, self.graph.tokens(position))
     }
 
-    // The value of an expression, where all that it mentions is evaluated.
+    // The value of an expression, once all that it mentions is evaluated.
     fn valuation(&self, values: &[Evaluation], value: &Postfix) -> Evaluation
         requires low { 1 ≤ self.now.graph.parts.now.maus }
         requires high { self.now.graph.parts.now.maus ≤ 8 }
@@ -122,7 +122,7 @@ impl<'a> PlacedModule<'a> {
         }
     }
 
-    // Evaluates the public at a position, where all that it mentions is evaluated.
+    // Evaluates the public at a position, once all that it mentions is evaluated.
     fn evaluate(&self, values: &mut Vec<Evaluation>, position: u32)
         requires placed { IsPlaced self.now }
         requires right { AreRight self.now values.old.items }
@@ -196,7 +196,7 @@ impl<'a> PlacedModule<'a> {
         Ok(values)
     }
 
-    /// The value of an expression, where all publics are evaluated.
+    /// The value of an expression, once all publics are evaluated.
     pub fn value(
         &self,
         values: &[Evaluation],
@@ -210,7 +210,7 @@ impl<'a> PlacedModule<'a> {
         expression.value(&self.surroundings(values, counter), self.width())
     }
 
-    /// Whether a divisor somewhere in an expression has the value 0, where all publics are evaluated.
+    /// Whether a divisor somewhere in an expression has the value 0, once all publics are evaluated.
     pub fn divides_by_zero(
         &self,
         values: &[Evaluation],
@@ -233,7 +233,7 @@ impl<'a> PlacedModule<'a> {
         expression.divides_by_zero(&self.surroundings(values, counter), self.width())
     }
 
-    /// The first public that divides by 0 itself, where all publics are evaluated.
+    /// The first public that divides by 0 itself, once all publics are evaluated.
     pub fn first_division(&self, values: &[Evaluation]) -> Option<&'a Public>
         requires placed { IsPlaced self.now }
         requires values { AreValues self.now values.now }

@@ -1,4 +1,4 @@
--- The lists of a link, module by module, come to those of the partial link.
+-- The lists of a link, joined module by module, are those of the partial link.
 use Rattle.std.proofs.Common.{◌≡◌, ℕ, ◌+◌, ◌<◌, ◌≤◌, ◌^◌, Bool, List, [], ◌∷◌, ◌++◌, length, map, flat_map, Option, Some, None, option_to_list, refl}
 use Rattle.std.proofs.Common.{sym, ap, ◌∙◌, append_assoc, append-nil, length-append, sum_by, arith}
 use Rattle.std.proofs.lemmas.List.{length-map}
@@ -54,7 +54,7 @@ pub record IsUnderway (ms rest : List Parts) (all : Joined) : Type 0 where
   pub debug : marks_of all.debug.items ++ marks_at ms (sites_left all rest) ≡ marks_at ms (sited ms)
   pub names : all.debug_names + names_in rest ≡ names_in ms
 
--- ---- the begin and the end
+-- ---- the start and the end
 
 pub begun : (ms : List Parts) (all : Joined) → IsEmpty all → IsUnderway ms ms all
 begun ms all empty = record {

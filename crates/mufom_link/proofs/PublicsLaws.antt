@@ -34,12 +34,12 @@ some-push (e ∷ es) key n name = by_case (bytes_eq name e.0) (bytes_eq name key
 knows-push : (entries : List Entry) (earlier : List (List ℕ)) (key : List ℕ) (n : ℕ) → Knows entries earlier → Knows (entries ++ (key, n) ∷ []) (key ∷ earlier)
 knows-push entries earlier key n known name = some-push entries key n name ∙ ap (λ b. bytes_eq name key || b) (known name)
 
--- what indexing names comes to
+-- the result of indexing names
 abbrev outcome : Option (List ℕ) → List Entry → Result (List Entry) (List ℕ)
 outcome None after = Ok after
 outcome (Some name) after = Err name
 
--- the same of a name and those after it; the test is whether the name stands earlier
+-- the same of a name and those after it; the test is whether the name occurs earlier
 abbrev outcome_at : Bool → List ℕ → List (List ℕ) → List (List ℕ) → List Entry → Result (List Entry) (List ℕ)
 outcome_at b name earlier names after = outcome (if b then Some name else first_duplicate (name ∷ earlier) names) after
 
@@ -59,7 +59,7 @@ indexed-is entries earlier n (name ∷ names) known =
           rest ∙ ap (outcome (first_duplicate (name ∷ earlier) names)) (append_assoc entries ((name, n) ∷ []) (numbered_from (suc n) names))
           ∙ sym (ap (λ b. outcome_at b name earlier names (entries ++ (name, n) ∷ numbered_from (suc n) names)) there)
 
--- where all names are new, none stands twice, and the index has each with its position
+-- if all names are new, none occurs twice, and the index has each with its position
 pub indexed-all : (names : List (List ℕ)) (after : List Entry) → indexed [] 0 names ≡ Ok after → (first_duplicate [] names ≡ None)
     × (after ≡ numbered_from 0 names)
 indexed-all names after e = by_case (first_duplicate [] names) refl (sym (indexed-is [] [] 0 names (λ name. refl)) ∙ e) where
@@ -68,7 +68,7 @@ indexed-all names after e = by_case (first_duplicate [] names) refl (sym (indexe
   by_case None f h = let same : numbered_from 0 names ≡ after = cc in (f, sym same)
   by_case (Some name) f h = absurd cc
 
--- where a name is not new, it is the first that stands earlier too
+-- if a name is not new, it is the first that occurs earlier too
 pub indexed-fails : (names : List (List ℕ)) (name : List ℕ) → indexed [] 0 names ≡ Err name → first_duplicate [] names ≡ Some name
 indexed-fails names name e = by_case (first_duplicate [] names) refl (sym (indexed-is [] [] 0 names (λ name. refl)) ∙ e) where
   by_case : (o : Option (List ℕ)) → first_duplicate [] names ≡ o → outcome o (numbered_from 0 names) ≡ Err name → first_duplicate [] names ≡ Some name
@@ -123,7 +123,7 @@ refused-later entries n xs ys (Duplicate name) h = indexed-stops entries n xs ys
 refused-later entries n xs ys (Mismatch first other) h = h
 refused-later entries n xs ys DuplicateStart h = h
 
--- and one by names that come to the same
+-- and one by names that give the same
 pub refused-same : (entries es : List Entry) (n k : ℕ) (xs ys : List (List ℕ)) (e : LinkRefusal) → indexed entries n xs ≡ indexed es k ys
     → IsRefusedName entries n xs e → IsRefusedName es k ys e
 refused-same entries es n k xs ys NoMemory same h = tt

@@ -250,7 +250,7 @@ module _ (names : List (List ℕ)) where
     by_case true h rest = refl
     by_case false h rest = ap suc (rest h)
 
-  -- a reference that no public meets is found where it was put
+  -- a reference whose name no public has is found where it was put
   merged-place : (kept : List Reference) (r : Reference)
       → (is_kept (merged_with kept r) r ≡ true) × (place_of (same_reference r) (merged_with kept r) ≡ place_of (same_reference r) kept)
   merged-place kept r = by_case (is_kept kept r) refl where
@@ -274,7 +274,7 @@ module _ (names : List (List ℕ)) where
     by_case true e = (e, refl)
     by_case false e = let both = last kept e in (both.0, both.1 ∙ sym (absent-place (same_reference r) kept e))
 
-  -- the variable that stands for a reference; the test is whether a public has its name
+  -- the variable that replaces a reference; the test is whether a public has its name
   abbrev target_by : Bool → Reference → List Reference → Letter × ℕ
   target_by b r all = cond b (letters.I, place_of (λ name. bytes_eq name r.name) names) (letters.X, place_of (same_reference r) all)
 

@@ -1,4 +1,4 @@
--- The facts that a link finds, one after another, come to the answer in its place.
+-- The facts that a link finds, one after another, give the result in place of the link.
 use Rattle.std.proofs.Common.{◌≡◌, ◌<◌, ◌≤◌, List, [], ◌∷◌, length, Some, None, option_map, refl, sym, arith, Ok, subst, ℕ}
 use Rattle.mufom_expr.specs.Tree.{Tree}
 use Rattle.mufom_module.specs.declared.module.Parts.{Parts}
@@ -29,7 +29,7 @@ one (t ∷ []) h = refl
 one (t ∷ u ∷ more) h = absurd (omega (arith, h))
 
 module _ (ms : List Parts) (alike : first_mismatch ms ≡ None) where
-  -- a refusal by names is the answer where the descriptors are alike
+  -- an error in names is the result if the descriptors are alike
   pub names-refused : (e : LinkRefusal) → IsRefusedName [] 0 (public_names ms) e → IsRefusalOf ms e
   names-refused NoMemory h = tt
   names-refused (Duplicate name) h =
@@ -48,7 +48,7 @@ module _ (ms : List Parts) (alike : first_mismatch ms ≡ None) where
       let starts = one (flat_starts ms) h in
       λ i. alike i or_else (option_map duplicate (once i) or_else starts i)
 
--- where the descriptors are alike, all names are new and one module at most has a start, nothing keeps the list from being linked
+-- if the descriptors are alike, all names are new and one module at most has a start, nothing keeps the list from being linked
 pub linkable : (ms : List Parts) (index : List Entry) (count : ℕ) → None ≡ first_mismatch ms → indexed [] 0 (public_names ms) ≡ Ok index
     → count ≡ length (flat_starts ms) → count ≤ 1 → link_answer ms ≡ None
 linkable ms index count alike new counted few = nothing-refused ms (sym alike) (indexed-all (public_names ms) index new).0 (omega (arith, counted, few))

@@ -1,4 +1,4 @@
--- The references of a list, module by module, come to those of its link.
+-- The references of a list, resolved module by module, are those of its link.
 use Rattle.std.proofs.Common.{◌≡◌, ℕ, ◌+◌, ◌<◌, ◌≤◌, ◌^◌, subst, List, [], ◌∷◌, ◌++◌, length, map, refl, sym, ap, ◌∙◌, append_assoc, append-nil}
 use Rattle.std.proofs.Common.{length-append, arith}
 use Rattle.std.specs.List.{AllByRecursion}
@@ -15,7 +15,7 @@ use Rattle.mufom_link.specs.References.{kept_with, kept_after, targets_after, ta
 use Rattle.mufom_link.proofs.CountLaws.{all-references, short-references}
 use Rattle.mufom_link.proofs.ReferenceLaws.{kept-all, kept_after-append, targets-stay, kept-longer, kept-has}
 
--- What is found so far, with what the references of the modules that are left come to, is the whole.
+-- What is found so far, with the result for the references of the modules that are left, is the whole.
 pub record IsResolving (ms rest : List Parts) (targets : List (Letter × ℕ)) (kept : List Reference) : Type 0 where
   pub found : targets ++ targets_after (public_names ms) kept (flat_references rest) ≡ targets_after (public_names ms) [] (flat_references ms)
   pub left : kept_after (public_names ms) kept (flat_references rest) ≡ kept_references ms

@@ -21,7 +21,7 @@ header_of first name = record {
   env = first.env;
 }
 
--- the start after that of a module was taken over, where it has one
+-- the start after that of a module was taken over, if it has one
 abbrev pub start_after : Renaming → Option Tree → Option Tree → Option Tree
 start_after r None start = start
 start_after r (Some t) start = Some (renamed_tree r t)
@@ -35,7 +35,7 @@ pub record IsEmpty (all : Joined) : Type 0 where
   pub debug : all.debug.items ≡ []
   pub debug_names : all.debug_names ≡ 0
 
--- what the entries of the next module become, where these variables stand for its references
+-- what the entries of the next module become, if these variables replace its references
 abbrev pub next_renaming : List (Letter × ℕ) → Joined → Renaming
 next_renaming targets all = renaming (length all.sections.items) (length all.publics.items) all.debug_names targets
 

@@ -1,4 +1,4 @@
--- A partial link, with what it has of the modules that it stands for.
+-- A partial link, with what it takes from the modules that it replaces.
 use Rattle.std.specs.Prelude.{◌≡◌, ℕ, ◌+◌, ◌≤◌, List, [], ◌∷◌, length}
 use Rattle.mufom_module.specs.declared.module.Parts.{Parts}
 use Rattle.mufom_module.specs.Written.{weight}

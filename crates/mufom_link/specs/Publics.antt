@@ -13,7 +13,7 @@ indexed entries n (name ∷ names) = if is_some (position_of entries name) then 
 abbrev pub IsIndexed : List Entry → ℕ → List (List ℕ) → List Entry → Type 0
 IsIndexed entries n names after = indexed entries n names ≡ Ok after
 
--- the refusal is out of memory, or Duplicate with the first name that is not new
+-- the error is out of memory, or Duplicate with the first name that is not new
 abbrev pub IsRefusedName : List Entry → ℕ → List (List ℕ) → LinkRefusal → Type 0
 IsRefusedName entries n names NoMemory = Unit {0}
 IsRefusedName entries n names (Duplicate name) = indexed entries n names ≡ Err name

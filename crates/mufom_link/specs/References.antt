@@ -16,11 +16,11 @@ use Rattle.mufom_meaning.specs.Joined.{kept_references, position_of as place_of,
 abbrev pub is_kept : List Reference → Reference → Bool
 is_kept kept r = list_any (same_reference r) kept
 
--- the references kept after one more, which is left out where an equal one is kept
+-- the references kept after one more, which is left out if an equal one is kept
 abbrev pub merged_with : List Reference → Reference → List Reference
 merged_with kept r = if is_kept kept r then kept else kept ++ r ∷ []
 
--- the same of a reference that is left out where a public has its name, too
+-- the same, but a reference is also left out if a public has its name
 abbrev pub kept_with : List (List ℕ) → List Reference → Reference → List Reference
 kept_with names kept r = if has_name names r.name then kept else merged_with kept r
 
@@ -29,12 +29,12 @@ abbrev pub kept_after : List (List ℕ) → List Reference → List Reference �
 kept_after names kept [] = kept
 kept_after names kept (r ∷ rs) = kept_after names (kept_with names kept r) rs
 
--- the variable that stands for a reference: that of the public with its name, or that of the equal reference
+-- the variable that replaces a reference: that of the public with its name, or that of the equal reference
 abbrev pub target_in : List (List ℕ) → List Reference → Reference → Letter × ℕ
 target_in names kept r =
     if has_name names r.name then (letters.I, place_of (λ name. bytes_eq name r.name) names) else (letters.X, place_of (same_reference r) kept)
 
--- the variables that stand for references, found one after another
+-- the variables that replace references, found one after another
 abbrev pub targets_after : List (List ℕ) → List Reference → List Reference → List (Letter × ℕ)
 targets_after names kept [] = []
 targets_after names kept (r ∷ rs) = target_in names kept r ∷ targets_after names (kept_with names kept r) rs
@@ -43,11 +43,11 @@ targets_after names kept (r ∷ rs) = target_in names kept r ∷ targets_after n
 abbrev pub keyed : List Reference → List Entry
 keyed kept = numbered_from 0 (map reference_key kept)
 
--- the variables that stand for all references of a list in its link, module by module
+-- the variables that replace all references of a list in its link, module by module
 abbrev pub targets_of : List Parts → List (Letter × ℕ)
 targets_of ms = map (target_in (public_names ms) (kept_references ms)) (flat_references ms)
 
--- what the references of a list come to in its link: these variables stand for them, and these are kept
+-- what becomes of the references of a list in its link: these variables replace them, and these references are kept
 pub record AreResolved (ms : List Parts) (targets : List (Letter × ℕ)) (kept : List Reference) : Type 0 where
   pub variables : targets ≡ targets_of ms
   pub references : kept ≡ kept_references ms

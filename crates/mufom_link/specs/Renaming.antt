@@ -52,16 +52,16 @@ renamed_mark r (value_mark name t) = value_mark (r.debug_name name) (renamed_tre
 
 -- ---- the renaming of a site
 
--- the number in the link of an entry of the module, where the first has this one; it fits 32 bits
+-- the number in the link of an entry of the module, if the first has this one; it fits 32 bits
 abbrev pub moved : ℕ → ℕ → ℕ
 moved first n = (first + n) % 2 ^ 32
 
--- the variable that stands for a reference
+-- the variable that replaces a reference
 abbrev pub target_at : Option (Letter × ℕ) → Letter × ℕ
 target_at None = (letters.X, 0)
 target_at (Some target) = target
 
--- what a variable becomes, where the first section and the first public have these numbers
+-- what a variable becomes, if the first section and the first public have these numbers
 abbrev pub moved_variable : ℕ → ℕ → List (Letter × ℕ) → Letter → ℕ → Letter × ℕ
 moved_variable s p targets letters.R n = (letters.R, moved s n)
 moved_variable s p targets letters.L n = (letters.L, moved s n)

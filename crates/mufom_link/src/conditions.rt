@@ -1,4 +1,4 @@
-//! What a list of modules and a name must have to be linked.
+//! The conditions that a list of modules and a name must meet to be linked.
 
 ghost use Rattle.std.specs.Prelude.{◌≡◌, ◌+◌, ◌<◌, ◌^◌, ◌↔◌, IsTrue, length};
 ghost use Rattle.mufom_meaning.specs.StagingLaws.{total_weight};
@@ -6,10 +6,10 @@ ghost use Rattle.mufom_link.specs.Conditions.{MayBeLinked};
 
 use mufom_module::Module;
 
-// The length from which on a name is too long for a string of the format.
+// The least length, in bytes, at which a name is too long for a string of the format.
 const NAME_LIMIT: usize = 65_536;
 
-// The weight from which on a module is too heavy.
+// The least weight, in bytes, at which a module is too heavy.
 const WEIGHT_LIMIT: u64 = 4_294_967_296;
 
 // Whether the weights and the name's length add up to less than the limit.
@@ -27,7 +27,7 @@ fn is_light(list: &[Module], name: &[u8]) -> bool
     true
 }
 
-/// Whether the list and the name keep to the conditions of [`link`](crate::link): the list is not
+/// Whether the list and the name meet the conditions of [`link`](crate::link): the list is not
 /// empty, the name has at most 65,535 bytes, and the weights of the modules and the length of the name
 /// add up to less than 2^32.
 ///

@@ -109,7 +109,7 @@ pub(crate) fn renamed_items(
     Ok(List::from_vec(items))
 }
 
-// How many debug names are declared after the item, where there are `before` before it.
+// How many debug names are declared after the item, if there are `before` before it.
 #[cycle(names)]
 fn names_after_item(before: u32, item: &DebugItem) -> u32
     requires { names_after_all before (marks_of_item item.now) < 2 ^ 32 }
@@ -123,7 +123,7 @@ fn names_after_item(before: u32, item: &DebugItem) -> u32
     }
 }
 
-// How many debug names are declared after the items, where there are `before` before them.
+// How many debug names are declared after the items, if there are `before` before them.
 #[cycle(names)]
 pub(crate) fn names_after(before: u32, items: &[DebugItem]) -> u32
     requires { names_after_all before (marks_of items.now) < 2 ^ 32 }

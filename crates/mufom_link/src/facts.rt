@@ -48,7 +48,7 @@ pub(crate) fn first_mismatch(list: &[Module]) -> Option<(Descriptor, Descriptor)
     None
 }
 
-// 1 where the module has a start, and 0 where it has none.
+// 1 if the module has a start, and 0 if it has none.
 fn own_starts(entry: &Module) -> usize
     ensures value { result ≡ length (option_to_list entry.now.start) }
     ensures few { result ≤ 1 }

@@ -37,7 +37,7 @@ struct Counts {
     debug: usize,
 }
 
-// How many entries of each kind the modules have, for the memory that their link takes.
+// How many entries of each kind the modules have, to reserve memory for their link.
 fn count_entries(list: &[Module]) -> Counts {
     let mut all = Counts {
         sections: 0,

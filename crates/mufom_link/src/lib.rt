@@ -1,8 +1,8 @@
 //! Partial links: one module in the place of a list of modules.
 //!
 //! [`link_owned`] joins the sections, public symbols, loads and debug items of all modules in their order,
-//! turns each reference that a public symbol of the list meets into that symbol, and keeps of the
-//! other references each one once. No expression is evaluated. Names are found by hashing, so the
+//! replaces each reference to a name that a module of the list defines by that public symbol, and
+//! keeps the other references, equal ones once. No expression is evaluated. Names are found by hashing, so the
 //! time grows with the sizes of the modules and not with their square.
 //!
 //! The crate depends on the crates of a module's values and on `mufom_meaning`, whose definitions the

@@ -151,14 +151,14 @@ fn copy_modules(alloc: Global, list: &[Module]) -> Result<Vec<Module>, NoMemory>
 ///
 /// It has the sections, public symbols, loads and debug items of all modules in their order, and the
 /// start of the module that has one; the processor, the descriptor, the extension and the environment
-/// of the first module. Each reference whose name a public symbol of the list has is gone, and the
-/// symbol is in its place; of the other references equal ones are one. It means what the list
-/// means, whatever modules are around it and wherever its sections are placed. The modules of the
+/// of the first module. Each reference whose name a public symbol of the list has is replaced by that
+/// symbol; the other references are kept, equal ones once. The link means what the list means,
+/// whatever modules are around it and wherever its sections are placed. The modules of the
 /// list stay as they are; [`link_owned`] takes them, and copies only the references that it keeps.
 ///
-/// A refusal other than `NoMemory` is returned only where the list can't be linked, and is the first that
+/// An error other than `NoMemory` is returned only if the list can't be linked, and is the first that
 /// applies: `Mismatch`, then `Duplicate`, then `DuplicateStart`. A list that can't be linked is never linked.
-/// `NoMemory` may be returned of any list.
+/// `NoMemory` may be returned for any list.
 ///
 /// The list must not be empty, the name must have at most 65,535 bytes, and the weights of the
 /// modules and the length of the name must add up to less than 2^32:
@@ -179,8 +179,8 @@ pub fn link(alloc: Global, list: &[Module], name: &[u8]) -> Result<Module, LinkR
     Ok(linked(alloc, copies, name, references)?)
 }
 
-/// The partial link of a list of modules under a name, made of their entries: as [`link`], and the
-/// modules are dropped.
+/// The partial link of a list of modules under a name, as [`link`] returns it, but made of the entries
+/// of the modules, which are dropped.
 pub fn link_owned(alloc: Global, list: Vec<Module>, name: &[u8]) -> Result<Module, LinkRefusal>
     requires { MayBeLinked list.items name.now }
     ensures joined { IfOk result (λ M. IsJoined M list.items name.now) }

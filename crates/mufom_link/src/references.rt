@@ -1,4 +1,4 @@
-//! The references of a link: which publics meet them, and which are kept.
+//! The references of a link: which publics resolve them, and which are kept.
 
 ghost use Rattle.std.specs.Prelude.{◌≡◌, [], ◌+◌, ◌++◌, ◌<◌, ◌^◌, length, IfOk, OnOk};
 ghost use Rattle.std.specs.List.{AllByRecursion};
@@ -41,7 +41,7 @@ impl References {
         kept
     }
 
-    // Keeps the reference where no equal one is kept. Returns the position of the equal one that is
+    // Keeps the reference if no equal one is kept yet. Returns the position of the equal one that is
     // kept now.
     fn merge(&mut self, alloc: Global, reference: &Reference) -> Result<u32, NoMemory>
         requires keyed { self.old.keys ≡ keyed self.old.kept }
@@ -61,7 +61,7 @@ impl References {
         Ok(next)
     }
 
-    // The variable that replaces the reference in the link. Where no public has its name, the
+    // The variable that replaces the reference in the link. If no public has its name, the
     // reference is kept.
     fn target(
         &mut self,

@@ -1,4 +1,4 @@
-//! The publics, loads and start of a module by the numbers of the link, in their place. No memory is taken.
+//! The publics, loads and start of a module by the numbers of the link, in their place. Does not allocate.
 
 ghost use Rattle.std.specs.Prelude.{◌≡◌, map};
 ghost use Rattle.mufom_link.specs.Joining.{start_after};
@@ -83,7 +83,7 @@ pub(crate) fn rename_loads(alloc: Global, site: &Renumbering<'_>, mut loads: Vec
     loads
 }
 
-// Takes the start of the module over, where it has one.
+// Takes over the start of the module, if it has one.
 pub(crate) fn take_start(
     site: &Renumbering<'_>,
     start: Option<Postfix>,

@@ -1,4 +1,4 @@
-//! Where a module is in a link.
+//! The numbers that the entries of a module get in a link.
 
 ghost use Rattle.std.specs.Prelude.{◌≡◌, slice_get};
 ghost use Rattle.mufom_link.specs.Renaming.{moved, target_at};

@@ -20,8 +20,8 @@ pub fn listing(alloc: Global, object: &Module) -> Result<Bytes, NoMemory>
 /// Prints the listing of the module, in chunks of about 65,536 bytes, the last of which may be shorter. It allocates one chunk, and
 /// nothing for the text.
 ///
-/// `NoMemory` comes before anything is printed. `Fault` comes only where a print failed and the
-/// count of such faults rose; a prefix of the listing may then be printed.
+/// `NoMemory` is returned before anything is printed. `Fault` is returned only if a print failed
+/// and the count of failed prints rose; a prefix of the listing may then be printed.
 pub fn print_listing<H: Host>(alloc: Global, host: &mut H, object: &Module) -> Result<(), PrintStop>
     ensures done { OnOk result (GrowsBy (H.meaning host.old).out (H.meaning host.new).out (listing_text object.now)) }
     ensures fault { result ≡ Err PrintStop.Fault

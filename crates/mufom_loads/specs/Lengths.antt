@@ -14,12 +14,12 @@ byte_count (Field kind size value) = size
 abbrev pub lengths_of : List Item → ℕ
 lengths_of items = sum_by byte_count items
 
--- the list as many times
+-- the list repeated as many times, one copy after another
 abbrev pub repeated : {X : Type 0} → ℕ → List X → List X
 repeated zero xs = []
 repeated (suc n) xs = xs ++ repeated n xs
 
--- the items that a load puts in place, one after another: those of a repeat as many times as it states
+-- the items that a load puts into its section, one after another: those of a repeat as many times as it states
 abbrev pub copies_of : Load → List Item
 copies_of (SetSection section) = []
 copies_of (SetPc section value) = []
@@ -29,7 +29,7 @@ copies_of (Repeat count items) = repeated count items
 abbrev pub item_copies : List Load → List Item
 item_copies loads = flat_map copies_of loads
 
--- how many bytes a load puts in place, a repeat by its product
+-- how many bytes a load puts into its section, with a repeat counted as a product
 abbrev pub length_loaded : Load → ℕ
 length_loaded (SetSection section) = 0
 length_loaded (SetPc section value) = 0
@@ -39,7 +39,7 @@ length_loaded (Repeat count items) = count * lengths_of items
 abbrev pub lengths_loaded : List Load → ℕ
 lengths_loaded loads = sum_by length_loaded loads
 
--- the same, with the items of a repeat taken once
+-- the same, with the items of a repeat counted once
 abbrev pub length_once : Load → ℕ
 length_once (SetSection section) = 0
 length_once (SetPc section value) = 0

@@ -1,11 +1,11 @@
-//! How many bytes loads have.
+//! The number of bytes that loads put into sections.
 
 ghost use Rattle.std.specs.Prelude.{◌≡◌, ◌-◌, ◌*◌, ◌<◌, ◌≤◌, ◌^◌};
 ghost use Rattle.mufom_loads.specs.Lengths.{byte_count, lengths_of, length_once, length_loaded, lengths_once, lengths_loaded};
 
 use crate::load::{Item, Load};
 
-/// How many bytes the item loads. Does not allocate.
+/// The number of bytes that the item loads. Does not allocate.
 pub fn item_length(item: &Item) -> u64
     ensures { result ≡ byte_count item.now }
 {
@@ -15,7 +15,7 @@ pub fn item_length(item: &Item) -> u64
     }
 }
 
-// How many bytes the items load, each once.
+// The number of bytes that the items load, each once.
 fn items_length(items: &[Item]) -> u64
     requires { lengths_of items.now < 2 ^ 64 }
     ensures { result ≡ lengths_of items.now }
@@ -27,7 +27,7 @@ fn items_length(items: &[Item]) -> u64
     total
 }
 
-// How many bytes a load puts in place.
+// The number of bytes that a load puts into its section.
 fn load_length(load: &Load) -> u128
     requires { length_once load.now < 2 ^ 64 }
     ensures value { result ≡ length_loaded load.now }
@@ -41,10 +41,10 @@ fn load_length(load: &Load) -> u128
     }
 }
 
-/// How many bytes the loads put in place, the items of each repeat as many times as it states. Takes
-/// no memory.
+/// The number of bytes that the loads put into sections, with the items of each repeat counted as many
+/// times as it states. Does not allocate.
 ///
-/// The lengths of all items, those of a repeat taken once, must add up to less than 2^64.
+/// The lengths of all items, with those of a repeat counted once, must add up to less than 2^64 bytes.
 pub fn loaded_bytes(loads: &[Load]) -> u128
     requires { lengths_once loads.now < 2 ^ 64 }
     ensures { result ≡ lengths_loaded loads.now }

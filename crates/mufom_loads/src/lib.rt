@@ -2,8 +2,8 @@
 //! the steps that choose the section and its program counter, and repeats.
 //!
 //! It depends on `mufom_numbers` and `mufom_expr`. Its main clause is that [`loaded_bytes`] counts
-//! the bytes of all item copies exactly, with the items of each repeat as many times as it states, and
-//! that the products by which it does so are the lengths of the copies, one after another.
+//! exactly the bytes of all copies of items, with the items of each repeat as many times as it states,
+//! and that the products that it adds up are the lengths of the copies, one after another.
 #![tactic(auto)]
 
 mod laws;

@@ -1,4 +1,4 @@
-//! Loads: what is put into sections, in order.
+//! Loads: what a module puts into its sections, in order.
 
 use mufom_expr::{FieldKind, Postfix};
 use mufom_numbers::{Bytes, List};
@@ -6,7 +6,7 @@ use mufom_numbers::{Bytes, List};
 /// What is put at the program counter of the current section.
 #[derive(Debug, Drop)]
 pub enum Item {
-    /// Bytes as they stand.
+    /// Literal bytes.
     Literal(Bytes),
     /// The value of an expression, in a field of `size` bytes.
     Field {
@@ -16,7 +16,7 @@ pub enum Item {
     },
 }
 
-/// One load of a module (IEEE Std 695, load commands). Sections go by position.
+/// One load of a module (IEEE Std 695, load commands). Sections are named by position.
 #[derive(Debug, Drop)]
 pub enum Load {
     /// Makes a section the current one.

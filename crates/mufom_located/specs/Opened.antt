@@ -1,4 +1,4 @@
--- Loads of a section of which some may stand already.
+-- Loads of a section, some of which may have been made already.
 use Rattle.std.specs.Prelude.{ℕ, List, [], ◌∷◌, Bool, true, false}
 use Rattle.mufom_loads.specs.declared.load.Load.{Load}
 use Rattle.mufom_meaning.specs.Absolute.{with_section}

@@ -20,7 +20,7 @@ use std::alloc::Global;
 /// The greatest length of a literal, in bytes.
 pub(crate) const LITERAL_LIMIT: usize = 65_535;
 
-// Appends the literals of some bytes, each as long as can be.
+// Appends the literals of some bytes, each as long as possible.
 fn push_literals(alloc: Global, loads: &mut List<Load>, bytes: &[u8]) -> Result<(), NoMemory>
     ensures { OnOk result (loads.new ≡ loads.old ++ map (λ chunk. One (Literal chunk)) (chunks literal_limit bytes.now)) }
 {

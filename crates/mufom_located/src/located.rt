@@ -57,8 +57,8 @@ impl Located {
     }
 
     /// The weight in bytes of the module that [`absolute`](crate::absolute) makes: the length of its
-    /// written form with nine bytes for each number but the eight offsets of its parts, and three for
-    /// the lead of each string. Does not allocate.
+    /// written form with nine bytes for each number, other than the eight offsets of its parts, and three
+    /// for the lead of each string. Does not allocate.
     pub fn written_weight(&self) -> u64
         ensures { result ≡ weight (absolute_of self.now) }
     {

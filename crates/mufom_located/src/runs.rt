@@ -40,8 +40,8 @@ fn runs_up_to(runs: &[Run], to: u128) -> &[Run]
     runs.split_at(count).0
 }
 
-/// The rows that have bytes from one address up to another. The others load nothing there. Takes
-/// time that grows with the logarithm of the number of rows.
+/// The rows that have bytes from one address up to another. The others load nothing there. The time
+/// grows with the logarithm of the number of rows.
 pub(crate) fn runs_between(runs: &[Run], from: u64, to: u128) -> &[Run]
     requires { AreRows runs.now }
     ensures { (section : ℕ) → loads_between section runs.now from to ≡ loads_between section result.now from to }

@@ -1,5 +1,5 @@
 //! The weight of the absolute module of a location, found without it. Sums stop at the greatest
-//! number of 64 bits; the weight of a location is below it.
+//! 64-bit number; the weight of a location is below it.
 
 ghost use Rattle.std.specs.Prelude.{◌≡◌, ℕ, ◌+◌, ◌<◌, ◌^◌, ◌∷◌, [], map, length, flat_map, option_map, sum_by};
 ghost use Rattle.std.specs.List.{enumerate_from};
@@ -16,7 +16,7 @@ use mufom_meaning::{LocatedParts, PublicValue, Run, absolute_weighs, answers_are
 use mufom_module::{debug_items_weight, notes_weight, sections_weight};
 use mufom_sections::Section;
 
-// What the literals of some bytes weigh.
+// The weight of the literals of some bytes, in bytes.
 fn literals_weight(bytes: &[u8]) -> u64
     ensures { result ≡ capped (literals_weight bytes.now) }
 {
@@ -30,7 +30,7 @@ fn literals_weight(bytes: &[u8]) -> u64
     total
 }
 
-// What loads the part of a row from one address up to another weighs.
+// The weight of the loads of the part of a row from one address up to another.
 fn run_weight(run: &Run, from: u64, to: u128) -> u64
     ensures { (section : ℕ) → result ≡ capped (sum_by load_weight (loads_between section (run.now ∷ []) from to)) }
 {
@@ -41,7 +41,7 @@ fn run_weight(run: &Run, from: u64, to: u128) -> u64
     20u64.saturating_add(literals_weight(bytes))
 }
 
-// What loads the parts of the rows from one address up to another weighs.
+// The weight of the loads of the parts of the rows from one address up to another.
 fn runs_weight(runs: &[Run], from: u64, to: u128) -> u64
     ensures { (section : ℕ) → result ≡ capped (sum_by load_weight (loads_between section runs.now from to)) }
 {
@@ -52,7 +52,7 @@ fn runs_weight(runs: &[Run], from: u64, to: u128) -> u64
     total
 }
 
-// What loads a section weighs.
+// The weight of the loads of a section.
 fn section_loads_weight(section: &Section, runs: &[Run]) -> u64
     requires { AreRows runs.now }
     ensures { (number : ℕ) → result ≡ capped (sum_by load_weight (section_loads runs.now (number, section.now))) }
@@ -102,7 +102,7 @@ fn start_weight(start: Option<u64>) -> u64
     if start.is_some() { 13 } else { 0 }
 }
 
-// Of the header and ME.
+// The weight of the header and of the ME record.
 fn frame_weight(parts: &LocatedParts) -> u64
     ensures { result ≡ capped (156 + length parts.now.processor + length parts.now.name) }
 {
@@ -111,7 +111,7 @@ fn frame_weight(parts: &LocatedParts) -> u64
         .saturating_add(parts.name.len() as u64)
 }
 
-// What the parts of the absolute module weigh, or the greatest number of 64 bits if that is less.
+// The weight of the parts of the absolute module, or the greatest 64-bit number if that is less.
 fn absolute_weight(parts: &LocatedParts) -> u64
     requires { AreRows parts.now.runs }
     ensures { result ≡ capped (parts_weight (absolute_of parts.now)) }
@@ -124,7 +124,7 @@ fn absolute_weight(parts: &LocatedParts) -> u64
         .saturating_add(start_weight(parts.start))
 }
 
-/// The weight of the absolute module of a location. Does not allocate.
+/// The weight of the absolute module of a location, in bytes. Does not allocate.
 pub(crate) fn weight_of(parts: &LocatedParts) -> u64
     requires { IsLocated parts.now }
     ensures { result ≡ weight (absolute_of parts.now) }

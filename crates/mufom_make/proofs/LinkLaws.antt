@@ -90,7 +90,7 @@ link-found (Ok M) count more n list few same joined named own =
       light = omega (arith, own, all, weighs, long);
     }
 
--- what stands for the generated modules in stages means what they mean
+-- what replaces the generated modules in stages means what they mean
 pub staged-means : (count : ℕ) (ms : List Parts) → count ≤ 65536 → IsStaged ms (made_modules count) → MeansTheSame ms (made_modules count)
 staged-means count ms few staged =
     staged_means_the_same (module_at true 0) ms (made_modules count) staged (all-valid count count 0 (omega (arith, few)))

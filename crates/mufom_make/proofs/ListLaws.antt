@@ -99,7 +99,7 @@ distinct-names count more n few place repeats =
     let same = same-number (n + k) (n + place) (omega (arith, few, low)) (omega (arith, few, high)) (sym first.same ∙ second.same) in
     omega (arith, before, same)
 
--- no link fact stands against them
+-- no link fact holds about them
 pub linkable : (count more n : ℕ) → n + more ≤ 65536 → link_answer (modules_from count more n) ≡ None
 linkable count more n few = (no_link_answer_is_linkable (modules_from count more n)).1 (record {
   descriptor = own-descriptor count more n;

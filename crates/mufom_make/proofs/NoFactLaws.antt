@@ -69,7 +69,7 @@ no-debug : (count more n d : ℕ) → flat_map {A = SitedTree} (λ (site : Sited
 no-debug count zero n d = refl
 no-debug count (suc more) n d = no-debug count more (n + 1) (d + 0)
 
--- ---- no fact stands
+-- ---- no fact holds
 
 module _ (count : ℕ) (some : 1 ≤ count) (few : count ≤ 65536) where
   abbrev ms : List Parts
@@ -231,11 +231,11 @@ module _ (count : ℕ) (some : 1 ≤ count) (few : count ≤ 65536) where
   not-stands fact (inl f) = not-before fact f
   not-stands fact (inr f) = not-in-walk fact f.2
 
-  -- no link fact stands
+  -- no link fact holds
   pub all-link : link_answer ms ≡ None
   all-link = linkable count count 0 (omega (arith, few))
 
-  -- and nothing is answered in place of a location
+  -- and nothing is returned in place of a location
   pub all-locate : locate_answer ms plan ≡ None
   all-locate = by_answer (locate_answer ms plan) refl where
     by_answer : (o : Option LocateFact) → locate_answer ms plan ≡ o → o ≡ None

@@ -25,7 +25,7 @@ location-of-all (Err e) count M plan few link same located = tt
 location-of-all (Ok parts) count M plan few link same located =
     ((link-means count M few link).same_location (made_plan count) parts).0 (subst (λ (p : Plan). IsLocation (M ∷ []) p parts) same located)
 
--- what is answered in its place is what is answered for the generated modules
+-- what is returned in its place is what is returned for the generated modules
 pub refusal-of-all : (r : Result LocatedParts LocateRefusal) (count : ℕ) (M : Parts) (plan : Plan) → count ≤ 65536 → IsLinkOf M (made_modules count)
     → plan ≡ made_plan count
     → IfErr r (IsMet (locate_answer (M ∷ []) plan)) → IfErr r (IsMet (locate_answer (made_modules count) (made_plan count)))

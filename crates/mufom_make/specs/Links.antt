@@ -5,7 +5,7 @@ use Rattle.mufom_module.specs.Written.{weight}
 use Rattle.mufom_meaning.specs.Joined.{IsJoined}
 use Rattle.mufom_meaning.specs.Staging.{NameStays}
 
--- how much a generated module weighs at most
+-- the greatest weight of a generated module
 abbrev pub most_weight : ℕ
 most_weight = 512
 

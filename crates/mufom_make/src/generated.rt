@@ -20,25 +20,25 @@ use mufom_sections::{Purpose, Section};
 use smallvec::SmallVec;
 use std::alloc::Global;
 
-// How many units the section of a module has.
+// The size of a module's section, in addressable units.
 const SECTION_SIZE: u64 = 16;
 
-// The offset in its section of the public of a module.
+// The offset of a module's public in its section, in addressable units.
 const ENTRY_OFFSET: u64 = 4;
 
-// A section begins at a multiple of this.
+// The alignment of a section, in addressable units.
 const SECTION_ALIGNMENT: u64 = 4;
 
-// How often the lowest byte of its number and a byte 0 are loaded by a module.
+// How often a module loads the lowest byte of its number and a byte 0.
 const REPEAT_COUNT: u64 = 2;
 
 // How many loads a module has.
 const LOAD_COUNT: usize = 5;
 
-// How many units an address has.
+// The length of an address, in addressable units.
 const ADDRESS_SIZE: u8 = 4;
 
-// Where the sections of all modules begin.
+// The base of the region in which all sections are placed.
 const FIRST_BASE: u64 = 4096;
 
 // The name that is a letter, and a number in decimal after it.

@@ -8,8 +8,8 @@ ghost use Rattle.mufom_meaning.specs.LocateAnswer.{locate_answer};
 ghost use Rattle.mufom_meaning.specs.Location.{IsLocation};
 ghost use Rattle.mufom_make.specs.Generated.{made_modules, made_plan};
 
-/// Nothing keeps the generated modules from being linked, or from being located by their plan: they have a
-/// location, however many of them there are. So [`made`](crate::made) refuses only if there is no memory.
+/// The generated modules, 1 to 65,536 of them, can always be linked, and located by their plan: they have a
+/// location. So [`made`](crate::made) fails only if memory runs out.
 pub fn generated_modules_are_located()
     ensures linked { (count : ℕ) → count ≤ MOST_MODULES → link_answer (made_modules count) ≡ None }
     ensures located { (count : ℕ) → 1 ≤ count → count ≤ MOST_MODULES → locate_answer (made_modules count) (made_plan count) ≡ None }

@@ -3,7 +3,7 @@
 //! [`made`] builds as many modules as it is asked for, each of which refers to the next, links them in
 //! pairs, links the results into one module, and locates that. [`summary_text`] is what is printed of
 //! the location. The crate depends on `mufom_link` and `mufom_image` for the work and on
-//! `mufom_meaning` for what a location is. The main clause is that of [`made`]: its answer is the
+//! `mufom_meaning` for what a location is. The main clause is that of [`made`]: it returns the
 //! location of the whole list of generated modules.
 #![tactic(auto)]
 

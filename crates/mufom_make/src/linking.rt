@@ -38,7 +38,7 @@ fn modules_between(alloc: Global, count: u32, first: u32, end: u32) -> Result<Ve
     Ok(modules)
 }
 
-// The link of modules against which no link fact holds, under the name of the first.
+// The link of modules about which no link fact holds, under the name of the first.
 fn linked(alloc: Global, list: Vec<Module>) -> Result<Module, NoMemory>
     requires some { 0 < length list.items }
     requires light { total_weight list.items ≤ 2 ^ 31 }

@@ -15,16 +15,16 @@ use std::alloc::Global;
 /// Builds `count` generated modules, links them in pairs and the results into one module, and locates
 /// that.
 ///
-/// There are 1 to [`MOST_MODULES`](mufom_numbers::limits::MOST_MODULES) of them. Each has one section of 16 units and
-/// a public in it, and loads the address of the public of the next module. The modules of a pair are
-/// dropped as soon as they are linked.
+/// There are 1 to [`MOST_MODULES`](mufom_numbers::limits::MOST_MODULES) of them. Each has one section of 16
+/// addressable units with a public symbol in it. A module loads the address of the next module's public;
+/// the last one loads 0 in its place. The modules of a pair are dropped as soon as they are linked.
 pub fn made(alloc: Global, count: u32) -> Result<Located, LocateRefusal>
     requires some { 1 ≤ count }
     requires few { count ≤ MOST_MODULES }
 
     // What is returned is the location of the list of all modules.
     ensures located { IfOk result (IsLocation (made_modules count) (made_plan count)) }
-    // A refusal is the first thing that keeps that list from being located, or memory ran out.
+    // The error is the first thing that keeps that list from being located, or out of memory.
     ensures refused { IfErr result (IsMet (locate_answer (made_modules count) (made_plan count))) }
 {
     let module = linked_modules(alloc, count)?;

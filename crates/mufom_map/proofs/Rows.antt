@@ -65,7 +65,7 @@ map_is : map_text (mapped (numbered (first ∷ second ∷ [])) plan place)
 unfolding hex_on_literals digits signs_from
 map_is = refl
 
--- ---- a section with a base of its own uses room of a region, and a partly used cell is no full one
+-- ---- a section with a base of its own uses room of a region, and a partly used cell is not a full one
 
 abbrev absolute : Parts
 absolute = record first {

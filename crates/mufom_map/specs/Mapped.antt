@@ -14,7 +14,7 @@ use Rattle.mufom_origins.specs.declared.origins.Place.{Place}
 use Rattle.mufom_origins.specs.Origins.{FileModule, modules_of, origins_of}
 use Rattle.mufom_origins.specs.Places.{place_in}
 
--- a section or a common: its number, what it is, where it is, and the position of its module, which a common has not
+-- a section or a common: its number, what it is, where it is, and the position of its module, which a common lacks
 pub record MappedSection : Type 0 where
   pub number : ℕ
   pub name : List ℕ
@@ -41,7 +41,7 @@ pub record Mapped : Type 0 where
   pub start : Option (ℕ × Option ℕ)
   pub loaded : ℕ
 
--- the module of the entry with a number, where the modules have these numbers of entries
+-- the module of the entry with a number, if the modules have these numbers of entries
 abbrev pub module_in : List ℕ → ℕ → Option ℕ
 module_in counts number = option_map (λ (p : Place). p.«module») (place_in counts number)
 

@@ -1,7 +1,7 @@
 -- Points of the address space, and how far addresses are above them.
 use Rattle.std.specs.Prelude.{◌≡◌, ℕ, ◌+◌, ◌-◌, ◌≤◌, List, length, take, slice_index, sum}
 
--- the greatest point: the end of a region or of a section is no greater
+-- the greatest point: no end of a region or of a section is above it
 abbrev pub most_point : ℕ
 most_point = 36893488147419103232
 

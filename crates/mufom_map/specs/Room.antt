@@ -25,7 +25,7 @@ cell_count = 32
 abbrev pub cell_start : Region → ℕ → ℕ
 cell_start region cell = region.base + (cell * region.size) / cell_count
 
--- a cell of some addresses: `.` if none of them is used, `#` if all are, and else `+`
+-- a cell of some addresses: `.` if none of them is used, `#` if all are, and `+` otherwise
 abbrev pub sign : ℕ → ℕ → ℕ
 sign addresses used = if used == 0 then 0x2E else (if used == addresses then 0x23 else 0x2B)
 

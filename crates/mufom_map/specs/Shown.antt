@@ -23,7 +23,7 @@ section_extent s = record { base = base_of s.1; section = s.0; size = s.1.size }
 abbrev pub section_extents : List Section → List Extent
 section_extents sections = map section_extent (enumerate_from 0 sections)
 
--- a located section with its number, where these are the regions of all sections
+-- a located section with its number, if these are the regions of all sections
 abbrev pub shown_section : List Origin → List (Option ℕ) → ℕ × Section → MappedSection
 shown_section origins regions s = record {
   number = s.0;

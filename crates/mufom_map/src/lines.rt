@@ -67,7 +67,7 @@ fn kind_word(origin: Option<usize>) -> &'static [u8]
     }
 }
 
-// What a section or a common is and where.
+// A section or a common, with its addresses.
 fn placed_text<K: Output>(out: &mut K, maus: u8, number: u32, section: &Section)
     requires { IsUnitCount maus }
     ensures { K.takes out.old out.new (placed_text maus (record {

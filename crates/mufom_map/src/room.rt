@@ -67,7 +67,7 @@ impl<'a> Room<'a> {
         })
     }
 
-    /// How many addresses from one up to, and not including, another lie in a section. Takes time that
+    /// How many addresses from one up to, and not including, another lie in a section. The time
     /// grows with the logarithm of the number of sections.
     pub(crate) fn used(&self, from: u128, to: u128) -> u128
         requires order { from ≤ to }

@@ -63,7 +63,7 @@ module _ {A : Type 0} (same : A → A → Bool) (decides : (x y : A) → Decides
   abbrev other : A → A → Bool
   other x y = not (same x y)
 
-  -- what passes where x does not is another element
+  -- an element that passes, if x does not, is another element
   pub differs : (p : A → Bool) (x : A) → p x ≡ false → (y : A) → p y ≡ true → other x y ≡ true
   differs p x fails y passes = by_case (same x y) refl where
     by_case : (b : Bool) → same x y ≡ b → not b ≡ true

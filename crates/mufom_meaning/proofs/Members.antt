@@ -1,4 +1,4 @@
--- What stands in a list, by cases on the list.
+-- What is in a list, by cases on the list.
 use Rattle.std.proofs.Common.{◌≡◌, ℕ, zero, suc, ◌<◌, ◌⊎◌, inl, inr, List, [], ◌∷◌, ◌++◌, map, length, Some, None, Bool, true, false, not, ◌||◌, refl}
 use Rattle.std.proofs.Common.{sym, ◌∙◌, ap, cond, arith}
 use Rattle.std.specs.Prelude.{slice_get, slice_index_or, filter, flat_map, Contains}
@@ -7,7 +7,7 @@ use Rattle.std.proofs.lemmas.List.Elements.{All-nil, All-cons}
 use Rattle.mufom_meaning.specs.Flat.{distinct}
 use Rattle.mufom_meaning.proofs.Tests.{either_false}
 
--- the element stands in the list
+-- the element is in the list
 abbrev pub In : {A : Type 0} → A → List A → Type 0
 In x [] = ⊥
 In x (y ∷ ys) = (y ≡ x) ⊎ In x ys
@@ -101,7 +101,7 @@ In-filter {A} p x passes (y ∷ ys) h = by_case (p y) refl h (In-filter p x pass
   by_case false e (inl same) later = absurd (let clash : p y ≡ true = ap p same ∙ passes in cc)
   by_case false e (inr h) later = later h
 
--- what is left by a filter stands in the list
+-- what is left by a filter is in the list
 pub filter-In : {A : Type 0} (p : A → Bool) (x : A) (xs : List A) → In x (filter p xs) → In x xs
 filter-In p x [] h = h
 filter-In {A} p x (y ∷ ys) h = by_test (p y) h (filter-In p x ys) where
@@ -110,13 +110,13 @@ filter-In {A} p x (y ∷ ys) h = by_test (p y) h (filter-In p x ys) where
   by_test true (inr h) later = inr (later h)
   by_test false h later = inr (later h)
 
--- a distinct element of a list stands in it
+-- a distinct element of a list is in it
 pub distinct-In : {A : Type 0} (same : A → A → Bool) (x : A) (xs : List A) → In x (distinct same xs) → In x xs
 distinct-In same x [] h = h
 distinct-In same x (y ∷ ys) (inl e) = inl e
 distinct-In same x (y ∷ ys) (inr h) = inr (distinct-In same x ys (filter-In (λ z. not (same y z)) x (distinct same ys) h))
 
--- what stands in a list stands among its distinct elements, where the test decides equality
+-- what is in a list is among its distinct elements, if the test decides equality
 pub In-distinct : {A : Type 0} (same : A → A → Bool) → ((x y : A) → same x y ≡ true → x ≡ y) → (x : A) (xs : List A) → In x xs → In x (distinct same xs)
 In-distinct same decides x [] h = absurd h
 In-distinct same decides x (y ∷ ys) (inl e) = inl e
@@ -135,7 +135,7 @@ get_some [] i less e = omega (arith, less)
 get_some (x ∷ xs) zero less e = cc
 get_some (x ∷ xs) (suc i) less e = get_some xs i (omega (arith, less)) e
 
--- what holds of all that stands in a list holds of each element
+-- what holds of all that is in a list holds of each element
 pub All-In : {A : Type 0} (P : A → Type 0) (xs : List A) → ((x : A) → In x xs → P x) → All P xs
 All-In P [] holds = All-nil P
 All-In P (x ∷ xs) holds = All-cons P x xs (holds x (inl refl)) (All-In P xs (λ y h. holds y (inr h)))

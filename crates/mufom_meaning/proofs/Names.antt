@@ -47,7 +47,7 @@ has_name-append_right xs ys name h = list_any-append (bytes_eq name) xs ys ∙ a
   either_way true = refl
   either_way false = refl
 
--- where a name is among names, it stands at a place
+-- a name that is among names has a position there
 pub name_at : (xs : List (List ℕ)) (name : List ℕ) → has_name xs name ≡ true → (i : ℕ) × (slice_get xs i ≡ Some name)
 name_at [] name h = absurd cc
 name_at (x ∷ xs) name h = by_case (bytes_eq name x) refl h (name_at xs name) where
@@ -62,13 +62,13 @@ get-skip (x ∷ xs) ys i =
     let next : suc (length xs) + i ≡ suc (length xs + i) = omega arith in
     ap (slice_get (x ∷ (xs ++ ys))) next ∙ get-skip xs ys i
 
--- what stands in a prefix of a list stands there in the whole, at a position below the prefix's length
+-- what is in a prefix of a list is in the whole list at the same position, which is below the prefix's length
 pub get-prefix : {A : Type 0} (xs ys : List A) (i : ℕ) (x : A) → slice_get xs i ≡ Some x → (slice_get (xs ++ ys) i ≡ Some x) × (i < length xs)
 get-prefix [] ys i x h = absurd cc
 get-prefix (y ∷ xs) ys zero x h = (h, omega arith)
 get-prefix (y ∷ xs) ys (suc i) x h = let later = get-prefix xs ys i x h in let less = later.1 in (later.0, omega (arith, less))
 
--- a name that stands in the rest of distinct names does not stand in their prefix
+-- a name in the rest of distinct names is not in their prefix
 pub absent_before : (xs ys : List (List ℕ)) (name : List ℕ) → AreDistinct (xs ++ ys) → has_name ys name ≡ true → has_name xs name ≡ false
 absent_before xs ys name distinct h = by_case (has_name xs name) refl where
   by_case : (b : Bool) → has_name xs name ≡ b → b ≡ false

@@ -9,7 +9,7 @@ use Rattle.mufom_module.specs.declared.module.Defect.TheVariants as d
 use Rattle.mufom_module.specs.Contents.{placed_from}
 use Rattle.mufom_module.specs.Defects.{has_defect, defects, loads_nowhere, IsValid}
 
--- where nothing is found, no element passes
+-- if nothing is found, no element passes
 none_found : {A : Type 0} (test : A → Bool) (xs : List A) → find test xs ≡ None → AllByRecursion (λ x. test x ≡ false) xs
 none_found test [] e = tt
 none_found test (x ∷ xs) e = by_case (test x) refl e (none_found test xs) where
@@ -36,7 +36,7 @@ no_defect m valid defect = at defect (none_found (has_defect m) defects valid) w
   at d.Nesting all = all.1.1.1.1.1.1.1.1.1.1.1.0
   at d.Weight all = all.1.1.1.1.1.1.1.1.1.1.1.1.0
 
--- no item stands before the first load that sets the current section
+-- no item comes before the first load that sets the current section
 abbrev pub begin_with_section : List Load → Bool
 begin_with_section [] = true
 begin_with_section (SetSection section ∷ loads) = true

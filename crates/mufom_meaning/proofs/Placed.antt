@@ -33,7 +33,7 @@ pub bases_count : (plan : Plan) (sections asked : List Section) → length (base
 bases_count plan sections asked = length-map (numbered (sections ++ asked)) (λ s. (site_of plan sections asked s).base)
     ∙ length-enumerate_from 0 (sections ++ asked)
 
--- the first n elements stand where they stood
+-- the first n elements keep their positions
 pub get-take : {A : Type 0} (n : ℕ) (xs : List A) (i : ℕ) → i < n → slice_get (take n xs) i ≡ slice_get xs i
 get-take zero xs i less = absurd (omega (arith, less))
 get-take (suc n) [] i less = refl
@@ -68,7 +68,7 @@ module _ (ms : List Parts) (plan : Plan) where
       length-map (enumerate_from 0 (extended_sections ms plan)) (placed_section (base_list ms plan)) ∙ length-enumerate_from 0 (extended_sections ms plan)
       ∙ length-append (flat_sections ms) (placed_commons ms plan)
 
--- a section of this name has a base, where all have one
+-- a section of this name has a base, if all have one
 named_has_base : (sections : List Section) (placed : List ℕ) (name : List ℕ) → length placed ≡ length sections → (section : Section)
     → In section sections → section.name ≡ name
     → base_named sections placed name ≡ None → ⊥
@@ -92,7 +92,7 @@ common_there ms name e =
     let there = at-In own.0 (commons ms) own.1 in
     (own.0.1, (there.0, there.1 ∙ (λ i. Some (same i, own.0.1))))
 
--- where a region takes commons each common has a base
+-- if a region takes commons, each common has a base
 pub common_has_base : (ms : List Parts) (plan : Plan) → has_common plan.regions ≡ true → (name : List ℕ) → has_name (common_names ms) name ≡ true
     → (planned_bases ms plan).commons name ≡ None → ⊥
 common_has_base ms plan common name e none =

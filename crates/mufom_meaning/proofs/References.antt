@@ -11,7 +11,7 @@ use Rattle.mufom_names.specs.declared.name.Reference.{Reference}
 use Rattle.mufom_meaning.specs.Flat.{distinct}
 use Rattle.mufom_meaning.specs.Joined.{same_weak, same_note, same_reference, position_of}
 
--- an element stands in a list
+-- an element is in a list
 abbrev pub Among : {A : Type 0} → A → List A → Type 0
 Among x xs = (i : ℕ) × (slice_get xs i ≡ Some x)
 
@@ -28,7 +28,7 @@ Among-filter {A} test x passes (y ∷ ys) (suc i) e =
       keep true r = (suc r.0, r.1)
       keep false r = r
 
--- with a test that decides equality, what stands in a list stands among the distinct ones
+-- with a test that decides equality, what is in a list is among the distinct ones
 module _ {A : Type 0} (same : A → A → Bool) (decides : (x y : A) → Decides (same x y) (x ≡ y)) where
   among_rest : (y x : A) (ys : List A) (b : Bool) → same y x ≡ b → Among x ys → Among x (y ∷ filter (λ z. not (same y z)) ys)
   among_rest y x ys true e r = (zero, ap Some ((decides y x).0 e))
@@ -102,7 +102,7 @@ same_weak-decides (Some v) (Some w) = (there, back) where
   back e = let same : v ≡ w = cc in
       and_true _ _ ((numbers_decide v.size w.size).1 (ap (λ x. x.size) same)) ((numbers_decide v.default w.default).1 (ap (λ x. x.default) same))
 
--- the test of two references holds where they are equal
+-- the test of two references holds if they are equal
 pub same_reference-decides : (r q : Reference) → Decides (same_reference r q) (r ≡ q)
 same_reference-decides r q = (there, back) where
   there : same_reference r q ≡ true → r ≡ q

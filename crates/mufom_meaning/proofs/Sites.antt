@@ -1,4 +1,4 @@
--- Where the modules of a list stand, in a list that is put together.
+-- The positions of the modules of a list in a list that is put together.
 use Rattle.std.proofs.Common.{◌≡◌, ℕ, ◌+◌, List, [], ◌∷◌, ◌++◌, map, length, refl, sym, ◌∙◌, ap, add_assoc, add-zero, length-append, arith}
 use Rattle.std.proofs.lemmas.List.{length-map}
 use Rattle.mufom_debug.specs.Marks.{DebugMark, block_begin, block_end, name_mark, note_mark, value_mark, marks_of}
@@ -26,7 +26,7 @@ sited_from-append s p d (x ∷ xs) ys =
     ap (λ rest. record { parts = x; first_section = s; first_public = p; first_name = d } ∷ rest)
     (sited_from-append (s + length x.sections) (p + length x.names.publics) (d + name_count (marks_of x.debug)) xs ys)
 
--- a list that stands at home is the list from 0, with its numbers shifted
+-- a list that is at home is the list from 0, with its numbers shifted
 pub sited_from-shifted : (home : Sited) (s p d : ℕ) (xs : List Parts)
     → sited_from (home.first_section + s) (home.first_public + p) (home.first_name + d) xs ≡ map (shifted home) (sited_from s p d xs)
 sited_from-shifted home s p d [] = refl

@@ -1,4 +1,4 @@
--- One step of what bodies do not unfold: values, counters, readings and what is answered in place of a location.
+-- One step of what bodies do not unfold: values, counters, readings and what is returned in place of a location.
 use Rattle.std.proofs.Common.{◌≡◌, ℕ, zero, suc, ◌+◌, List, [], ◌∷◌, map, flat_map, Option, None, refl}
 use Rattle.std.specs.Prelude.{◌%◌, ◌==◌, option_map, option_to_list, slice_get, if◌then◌else◌}
 use Rattle.mufom_expr.specs.Tree.{Tree}

@@ -1,4 +1,4 @@
--- What a module without a defect has: its variables name entries of its lists, and a counter stands only where a load allows it.
+-- What a module without a defect has: its variables name entries of its lists, and a counter occurs only where a load allows it.
 use Rattle.std.proofs.Common.{◌≡◌, ℕ, ◌<◌, inl, inr, List, [], ◌∷◌, Option, Some, None, Bool, true, false, ◌||◌, refl, sym, ◌∙◌, ap, cond, rules}
 use Rattle.std.specs.Prelude.{nat_le, option_to_list, is_none}
 use Rattle.std.specs.List.{find, list_any}

@@ -1,4 +1,4 @@
--- Where expressions have values.
+-- When expressions have values.
 pub mod Causes
 pub mod Ends
 pub mod Enough

@@ -17,13 +17,13 @@ use Rattle.mufom_meaning.specs.declared.located.LocatedParts.{LocatedParts}
 abbrev pub literal_limit : ℕ
 literal_limit = 65535
 
--- a list in chunks of a length, the last one shorter where needed, where there are at most `n` chunks
+-- a list in chunks of a length, the last one shorter if needed, if there are at most `n` chunks
 abbrev pub chunks_within : {X : Type 0} → ℕ → ℕ → List X → List (List X)
 chunks_within zero size xs = []
 chunks_within (suc n) size [] = []
 chunks_within (suc n) size (x ∷ xs) = take size (x ∷ xs) ∷ chunks_within n size (drop size (x ∷ xs))
 
--- a list in chunks of a length, which is not 0, the last one shorter where needed
+-- a list in chunks of a length, which is not 0, the last one shorter if needed
 abbrev pub chunks : {X : Type 0} → ℕ → List X → List (List X)
 chunks size xs = chunks_within (length xs) size xs
 
@@ -44,7 +44,7 @@ loads_of_bytes section row (byte ∷ bytes) = row_loads section row
 abbrev pub loads_between : ℕ → List Run → ℕ → ℕ → List Load
 loads_between section runs from to = flat_map (λ run. let row = run_within from to run in loads_of_bytes section row row.bytes) runs
 
--- the section is made the current one where something is loaded
+-- the section is made the current one if something is loaded
 abbrev pub with_section : ℕ → List Load → List Load
 with_section section [] = []
 with_section section (load ∷ loads) = SetSection section ∷ load ∷ loads
@@ -54,7 +54,7 @@ abbrev pub section_loads_at : ℕ → List Run → Section → Option ℕ → Li
 section_loads_at n runs section None = []
 section_loads_at n runs section (Some base) = with_section n (loads_between n runs base (base + section.size))
 
--- The loads of a section, by its position: for each row of loaded addresses inside it, as long as can be, its counter is set and
+-- The loads of a section, by its position: for each row of loaded addresses inside it, as long as possible, its counter is set and
 -- literals follow.
 abbrev pub section_loads : List Run → ℕ × Section → List Load
 section_loads runs s = section_loads_at s.0 runs s.1 s.1.base

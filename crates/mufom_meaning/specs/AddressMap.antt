@@ -15,7 +15,7 @@ abbrev pub cells_from : ℕ → List ℕ → List Cell
 cells_from a [] = []
 cells_from a (byte ∷ bytes) = (a, byte) ∷ cells_from (suc a) bytes
 
--- the cells that a literal fills, where its counter has a value
+-- the cells that a literal fills, if its counter has a value
 abbrev pub literal_cells : Option ℕ → List ℕ → List Cell
 literal_cells None bytes = []
 literal_cells (Some at) bytes = cells_from at bytes

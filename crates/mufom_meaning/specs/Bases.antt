@@ -1,4 +1,4 @@
--- Where the sections and commons of a list of modules stand.
+-- The bases of the sections and commons of a list of modules.
 use Rattle.std.specs.Prelude.{ℕ, List, [], Option, None}
 
 -- A number for each section, by its flat number, and a number for some names besides: those of the commons that have room.

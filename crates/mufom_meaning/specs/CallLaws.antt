@@ -1,4 +1,5 @@
--- What callers need: that a module without a defect may be placed, where the bases stand, and that a slice of such modules is a list of them.
+-- What callers need: that a module without a defect may be placed, at which positions the bases are, and that a slice of such modules is
+-- a list of them.
 use Rattle.std.specs.Prelude.{◌≡◌, ◌<◌, ◌≤◌, ◌^◌, false, ◌↔◌, List, [], ◌∷◌, length, All, ℕ, ◌+◌, Some, None, slice_get, true}
 use Rattle.std.specs.Str.{bytes_eq}
 use Rattle.mufom_module.specs.declared.module.Parts.{Parts}
@@ -27,7 +28,7 @@ abbrev pub ModulesMayBePlaced : Type 0
 ModulesMayBePlaced = (m : Parts) (plan : Plan) → IsValid m → MayBePlaced (m ∷ []) plan
 
 -- The bases by a plan are those of the one list of sections and commons: of a section by its flat number, and of a common by its
--- position after them. Where no region takes commons, none has a base.
+-- position after them. If no region takes commons, none has a base.
 pub record AreByPosition (ms : List Parts) (plan : Plan) : Type 0 where
   pub of_sections : (n : ℕ) → n < length (flat_sections ms) → slice_get (planned_bases ms plan).sections n ≡ slice_get (base_list ms plan) n
   pub of_commons : has_common plan.regions ≡ true → (n : ℕ) (name : List ℕ) → slice_get (distinct bytes_eq (common_names ms)) n ≡ Some name
@@ -38,6 +39,6 @@ pub record AreByPosition (ms : List Parts) (plan : Plan) : Type 0 where
 abbrev pub BasesByPosition : Type 0
 BasesByPosition = (ms : List Parts) (plan : Plan) → AreByPosition ms plan
 
--- Each module of a list is without a defect where each element of the list is.
+-- Each module of a list is without a defect if each element of the list is.
 abbrev pub AreValidIsAll : Type 0
 AreValidIsAll = (ms : List Parts) → All IsValid ms ↔ AreValid ms

@@ -1,4 +1,4 @@
--- How many bytes a list of modules loads (IEEE Std 695, load commands).
+-- The number of bytes that a list of modules loads (IEEE Std 695, load commands).
 use Rattle.std.specs.Prelude.{ℕ, List, sum_by}
 use Rattle.mufom_loads.specs.Lengths.{byte_count, lengths_loaded}
 use Rattle.mufom_module.specs.declared.module.Parts.{Parts}

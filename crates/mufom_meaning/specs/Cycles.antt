@@ -39,11 +39,11 @@ abbrev pub leads_from : Setting → ℕ → List ℕ → Option SitedPublic → 
 leads_from s k name None = false
 leads_from s k name (Some q) = leads_within s k name q.site q.entry.value
 
--- A chain of mentions leads from the public of this name back to it. It comes back by the name: where a name occurs twice, which no
--- list that can be linked has, another public of it counts as well.
+-- A chain of mentions leads from the public of this name back to it. It comes back by the name: if a name occurs twice, which no
+-- list that can be linked has, another public of that name counts as well.
 abbrev pub IsOnCycle : List Parts → List ℕ → Type 0
 IsOnCycle ms name = let s = setting ms no_bases in (k : ℕ) × IsTrue (leads_from s k name (first_named s.publics name))
 
--- the same as a test: a chain that comes back has a part that is no longer than the list of publics
+-- the same as a test: it is enough to look at chains that are no longer than the list of publics
 abbrev pub is_on_cycle : List Parts → List ℕ → Bool
 is_on_cycle ms name = let s = setting ms no_bases in leads_from s (length s.publics) name (first_named s.publics name)

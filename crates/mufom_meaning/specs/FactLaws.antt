@@ -13,8 +13,8 @@ use Rattle.mufom_meaning.specs.Counts.{loaded_total, lengths_of_steps}
 use Rattle.mufom_meaning.specs.Staging.{AreValid, HaveDescriptorOf}
 use Rattle.mufom_meaning.specs.Stands.{LinkFactStands, LocateFactStands}
 
--- The results are about the facts: there is an answer where a fact holds, and what is returned stands. What is returned in place
--- of a location is asked for only where the list can be linked.
+-- How results and facts agree: a fact is returned if one holds, and a returned fact holds. A result in place of a location is
+-- considered only if the list can be linked.
 pub record AnswersAreFacts (ms : List Parts) (plan : Plan) : Type 0 where
   pub link_sound : (fact : LinkFact) → link_answer ms ≡ Some fact → LinkFactStands ms fact
   pub link_complete : link_answer ms ≡ None → (fact : LinkFact) → ¬ LinkFactStands ms fact
@@ -29,7 +29,7 @@ AllAnswersAreFacts = (ms : List Parts) (plan : Plan) → AnswersAreFacts ms plan
 abbrev pub LinkFactsGrow : Type 0
 LinkFactsGrow = (before ms after : List Parts) (fact : LinkFact) → LinkFactStands ms fact → LinkFactStands (before ++ (ms ++ after)) fact
 
--- where nothing is returned in place of a link, the list has one descriptor, no public name twice and no more than one start
+-- if nothing is returned in place of a link, the list has one descriptor, no public name twice and no more than one start
 pub record IsLinkable (ms : List Parts) : Type 0 where
   pub descriptor : HaveDescriptorOf ms ms
   pub names : AreDistinct (public_names ms)

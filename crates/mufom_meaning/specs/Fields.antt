@@ -6,7 +6,7 @@ use Rattle.mufom_module.specs.declared.module.Order.{Order}
 use Rattle.mufom_module.specs.declared.module.Order.TheVariants.{Least, Most}
 
 -- A residue as a signed number: below half the address space it is that number, else that number less the address space.
--- It fits where it lies between minus half of 256 ^ size and half of it, the latter left out.
+-- It fits if it lies between minus half of 256 ^ size and half of it, the latter left out.
 abbrev pub fits_signed : ℕ → ℕ → ℕ → Bool
 fits_signed modulus size v =
     if nat_lt (v + v) modulus then nat_lt (v + v) (256 ^ size) else nat_le ((modulus - v) + (modulus - v)) (256 ^ size)
@@ -28,7 +28,7 @@ in_byte_order Least bytes = bytes
 in_byte_order Most bytes = reverse bytes
 
 -- the number that a field's bytes spell: for a signed field the two's complement reading of the value, filled up by its
--- sign where the field is wider than an address
+-- sign if the field is wider than an address
 abbrev pub field_number : ℕ → FieldKind → ℕ → ℕ → ℕ
 field_number modulus Signed size v = if nat_lt (v + v) modulus then v else 256 ^ size - (modulus - v)
 field_number modulus Unsigned size v = v

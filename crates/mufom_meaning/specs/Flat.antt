@@ -19,7 +19,7 @@ pub record Sited : Type 0 where
   pub first_public : ℕ
   pub first_name : ℕ
 
--- how many debug names the marks declare
+-- how many debug names the records declare
 abbrev pub name_count : List DebugMark → ℕ
 name_count [] = 0
 name_count (block_begin head name ∷ marks) = name_count marks
@@ -28,7 +28,7 @@ name_count (name_mark name ∷ marks) = 1 + name_count marks
 name_count (note_mark name note ∷ marks) = name_count marks
 name_count (value_mark name value ∷ marks) = name_count marks
 
--- the modules, where those before them have this many sections, publics and debug names
+-- the modules, if those before them have this many sections, publics and debug names
 abbrev pub sited_from : ℕ → ℕ → ℕ → List Parts → List Sited
 sited_from s p d [] = []
 sited_from s p d (m ∷ ms) =
@@ -72,12 +72,12 @@ public_names ms = flat_map (λ m. map (λ entry. entry.name) m.names.publics) ms
 abbrev pub first_named : List SitedPublic → List ℕ → Option SitedPublic
 first_named publics name = find (λ q. bytes_eq q.entry.name name) publics
 
--- each element once, where the first that is the same stands
+-- each element once, at the place of the first equal one
 abbrev pub distinct : {A : Type 0} → (A → A → Bool) → List A → List A
 distinct same [] = []
 distinct same (x ∷ xs) = x ∷ filter (λ y. not (same x y)) (distinct same xs)
 
--- a reference is strong where it is not weak
+-- a reference is strong if it is not weak
 abbrev pub is_strong : Reference → Bool
 is_strong reference = is_none reference.weak
 
@@ -86,7 +86,7 @@ abbrev pub common_size : Option Weak → ℕ
 common_size None = 0
 common_size (Some weak) = weak.size
 
--- the references that no public of the list meets
+-- the references whose names no public of the list has
 abbrev pub unresolved_references : List Parts → List Reference
 unresolved_references ms = filter (λ reference. not (has_name (public_names ms) reference.name)) (flat_references ms)
 

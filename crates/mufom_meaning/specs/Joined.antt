@@ -22,26 +22,26 @@ use Rattle.mufom_module.specs.declared.module.Parts.{Parts}
 use Rattle.mufom_plan.specs.Names.{has_name}
 use Rattle.mufom_meaning.specs.Flat.{Sited, sited, flat_sections, public_names, unresolved_references, distinct}
 
--- two weak parts are the same where size and default are
+-- two weak parts are the same if size and default are
 abbrev pub same_weak : Option Weak → Option Weak → Bool
 same_weak None None = true
 same_weak (Some v) (Some w) = (v.size == w.size) && (v.default == w.default)
 same_weak None (Some w) = false
 same_weak (Some v) None = false
 
--- two notes are the same where all their numbers are
+-- two notes are the same if all their numbers are
 abbrev pub same_note : Note → Note → Bool
 same_note m n = (m.type_index == n.type_index) && (m.attribute == n.attribute) && bytes_eq m.numbers.items n.numbers.items
 
--- two references are the same where name, weak part and notes are
+-- two references are the same if name, weak part and notes are
 abbrev pub same_reference : Reference → Reference → Bool
 same_reference r q = bytes_eq r.name q.name && same_weak r.weak q.weak && pointwise same_note r.notes q.notes
 
--- what is left of the references: those that no public of the list meets, each once
+-- what is left of the references: those whose names no public of the list has, each once
 abbrev pub kept_references : List Parts → List Reference
 kept_references ms = distinct same_reference (unresolved_references ms)
 
--- the position of the first element that passes, and the length where none does
+-- the position of the first element that passes, or the length if none does
 abbrev pub position_of : {A : Type 0} → (A → Bool) → List A → ℕ
 position_of test [] = 0
 position_of test (x ∷ xs) = if test x then 0 else suc (position_of test xs)
@@ -76,7 +76,7 @@ abbrev pub joined_item : List Parts → Sited → Item → Item
 joined_item ms site (Literal bytes) = Literal bytes
 joined_item ms site (Field kind size t) = Field kind size (joined_tree ms site t)
 
--- the same of a load, whose section goes by its flat number
+-- the same of a load, whose section is given by its flat number
 abbrev pub joined_load : List Parts → Sited → Load → Load
 joined_load ms site (SetSection section) = SetSection (site.first_section + section)
 joined_load ms site (SetPc section t) = SetPc (site.first_section + section) (joined_tree ms site t)
@@ -92,7 +92,7 @@ joined_head ms site (heads.Source numbers) = heads.Source numbers
 joined_head ms site (heads.Section section_type section offset) =
     heads.Section section_type (site.first_section + section) (joined_tree ms site offset)
 
--- the same of a debug mark, whose debug name goes by its flat number
+-- the same of a debug record, whose debug name is given by its flat number
 abbrev pub joined_mark : List Parts → Sited → DebugMark → DebugMark
 joined_mark ms site (block_begin head name) = block_begin (joined_head ms site head) name
 joined_mark ms site (block_end end) = block_end (option_map (joined_tree ms site) end)

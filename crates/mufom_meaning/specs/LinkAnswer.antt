@@ -25,7 +25,7 @@ abbrev pub first_mismatch : List Parts → Option LinkFact
 first_mismatch [] = None
 first_mismatch (m ∷ ms) = option_map (λ other. mismatch (descriptor m) (descriptor other)) (find (λ other. not (same_descriptor m other)) ms)
 
--- the first name that is earlier too
+-- the first name that occurs earlier too
 abbrev pub first_duplicate : List (List ℕ) → List (List ℕ) → Option (List ℕ)
 first_duplicate earlier [] = None
 first_duplicate earlier (name ∷ names) = if has_name earlier name then Some name else first_duplicate (name ∷ earlier) names

@@ -14,15 +14,15 @@ use Rattle.mufom_meaning.specs.Cycles.{is_on_cycle}
 use Rattle.mufom_meaning.specs.Walk.{walk_answer}
 use Rattle.mufom_meaning.specs.Counts.{loaded_total}
 
--- the first name that is needed and is neither a public's nor a common's
+-- the first name that is needed and that neither a public nor a common has
 abbrev pub first_undefined : List Parts → Option (List ℕ)
 first_undefined ms = find (λ name. not (has_name (common_names ms) name)) (needs ms)
 
--- the first common, where no region of the plan takes commons
+-- the first common, if no region of the plan takes commons
 abbrev pub first_unplaced_common : List Parts → Plan → Option (List ℕ)
 first_unplaced_common ms plan = if has_common plan.regions then None else slice_get (common_names ms) 0
 
--- a public that its own name leads back to
+-- a public whose expression leads back to its own name
 abbrev pub cycle_at : List Parts → List ℕ → Option LocateFact
 cycle_at ms name = if is_on_cycle ms name then Some (cycle name) else None
 

@@ -35,7 +35,7 @@ located_sections ms plan = placed_sections (base_list ms plan) (extended_section
 abbrev pub located_public : PublicValue → PublicReading
 located_public p = record { name = p.name; notes = p.notes; value = Some p.value }
 
--- the head of a block with one number in place of its expression, where that has a value
+-- the head of a block with one number in place of its expression, if that has a value
 abbrev pub located_head : HeadReading → Option BlockHead
 located_head module_head = Some heads.Module
 located_head (global_head stack type_index offset) = option_map (λ n. heads.Global stack type_index (number n)) offset
@@ -48,7 +48,7 @@ abbrev pub located_end : Option (Option ℕ) → Option DebugMark
 located_end None = Some (block_end None)
 located_end (Some value) = option_map (λ n. block_end (Some (number n))) value
 
--- A debug mark as it is located: with one number in place of its expression. An expression without a value has none.
+-- A debug record as it is located: with one number in place of its expression. An expression without a value has none.
 abbrev pub located_mark : MarkReading → Option DebugMark
 located_mark (begin_reading head name) = option_map (λ h. block_begin h name) (located_head head)
 located_mark (end_reading end) = located_end end

@@ -37,13 +37,13 @@ pub record AreValued (r : Readings) : Type 0 where
   pub starts : (value : Option ℕ) → Contains r.starts value → HasValue value
   pub debug : (mark : MarkReading) → Contains r.debug mark → (located : DebugMark) × (located_mark mark ≡ Some located)
 
--- Where no fact stands against modules without a defect, each expression has a value.
+-- If no fact holds about modules without a defect, each expression has a value.
 abbrev pub AllValued : Type 0
 AllValued =
     (ms : List Parts) (plan : Plan) → AreValid ms → link_answer ms ≡ None → locate_answer ms plan ≡ None
     → AreValued (readings ms (planned_bases ms plan))
 
--- Where no fact stands against a list of modules without a defect, which is not empty, there is a location.
+-- If no fact holds about a list of modules without a defect, and the list is not empty, it has a location.
 abbrev pub LocationsExist : Type 0
 LocationsExist =
     (ms : List Parts) (plan : Plan) → ms ≢ [] → AreValid ms → link_answer ms ≡ None → locate_answer ms plan ≡ None
@@ -58,7 +58,7 @@ abbrev pub AbsoluteIsLocatedAsItself : Type 0
 AbsoluteIsLocatedAsItself =
     (ms : List Parts) (plan : Plan) (r : LocatedParts) → AreValid ms → IsLocation ms plan r → IsLocation (absolute_of r ∷ []) no_regions r
 
--- The module that a location is written as has no defect, where it is not too heavy.
+-- The module that a location is written as has no defect, if it is not too heavy.
 abbrev pub AbsoluteIsValid : Type 0
 AbsoluteIsValid =
     (ms : List Parts) (plan : Plan) (r : LocatedParts) → AreValid ms → IsLocation ms plan r → weight (absolute_of r) < 2 ^ 32

@@ -22,7 +22,7 @@ common_section asked name = record { name = name; absolute = false; purpose = No
 abbrev pub common_sections : List Parts → List Section
 common_sections ms = map (common_section (commons ms)) (distinct bytes_eq (common_names ms))
 
--- the commons that the plan places: all of them where a region takes commons, and none where no region does
+-- the commons that the plan places: all of them if a region takes commons, and none if no region does
 abbrev pub placed_commons : List Parts → Plan → List Section
 placed_commons ms plan = if has_common plan.regions then common_sections ms else []
 
@@ -34,7 +34,7 @@ extended_sections ms plan = flat_sections ms ++ placed_commons ms plan
 abbrev pub base_list : List Parts → Plan → List ℕ
 base_list ms plan = bases plan (flat_sections ms) (placed_commons ms plan)
 
--- the base of the first section of this name, where the sections are at these bases, one for each
+-- the base of the first section of this name, if the sections are at these bases, one for each
 abbrev pub base_named : List Section → List ℕ → List ℕ → Option ℕ
 base_named [] placed name = None
 base_named (section ∷ sections) [] name = None

@@ -1,4 +1,4 @@
--- What a list of modules means where its sections are at given bases: the value of each public, step, start and debug expression.
+-- What a list of modules means if its sections are at given bases: the value of each public, step, start and debug expression.
 use Rattle.std.specs.Prelude.{ℕ, ◌+◌, List, map, flat_map, Option, Some, None, option_to_list}
 use Rattle.mufom_expr.specs.Tree.{Tree}
 use Rattle.mufom_sections.specs.declared.section.Section.{Section}
@@ -26,7 +26,7 @@ pub data HeadReading : Type 0 where
   source_head : (numbers : List ℕ) → HeadReading
   section_head : (section_type section : ℕ) → (offset : Option ℕ) → HeadReading
 
--- a debug mark with the value of its expression, and its debug name by the flat number
+-- a debug record with the value of its expression, and its debug name by the flat number
 pub data MarkReading : Type 0 where
   begin_reading : (head : HeadReading) → (name : List ℕ) → MarkReading
   end_reading : (end : Option (Option ℕ)) → MarkReading
@@ -48,7 +48,7 @@ abbrev pub end_value : Setting → Sited → Option Tree → Option (Option ℕ)
 end_value s site None = None
 end_value s site (Some t) = Some (value s site None t)
 
--- what a debug mark means
+-- what a debug record means
 abbrev pub mark_reading : Setting → Sited → DebugMark → MarkReading
 mark_reading s site (block_begin head name) = begin_reading (head_reading s site head) name
 mark_reading s site (block_end end) = end_reading (end_value s site end)
@@ -60,7 +60,7 @@ mark_reading s site (value_mark name t) = value_reading (site.first_name + name)
 abbrev pub public_reading : Setting → SitedPublic → PublicReading
 public_reading s q = record { name = q.entry.name; notes = q.entry.notes; value = value s q.site None q.entry.value }
 
--- What a list of modules means: its sections, publics, steps, starts and debug marks with their values, the names that it needs, and
+-- What a list of modules means: its sections, publics, steps, starts and debug records with their values, the names that it needs, and
 -- the room that it asks for.
 pub record Readings : Type 0 where
   pub sections : List Section
@@ -71,7 +71,7 @@ pub record Readings : Type 0 where
   pub needs : List (List ℕ)
   pub commons : List (List ℕ × ℕ)
 
--- what the modules mean where the sections and commons are at the bases
+-- what the modules mean if the sections and commons are at the bases
 unfoldable pub readings : List Parts → Bases → Readings
 readings ms bases = let s = setting ms bases in record {
   sections = s.sections;

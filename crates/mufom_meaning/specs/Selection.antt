@@ -8,7 +8,7 @@ use Rattle.mufom_plan.specs.Names.{has_name}
 use Rattle.mufom_meaning.specs.Flat.{flat_references, public_names, is_strong}
 use Rattle.mufom_meaning.specs.Walk.{has_number}
 
--- the names that strong references need
+-- the names of strong references
 abbrev pub strong_names : List Parts → List (List ℕ)
 strong_names ms = map (λ reference. reference.name) (filter is_strong (flat_references ms))
 
@@ -30,7 +30,7 @@ member_at (Some m) = m ∷ []
 abbrev pub members_at : List Parts → List ℕ → List Parts
 members_at members chosen = flat_map (λ n. member_at (slice_get members n)) chosen
 
--- the position, where there is one, is among those chosen
+-- the position, if there is one, is among those chosen
 abbrev pub is_among : Option ℕ → List ℕ → Bool
 is_among None chosen = true
 is_among (Some n) chosen = has_number chosen n

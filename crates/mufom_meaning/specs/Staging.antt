@@ -1,4 +1,4 @@
--- Stages of linking: when a module stands for a list of modules, and which lists come from one another by partial links.
+-- Stages of linking: when a module can replace a list of modules, and which lists come from one another by partial links.
 use Rattle.std.specs.Prelude.{◌≡◌, ℕ, List, [], ◌∷◌, ◌++◌, length, not, IsTrue}
 use Rattle.std.specs.List.{list_all, IsDistinct}
 use Rattle.mufom_names.specs.Names.{AreDistinct}
@@ -34,7 +34,7 @@ pub record IsContext (before ms after : List Parts) (bases : Bases) : Type 0 whe
   pub names : AreDistinct (public_names (before ++ (ms ++ after)))
   pub placed : length bases.sections ≡ length (flat_sections (before ++ (ms ++ after)))
 
--- The module stands for the list: in every context, and wherever sections and commons stand, it means what the list means.
+-- The module can replace the list: in every context, and wherever sections and commons are placed, it means what the list means.
 abbrev pub StandsFor : Parts → List Parts → Type 0
 StandsFor M ms =
     (before after : List Parts) (bases : Bases) → IsContext before ms after bases

@@ -18,14 +18,14 @@ use Rattle.mufom_meaning.specs.LocateAnswer.{locate_answer}
 use Rattle.mufom_meaning.specs.Staging.{AreValid, HaveDescriptor, HaveDescriptorOf, StandsFor, HasSettledReferences, IsStaged}
 use Rattle.mufom_meaning.specs.Stands.{LinkFactStands, LocateFactStands}
 
--- A partial link stands for its list: it means the same in every context, it has the list's sections and public names, and no
+-- A partial link can replace its list: it means the same in every context, it has the list's sections and public names, and no
 -- reference is left to one of its own publics.
 abbrev pub JoinedStandsFor : Type 0
 JoinedStandsFor =
     (M : Parts) (ms : List Parts) (name : List ℕ) → IsJoined M ms name → AreValid ms
     → StandsFor M ms × (M.sections ≡ flat_sections ms) × (public_names (M ∷ []) ≡ public_names ms) × HasSettledReferences M
 
--- Links compose: the outer link of the list with the group linked is that of the flat list.
+-- Links compose: linking a list in which a group was linked before gives the link of the flat list, and conversely.
 abbrev pub JoinedComposes : Type 0
 JoinedComposes =
     (M N : Parts) (ms before after : List Parts) (inner outer : List ℕ)
@@ -34,7 +34,7 @@ JoinedComposes =
     → (IsJoined N (before ++ (M ∷ after)) outer → IsJoined N (before ++ (ms ++ after)) outer)
     × (IsJoined N (before ++ (ms ++ after)) outer → IsJoined N (before ++ (M ∷ after)) outer)
 
--- What is returned in place of an outer link is the same with a group linked, also where a link fact holds: the group alone has
+-- The result in place of an outer link is the same if a group was linked before, also if a link fact holds. Only the group must have
 -- one descriptor.
 abbrev pub LinkAnswersAgree : Type 0
 LinkAnswersAgree =
@@ -42,7 +42,7 @@ LinkAnswersAgree =
     → IsJoined M ms name → HaveDescriptorOf ms ms
     → link_answer (before ++ (M ∷ after)) ≡ link_answer (before ++ (ms ++ after))
 
--- Nor do the link facts change, all of them.
+-- The link facts do not change either, none of them.
 abbrev pub LinkFactsAgree : Type 0
 LinkFactsAgree =
     (M : Parts) (ms before after : List Parts) (name : List ℕ) (fact : LinkFact)
@@ -54,15 +54,15 @@ pub data IsLinkOrItself : Parts → List Parts → Type 0 where
   itself : (m : Parts) → IsLinkOrItself m (m ∷ [])
   a_link : (M : Parts) (group : List Parts) (name : List ℕ) → IsJoined M group name → link_answer group ≡ None → IsLinkOrItself M group
 
--- each module stands for its group, one group for each
+-- each module can replace its group, one group for each
 abbrev pub StandForGroups : List Parts → List (List Parts) → Type 0
 StandForGroups [] [] = Unit {0}
 StandForGroups (M ∷ Ms) (group ∷ groups) = IsLinkOrItself M group × StandForGroups Ms groups
 StandForGroups [] (group ∷ groups) = ⊥
 StandForGroups (M ∷ Ms) [] = ⊥
 
--- What is returned in place of the link of a list goes by its groups: a link fact about a group is one about the whole list, and where
--- each group was linked, or is one module, the list of the links has the answer of the whole list.
+-- What is returned in place of the link of a list goes by its groups: a link fact about a group is one about the whole list, and if
+-- each group was linked, or is one module, linking the list of the links gives the result of linking the whole list.
 pub record GroupsAnswer (groups : List (List Parts)) : Type 0 where
   pub facts_stand : (group : List Parts) → Contains groups group → (fact : LinkFact) → LinkFactStands group fact
       → LinkFactStands (flat_map (λ own. own) groups) fact
@@ -94,7 +94,7 @@ SelectionAgrees =
     → IsJoined M ms name
     → IsSelected (before ++ (M ∷ after)) members chosen ↔ IsSelected (before ++ (ms ++ after)) members chosen
 
--- Two lists mean the same: they have the same readings wherever the sections stand, the same link, facts, results and location
+-- Two lists mean the same: they have the same readings wherever the sections are placed, the same link, facts, results and location
 -- whatever the plan, and the same members.
 pub record MeansTheSame (ms leaves : List Parts) : Type 0 where
   pub same_readings : (bases : Bases) → readings ms bases ≡ readings leaves bases
@@ -119,7 +119,7 @@ StagedMeansTheSame =
 abbrev pub JoinedIsSingle : Type 0
 JoinedIsSingle = (M N : Parts) (ms : List Parts) (name : List ℕ) → IsJoined M ms name → IsJoined N ms name → M ≡ N
 
--- what all modules of a list weigh
+-- the sum of the weights of all modules of a list
 abbrev pub total_weight : List Parts → ℕ
 total_weight ms = sum_by weight ms
 
@@ -128,8 +128,8 @@ abbrev pub first_name_length : List Parts → ℕ
 first_name_length [] = 0
 first_name_length (m ∷ ms) = length m.name
 
--- A partial link of modules without a defect weighs no more than they do together, but for its name in the place of the first
--- module's, and it has no defect where its name is no longer than a string may be and the sum is below 2^32.
+-- A partial link of modules without a defect weighs no more than they do together, with its name in place of the first
+-- module's, and it has no defect if its name is no longer than a string may be and the sum is below 2^32.
 pub record JoinedIsSound (M : Parts) (ms : List Parts) (name : List ℕ) : Type 0 where
   pub weighs : weight M + first_name_length ms ≤ total_weight ms + length name
   pub valid : length name < 2 ^ 16 → total_weight ms + length name < 2 ^ 32 → IsValid M

@@ -1,4 +1,4 @@
--- When a fact stands against a list of modules, whether or not it is the one that is returned.
+-- When a fact holds about a list of modules, whether or not it is the one that is returned.
 use Rattle.std.specs.Prelude.{◌≡◌, ◌≢◌, ℕ, ◌+◌, ◌%◌, ◌<◌, ◌≤◌, ◌⊎◌, List, [], ◌∷◌, length, Some, None, slice_get, false, IsTrue}
 use Rattle.mufom_numbers.specs.declared.limits.TheConstants.{MOST_IMAGE_BYTES}
 use Rattle.mufom_expr.specs.declared.token.FieldKind.{FieldKind}
@@ -29,7 +29,7 @@ use Rattle.mufom_meaning.specs.Fields.{fits}
 abbrev pub StandsIn : {A : Type 0} → A → List A → Type 0
 StandsIn x xs = (i : ℕ) × (slice_get xs i ≡ Some x)
 
--- Two descriptors differ, a name is that of two publics, or there is more than one start.
+-- Two descriptors differ, two publics have the same name, or there is more than one start.
 abbrev pub LinkFactStands : List Parts → LinkFact → Type 0
 LinkFactStands ms (mismatch d e) = (m : Parts) × (n : Parts) × StandsIn m ms × StandsIn n ms × (descriptor m ≡ d) × (descriptor n ≡ e) × (d ≢ e)
 LinkFactStands ms (duplicate name) = (place : ℕ) × (slice_get (public_names ms) place ≡ Some name) × RepeatsAt (public_names ms) place
@@ -72,7 +72,7 @@ StandsBeforeWalk ms plan s (cycle name) = IsOnCycle ms name
 StandsBeforeWalk ms plan s (image_limit count) = (loaded_total ms ≡ count) × (MOST_IMAGE_BYTES < count)
 StandsBeforeWalk ms plan s _ = ⊥
 
--- The facts that the walk meets. The byte at offset q of an item lies at the counter and q: outside its section where that exact
+-- The facts that the walk finds. The byte at offset q of an item lies at the counter and q: outside its section if that exact
 -- sum is, and at an address that was loaded before, by an earlier step or by the same item.
 abbrev pub StandsInWalk : List Parts → Setting → LocateFact → Type 0
 StandsInWalk ms s (zero_divisor place) = HasZeroDivisor ms s place
@@ -88,7 +88,7 @@ StandsInWalk ms s (overflow section at kind size v) =
     × (value s site (Some at) t ≡ Some v) × ¬ IsTrue (fits s.modulus kind size v)
 StandsInWalk ms s _ = ⊥
 
--- A fact holds. The facts of the walk stand only where no other fact does, link facts included.
+-- A fact holds. A fact of the walk holds only if no other fact does, link facts included.
 abbrev pub LocateFactStands : List Parts → Plan → LocateFact → Type 0
 LocateFactStands ms plan fact = let s = setting ms (planned_bases ms plan) in
     StandsBeforeWalk ms plan s fact

@@ -16,13 +16,13 @@ pub data Step : Type 0 where
   counter_step : (site : Sited) → (section : ℕ) → (value : Tree) → Step
   item_step : (site : Sited) → (section : ℕ) → (item : Item) → Step
 
--- items for the current section, where there is one
+-- items for the current section, if there is one
 abbrev pub item_steps : Sited → Option ℕ → List Item → List Step
 item_steps site None items = []
 item_steps site (Some section) [] = []
 item_steps site (Some section) (item ∷ items) = item_step site (site.first_section + section) item ∷ item_steps site (Some section) items
 
--- the steps of a module's loads, where this section is the current one
+-- the steps of a module's loads, if this section is the current one
 abbrev pub steps_of : Sited → Option ℕ → List Load → List Step
 steps_of site current [] = []
 steps_of site current (SetSection section ∷ loads) = steps_of site (Some section) loads
@@ -35,7 +35,7 @@ abbrev pub steps : List Parts → List Step
 steps ms = flat_map (λ site. steps_of site None site.parts.loads) (sited ms)
 
 -- The counter of a section after some steps, the latest first: the value of the last step that set it, and the lengths
--- of what the section was loaded with since; the section's base where no step set it. That value is found with the
+-- of what the section was loaded with since; the section's base if no step set it. That value is found with the
 -- counter before it, and a counter after a value that is none has none either.
 unfoldable pub counter : Setting → List Step → ℕ → Option ℕ
 counter s [] section = option_map (λ base. base % s.modulus) (slice_get s.bases section)

@@ -1,4 +1,4 @@
--- Where an expression has a value (IEEE Std 695, expressions): where it stands, what it mentions, and the divisors of value 0 on its way.
+-- When an expression has a value (IEEE Std 695, expressions): its place, what it mentions, and the divisors of value 0 on its way.
 use Rattle.std.specs.Prelude.{◌≡◌, ◌≢◌, ℕ, ◌==◌, ◌⊎◌, ◌↔◌, List, [], ◌∷◌, Option, Some, None, Contains, if◌then◌else◌, IsTrue}
 use Rattle.mufom_expr.specs.declared.token.FieldKind.{FieldKind}
 use Rattle.mufom_expr.specs.declared.token.Letter.{Letter}
@@ -25,12 +25,12 @@ use Rattle.mufom_meaning.specs.Walk.{start_trees, debug_trees}
 abbrev pub CounterPlace : Type 0
 CounterPlace = Option (List Step × ℕ)
 
--- the counter there, and none where an expression finds none
+-- the counter there, or none if an expression finds none
 abbrev pub counter_there : Setting → CounterPlace → Option ℕ
 counter_there s None = None
 counter_there s (Some c) = counter s c.0 c.1
 
--- the expression is that of a public, a start or a debug mark, or is in a step of this section after these steps
+-- the expression is that of a public, a start or a debug record, or is in a step of this section after these steps
 abbrev pub IsExpressionAt : List Parts → CounterPlace → Sited → Tree → Type 0
 IsExpressionAt ms None site t =
     ((q : SitedPublic) × StandsIn q (flat_publics ms) × (q.site ≡ site) × (q.entry.value ≡ t))
@@ -62,13 +62,13 @@ abbrev pub section_of : Step → ℕ
 section_of (counter_step site section t) = section
 section_of (item_step site section item) = section
 
--- each expression has a value where it stands, and each section a counter at the steps that set or load it
+-- each expression has a value at its place, and each section a counter at the steps that set or load it
 pub record HaveValues (ms : List Parts) (s : Setting) : Type 0 where
   pub expressions : (c : CounterPlace) (site : Sited) (t : Tree) → IsExpressionAt ms c site t → value s site (counter_there s c) t ≢ None
   pub counters : (earlier : List Step) (step : Step) → IsStepAfter ms earlier step → counter s earlier (section_of step) ≢ None
 
--- Where no link fact stands against modules without a defect, and none that needs no walk, an expression has no
--- value exactly where it, or a public or a counter that it goes through, divides by 0.
+-- If no link fact holds about modules without a defect, and none that needs no walk, an expression has no
+-- value exactly if it, or a public or a counter that it goes through, divides by 0.
 abbrev pub NoneByDivision : Type 0
 NoneByDivision =
     (ms : List Parts) (plan : Plan) → AreValid ms
@@ -77,7 +77,7 @@ NoneByDivision =
     → (c : CounterPlace) (site : Sited) (t : Tree) → IsExpressionAt ms c site t
     → (value s site (counter_there s c) t ≡ None) ↔ MeetsZeroDivisor s c site t
 
--- Where no fact stands against modules without a defect, each expression and each counter has a value.
+-- If no fact holds about modules without a defect, each expression and each counter has a value.
 abbrev pub ValuesExist : Type 0
 ValuesExist =
     (ms : List Parts) (plan : Plan) → AreValid ms → link_answer ms ≡ None → locate_answer ms plan ≡ None

@@ -37,7 +37,7 @@ setting ms bases = record {
 abbrev pub Valuation : Type 0
 Valuation = Sited → Tree → Option ℕ
 
--- the value of a public, where there is one
+-- the value of a public, if there is one
 abbrev pub valuation_of : Valuation → Option SitedPublic → Option ℕ
 valuation_of valuation None = None
 valuation_of valuation (Some q) = valuation q.site q.entry.value
@@ -48,21 +48,21 @@ default_of None = None
 default_of (Some weak) = if weak.size == 0 then Some weak.default else None
 
 -- The value of a reference whose name no public has: the base of the common of this name, whatever the reference itself asks for,
--- and where there is no such common its default.
+-- and if there is no such common, its default.
 abbrev pub unresolved_value : Setting → Reference → Option ℕ
 unresolved_value s reference = if has_name s.commons reference.name then s.common_base reference.name else default_of reference.weak
 
--- a reference has the value of the first public of its name, and where there is none its value without one
+-- a reference has the value of the first public of its name, and if there is none, its value without one
 abbrev pub reference_value : Valuation → Option SitedPublic → Option ℕ → Option ℕ
 reference_value valuation (Some q) unresolved = valuation q.site q.entry.value
 reference_value valuation None unresolved = unresolved
 
--- the value of a reference, where there is one
+-- the value of a reference, if there is one
 abbrev pub valuation_of_reference : Setting → Valuation → Option Reference → Option ℕ
 valuation_of_reference s valuation None = None
 valuation_of_reference s valuation (Some reference) = reference_value valuation (first_named s.publics reference.name) (unresolved_value s reference)
 
--- The values of the variables in a module, where the program counter is pc: R and L the base of a section, S its size, P
+-- The values of the variables in a module, if the program counter is pc: R and L the base of a section, S its size, P
 -- the counter, I the value of a public, X that of a reference. Sections and publics go by their flat numbers, so a position
 -- past the module's own, which no valid module names, would be read from the next one. All numbers are taken modulo the
 -- address space where they are used.
@@ -80,7 +80,7 @@ unfoldable pub value_within : Setting → ℕ → Sited → Option ℕ → Tree 
 value_within s zero site pc t = value_at s.modulus (environment s (λ site' t'. None) site pc) t
 value_within s (suc k) site pc t = value_at s.modulus (environment s (λ site' t'. value_within s k site' None t') site pc) t
 
--- The value: a step for each public is enough, unless the names lead in a circle.
+-- The value: a step for each public is enough, unless the names form a cycle.
 abbrev pub value : Setting → Sited → Option ℕ → Tree → Option ℕ
 value s site pc t = value_within s (length s.publics) site pc t
 

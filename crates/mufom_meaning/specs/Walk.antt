@@ -1,4 +1,4 @@
--- What is met on a walk over the publics, steps, starts and debug expressions of a list of modules, and which of it first.
+-- The facts found on a walk over the publics, steps, starts and debug expressions of a list of modules, and which is found first.
 use Rattle.std.specs.Prelude.{ℕ, zero, suc, ◌+◌, ◌%◌, ◌==◌, List, [], ◌∷◌, ◌++◌, map, flat_map, Option, Some, None, option_map, slice_get, unwrap_or}
 use Rattle.std.specs.Prelude.{Bool, ◌||◌, nat_lt, nat_le, if◌then◌else◌, option_to_list}
 use Rattle.std.specs.List.{enumerate_from, list_any}
@@ -18,11 +18,11 @@ use Rattle.mufom_meaning.specs.Steps.{Step, counter_step, item_step, steps, coun
 use Rattle.mufom_meaning.specs.Facts.{LocateFact, zero_divisor, load_outside, loaded_twice, overflow}
 use Rattle.mufom_meaning.specs.Fields.{fits}
 
--- a division by 0, where the expression at the site has one
+-- a division by 0, if the expression at the site has one
 abbrev pub zero_divisor_at : Setting → Sited → Option ℕ → Tree → Site → Option LocateFact
 zero_divisor_at s site pc t place = if has_zero_divisor s site pc t then Some (zero_divisor place) else None
 
--- what is met at a public
+-- the fact found at a public
 abbrev pub public_fact : Setting → SitedPublic → Option LocateFact
 public_fact s q = zero_divisor_at s q.site None q.entry.value (sites.Public q.entry.name)
 
@@ -65,7 +65,7 @@ abbrev pub overflow_at : ℕ → ℕ → ℕ → FieldKind → ℕ → Option �
 overflow_at modulus section at kind size None = None
 overflow_at modulus section at kind size (Some v) = if fits modulus kind size v then None else Some (overflow section at kind size v)
 
--- what is met at the expression of a field
+-- the fact found at the expression of a field
 abbrev pub field_fact : Setting → Sited → ℕ → ℕ → Item → Option LocateFact
 field_fact s site section at (Literal bytes) = None
 field_fact s site section at (Field kind size t) =
@@ -79,7 +79,7 @@ base_number s section = unwrap_or (slice_get s.bases section) 0
 abbrev pub size_at : Setting → ℕ → ℕ
 size_at s section = unwrap_or (option_map (λ found. found.size) (slice_get s.sections section)) 0
 
--- What is met at an item with this counter: first a byte outside its section, then an address that was loaded, then a
+-- The fact found at an item with this counter: first a byte outside its section, then an address that was loaded, then a
 -- division by 0, then a value that does not fit.
 abbrev pub item_fact : Setting → List Step → Sited → ℕ → Option ℕ → Item → Option LocateFact
 item_fact s earlier site section None item = None
@@ -88,12 +88,12 @@ item_fact s earlier site section (Some at) item =
     or_else (first_twice (loaded_addresses s earlier) (addresses_at s.modulus (Some at) item)
     or_else field_fact s site section at item)
 
--- what is met at a step, after the steps before it, the latest first
+-- the fact found at a step, after the steps before it, the latest first
 abbrev pub step_fact : Setting → List Step → Step → Option LocateFact
 step_fact s earlier (counter_step site section t) = zero_divisor_at s site (counter s earlier section) t (sites.Counter section)
 step_fact s earlier (item_step site section item) = item_fact s earlier site section (counter s earlier section) item
 
--- the first that is met at steps, after those before them
+-- the first fact found at steps, after those before them
 abbrev pub steps_fact : Setting → List Step → List Step → Option LocateFact
 steps_fact s earlier [] = None
 steps_fact s earlier (step ∷ more) = step_fact s earlier step or_else steps_fact s (step ∷ earlier) more
@@ -110,15 +110,15 @@ start_trees ms = flat_map (λ site. map (λ t. (site, t)) (option_to_list site.p
 abbrev pub debug_trees : List Parts → List SitedTree
 debug_trees ms = flat_map (λ site. map (λ t. (site, t)) (expressions_of (marks_of site.parts.debug))) (sited ms)
 
--- what is met at a start
+-- the fact found at a start
 abbrev pub start_fact : Setting → SitedTree → Option LocateFact
 start_fact s e = zero_divisor_at s e.0 None e.1 sites.Start
 
--- what is met at a debug expression, which goes by its number among all
+-- the fact found at a debug expression, which is given by its number among all
 abbrev pub debug_fact : Setting → ℕ × SitedTree → Option LocateFact
 debug_fact s e = zero_divisor_at s e.1.0 None e.1.1 (sites.Debug e.0)
 
--- the first that is met in the publics, the steps, the starts and the debug expressions, in this order
+-- the first fact found in the publics, the steps, the starts and the debug expressions, in this order
 abbrev pub walk_answer : List Parts → Setting → Option LocateFact
 walk_answer ms s =
     first_some (public_fact s) s.publics

@@ -2,8 +2,8 @@
 
 ghost use Rattle.mufom_meaning.specs.FactLaws.{AllAnswersAreFacts, LinkFactsGrow, NoLinkAnswerIsLinkable, CountsAgree, CyclesAreShort};
 
-/// What is returned in place of a link holds, and where nothing is returned no link fact holds. The
-/// same holds of what is returned in place of a location, where no link fact holds.
+/// A fact that is returned in place of a link holds, and if none is returned no link fact holds. The
+/// same is true of a fact that is returned in place of a location, if no link fact holds.
 pub fn answers_are_facts()
     ensures { AllAnswersAreFacts }
 {}
@@ -13,20 +13,20 @@ pub fn link_facts_grow()
     ensures { LinkFactsGrow }
 {}
 
-/// Nothing is returned in place of a link exactly where the list has one descriptor, no public name
+/// Nothing is returned in place of a link exactly if the list has one descriptor, no public name
 /// twice and no more than one start.
 pub fn no_link_answer_is_linkable()
     ensures { NoLinkAnswerIsLinkable }
 {}
 
-/// The bytes that are counted load by load, a repeat by its product, are those that the steps load,
-/// in modules without a defect.
+/// In modules without a defect, the number of bytes that is counted load by load, a repeat by its
+/// product, is the number of bytes that the steps load.
 pub fn counts_agree()
     ensures { CountsAgree }
 {}
 
-/// Some chain of mentions leads back to a name exactly where one no longer than the list of publics
-/// does.
+/// Some chain of mentions leads back to a name exactly if one does that is no longer than the list of
+/// publics.
 pub fn cycles_are_short()
     ensures { CyclesAreShort }
 {}

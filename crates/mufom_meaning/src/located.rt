@@ -6,7 +6,7 @@ use mufom_names::Note;
 use mufom_numbers::{Bytes, List};
 use mufom_sections::Section;
 
-/// What all modules of a link share: how long an address is, and the order of bytes.
+/// What all modules of a link share: the length of an address, and the order of bytes.
 #[derive(Clone, Copy, Debug, PartialEq, Eq)]
 pub struct Descriptor {
     /// How many minimum addressable units (of eight bits) an address has.
@@ -15,7 +15,7 @@ pub struct Descriptor {
     pub order: Order,
 }
 
-/// Where an expression is among those of a list of modules. Sections go by their flat numbers.
+/// The place of an expression in a list of modules. Sections are given by their flat numbers.
 #[derive(Debug, Drop)]
 pub enum Site {
     /// The value of the public of this name.
@@ -34,7 +34,7 @@ pub enum Site {
 #[derive(Debug, Drop)]
 pub struct PublicValue {
     pub name: Bytes,
-    /// A residue modulo the address space, in addressable units where it is an address.
+    /// A residue modulo the address space, in addressable units if it is an address.
     pub value: u64,
     pub notes: List<Note>,
 }
@@ -58,11 +58,11 @@ pub struct LocatedParts {
     /// Each section is absolute and has its base.
     pub sections: List<Section>,
     pub publics: List<PublicValue>,
-    /// The loaded bytes, in rows that are as long as can be, in order of their addresses.
+    /// The loaded bytes, in rows that are as long as possible, in order of their addresses.
     pub runs: List<Run>,
     /// The start address, in addressable units.
     pub start: Option<u64>,
-    /// The debug items, with one number in place of each expression. Sections and names go by their
-    /// positions among those of the whole list.
+    /// The debug items, with one number in place of each expression. Sections and names are given
+    /// by their positions among those of the whole list.
     pub debug: List<DebugItem>,
 }

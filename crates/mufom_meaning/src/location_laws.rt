@@ -4,29 +4,29 @@ ghost use Rattle.mufom_meaning.specs.Valued.{NoneByDivision, ValuesExist};
 ghost use Rattle.mufom_meaning.specs.LocationLaws.{AllValued, LocationsExist, LocationIsSingle, AbsoluteIsLocatedAsItself, AbsoluteIsValid};
 ghost use Rattle.mufom_meaning.specs.LocationLaws.{AbsoluteWeighs, SelectionIsSingle};
 
-/// Where no link fact holds, and none that needs no walk, an expression of modules without a
-/// defect has no value exactly where it, or a public or a counter that it goes through, divides by 0.
+/// If no link fact holds, and none that needs no walk, an expression of modules without a
+/// defect has no value exactly if it, or a public or a counter that it goes through, divides by 0.
 pub fn none_by_division()
     ensures { NoneByDivision }
 {}
 
-/// Where no fact stands against modules without a defect, each expression and each counter has a value.
+/// If no fact holds about modules without a defect, each expression and each counter has a value.
 pub fn values_exist()
     ensures { ValuesExist }
 {}
 
-/// Where no fact stands against modules without a defect, each reading has its values.
+/// If no fact holds about modules without a defect, each reading has its values.
 pub fn all_valued()
     ensures { AllValued }
 {}
 
-/// Where no fact stands against a list of modules without a defect, which is not empty, there is a
+/// If no fact holds about a list of modules without a defect, and the list is not empty, it has a
 /// location.
 pub fn locations_exist()
     ensures { LocationsExist }
 {}
 
-/// A list has one location by a plan at most.
+/// A list has at most one location by a plan.
 pub fn location_is_single()
     ensures { LocationIsSingle }
 {}
@@ -37,7 +37,7 @@ pub fn absolute_is_located_as_itself()
     ensures { AbsoluteIsLocatedAsItself }
 {}
 
-/// The module that a location of modules without a defect is written as has no defect, where it is
+/// The module that a location of modules without a defect is written as has no defect, if it is
 /// not too heavy.
 pub fn absolute_is_valid()
     ensures { AbsoluteIsValid }

@@ -122,7 +122,7 @@ mode_of-take : (items : Bool) (used b : ℕ) (bytes : List ℕ) → 0 < used →
 mode_of-take items zero b bytes h = absurd (omega (arith, h))
 mode_of-take items (suc used) b bytes h = refl
 
--- the records of a part are whole, and have its bytes
+-- the records of a part are complete, and have its bytes
 pub cut-whole : (n : ℕ) (items : Bool) (bytes after : List ℕ) (records : List SpelledRecord) → AreBytes (bytes ++ after) → cut n items bytes after
     ≡ Some records
     → AreWhole items records after × (bytes_of records ≡ bytes)

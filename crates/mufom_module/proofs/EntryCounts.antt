@@ -1,4 +1,4 @@
--- A module has no more entries of a kind than it weighs.
+-- The number of entries of each kind in a module is at most its weight.
 use Rattle.std.proofs.Common.{ℕ, ◌<◌, ◌≤◌, List, [], ◌∷◌, length, sum_by, arith}
 use Rattle.std.proofs.lemmas.List.Sums.{sum_by-cons}
 use Rattle.mufom_module.specs.declared.module.Parts.{Parts}
@@ -6,7 +6,7 @@ use Rattle.mufom_module.specs.Written.{weight}
 use Rattle.mufom_module.specs.Weights.{section_weight, public_weight, reference_weight}
 use Rattle.mufom_module.proofs.WeightLaws.{weight-sum}
 
--- where each element weighs something, there are no more than they weigh
+-- if the weight of each element is above 0, their number is at most their total weight
 pub counted : {X : Type 0} (w : X → ℕ) → ((x : X) → 0 < w x) → (xs : List X) → length xs ≤ sum_by w xs
 counted w some [] = omega arith
 counted w some (x ∷ xs) = let a = some x in let b = sum_by-cons w x xs in let rest = counted w some xs in omega (arith, a, b, rest)

@@ -1,4 +1,4 @@
--- What items load is no longer than they weigh.
+-- The bytes that items load are at most their weight.
 use Rattle.std.proofs.Common.{◌≡◌, ℕ, ◌≤◌, ◌==◌, Bool, true, false, ◌||◌, List, [], ◌∷◌, sum_by, refl, arith, rules}
 use Rattle.std.specs.Prelude.{nat_lt}
 use Rattle.std.specs.List.{list_any}

@@ -1,4 +1,4 @@
--- What holds of the begin, of the items' marks and of the end of a block holds of its marks.
+-- What holds for the start, the items' marks and the end of a block holds for all its marks.
 use Rattle.std.proofs.Common.{[], ◌∷◌, ◌++◌, subst, sym}
 use Rattle.std.specs.Prelude.{All}
 use Rattle.std.proofs.lemmas.List.Elements.{All-nil, All-cons, All-append}

@@ -131,7 +131,7 @@ is_present : (w at : ℕ) (offsets : List ℕ) → w ≡ at → 0 < at → first
 is_present zero at offsets e h = absurd (omega (arith, e, h))
 is_present (suc w) at offsets e h = e
 
--- it is the place where the parts begin
+-- it is the offset at which the parts start
 present : (offsets : List ℕ) (at : ℕ) (parts : List (List ℕ)) → 0 < at → StandAt offsets at parts → first_present offsets ≡ at
 present offsets at [] h stand = ap first_present stand ∙ is_present at at [] refl h
 present [] at (part ∷ parts) h stand = absurd stand

@@ -32,7 +32,7 @@ found p x xs h = by_case (p x) h where
   by_case true e = absurd cc
   by_case false e = refl
 
--- no field of a valid module has another size than 1 to 8
+-- each field of a valid module has a size of 1 to 8 bytes
 pub fields_fit : (m : Parts) → IsValid m → list_any (any_item has_bad_size) m.loads ≡ false
 fields_fit m valid =
     found (has_defect m) d.FieldSize (d.Attribute ∷ d.Nesting ∷ d.Weight ∷ [])

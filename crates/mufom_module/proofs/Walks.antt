@@ -24,7 +24,7 @@ any_mark_next p items i d inside =
     ap (λ xs. list_any p (marks_of xs)) (next_of items i d inside)
     ∙ list_any-append p (marks_of_item (get_or items i d)) (marks_of (drop (i + 1) items))
 
--- a test of a block's marks looks at its begin, its items' and its end
+-- a test of a block's marks looks at its start, those of its items, and its end
 pub any_mark-Block : (p : DebugMark → Bool) (b : Block-F DebugItem (Unit {0}))
     → list_any p (marks_of_item (block_case b)) ≡ (p (block_begin b.head b.name) || (list_any p (marks_of b.items) || p (block_end b.end)))
 any_mark-Block p b =
@@ -32,7 +32,7 @@ any_mark-Block p b =
     ∙ ap (λ rest. p (block_begin b.head b.name) || rest) (list_any-append p (marks_of b.items) (block_end b.end ∷ [])
     ∙ ap (λ e. list_any p (marks_of b.items) || e) (or-false (p (block_end b.end))))
 
--- the same of blocks
+-- the same for blocks
 pub any_block_next : (p : HeadAndEnd → Bool) (items : List DebugItem) (i : ℕ) (d : DebugItem) → i < length items
     → list_any p (blocks_of (drop i items)) ≡ (list_any p (blocks_of_item (get_or items i d)) || list_any p (blocks_of (drop (i + 1) items)))
 any_block_next p items i d inside =
@@ -77,7 +77,7 @@ declared_after-Block n b =
     ∙ declared_after-append n (marks_of b.items) (block_end b.end ∷ [])
     ∙ end-declares b.end (declared_after n (marks_of b.items))
 
--- what is declared after the items that are left is known by the next item and the rest
+-- what is declared after the remaining items follows from the next item and the rest
 pub declared_next : (n : ℕ) (items : List DebugItem) (i : ℕ) (d : DebugItem) → i < length items
     → declared_after n (marks_of (drop i items)) ≡ option_and_then (λ k. declared_after k (marks_of (drop (i + 1) items)))
     (declared_after n (marks_of_item (get_or items i d)))

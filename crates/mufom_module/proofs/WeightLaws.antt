@@ -29,7 +29,7 @@ use Rattle.mufom_module.specs.Weights.{alignment_weight, size_weight, base_weigh
 use Rattle.mufom_module.specs.Weights.{default_weight, weak_weight, reference_weight, head_weight, mark_weight, marks_weight, item_weight}
 use Rattle.mufom_module.specs.Weights.{items_weight, load_weight, start_weight, parts_weight}
 
--- entries whose forms have these lengths, wherever they stand
+-- entries whose forms have these lengths, whatever their positions
 length-each_from : {X : Type 0} (write : ℕ → X → List ℕ) (size : X → ℕ) → ((n : ℕ) (x : X) → length (write n x) ≡ size x)
     → (n : ℕ) (xs : List X) → length (w.each_from n write xs) ≡ sum_by size xs
 length-each_from write size each n [] = refl

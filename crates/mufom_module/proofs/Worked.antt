@@ -1,4 +1,4 @@
--- A small absolute module: it is valid, its written form has these 122 bytes, and it weighs 298.
+-- A small absolute module: it is valid, its written form has these 122 bytes, and its weight is 298 bytes.
 use Rattle.std.proofs.Common.{◌≡◌, true, [], ◌∷◌, Some, refl}
 use Rattle.mufom_expr.specs.Tree.{number, variable}
 use Rattle.mufom_expr.specs.declared.token.Letter.TheVariants as letters

@@ -1,4 +1,4 @@
--- Files that are none: an offset a byte late, an index that is not declared, an index that is declared twice, a value that
+-- Bytes that are not the file of a module: an offset a byte late, an index that is not declared, an index that is declared twice, a value that
 -- is stated twice, bytes before a section is set, and a record in another part.
 use Rattle.std.proofs.Common.{◌≡◌, ◌⊎◌, ℕ, true, false, List, [], ◌∷◌, None, refl, inl, inr, arith}
 use Rattle.mufom_records.specs.declared.record.Record.TheVariants as r
@@ -9,7 +9,7 @@ use Rattle.mufom_module.specs.Grammar.{StandAt, declares_again, states_again, na
 use Rattle.mufom_module.proofs.Cutting.{spelled, cut}
 use Rattle.mufom_module.proofs.WorkedFile.{absolute_code}
 
--- parts of 23, 14 and 5 bytes after a header of 77, where the data part is stated to begin at 101 and not at 100
+-- parts of 23, 14 and 5 bytes after a header of 77, whose data part is stated to begin at 101 instead of 100
 abbrev data_bytes : List ℕ
 data_bytes = 0xE5 ∷ 0x01 ∷ 0xE2 ∷ 0xD0 ∷ 0x01 ∷ 0x82 ∷ 0x10 ∷ 0x00 ∷ 0xED ∷ 0x04 ∷ 0x4E ∷ 0x71 ∷ 0x4E ∷ 0x75 ∷ []
 
@@ -28,7 +28,7 @@ late h = elsewhere_than h.1.1.1.1.1.0 where
 abbrev before : List SpelledRecord
 before = absolute_code
 
--- SB of index 2, where 1 is declared
+-- SB of index 2, when only 1 is declared
 unknown : names_unknown before (spelled (r.SetSection 2) (0xE5 ∷ 0x02 ∷ [])) ≡ true
 unknown = refl
 
@@ -47,14 +47,14 @@ again = refl
 twice : states_again before (r.SectionBase 1 0) ≡ true
 twice = refl
 
--- an LR without items, where no section is set
+-- an LR without items, when no section is set
 nowhere : has_no_section before r.Relocate ≡ true
 nowhere = refl
 
--- SB stands in the data part alone
+-- SB occurs only in the data part
 elsewhere : stands_in external_part (r.SetSection 1) ≡ false
 elsewhere = refl
 
--- an item that begins a part is no record
+-- an item cannot be the first record of a part
 no_item : cut 2 false (0x01 ∷ 0x4E ∷ []) (0xE1 ∷ []) ≡ None
 no_item = refl

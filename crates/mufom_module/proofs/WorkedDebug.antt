@@ -1,4 +1,4 @@
--- A debug part of 48 bytes: its records are whole, stand in it, and are these marks.
+-- A debug part of 48 bytes: its records are complete, belong to it, and are these marks.
 use Rattle.std.proofs.Common.{◌≡◌, List, [], ◌∷◌, Some, None, refl}
 use Rattle.mufom_expr.specs.Tree.{number, variable, two, plus}
 use Rattle.mufom_expr.specs.declared.token.Letter.TheVariants as letters

@@ -48,7 +48,7 @@ absolute_code = spelled (r.SectionType 1 true (Some 0xD0) (span_at 6 4) None Non
 
 -- ---- a file whose facts are computed
 
--- the bytes from a part on are bytes, the records are cut off them, and they stand in the part
+-- the bytes from a part on are bytes, the records are cut off them, and they belong to the part
 abbrev pub PartTests : Part → List SpelledRecord → List ℕ → Type 0
 PartTests part records after = (list_all (λ b. nat_lt b 256) (bytes_of records ++ after) ≡ true)
     × (cut (suc (length records)) false (bytes_of records) after ≡ Some records) × (list_all (λ p. stands_in part p.row) records ≡ true)
@@ -109,7 +109,7 @@ module _ (m : Parts) (bytes : List ℕ) (reads_debug : Bool) (f : FileParts) whe
     start = start;
   }
 
-  -- the offsets stand where they should, and all else is computed
+  -- the offsets are those of the parts, and all else is computed
   pub spells : IsValid m → StandAt (offsets_in f.offsets) (length (bytes_of (header_of f))) (parts_of f) → FileTests bytes reads_debug f → NameTests f
       → StateTests f m
       → SpellsModule m bytes reads_debug

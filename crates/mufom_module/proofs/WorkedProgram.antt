@@ -1,4 +1,4 @@
--- A relocatable module with all parts but the debug part, record by record: its 164 bytes are its file.
+-- A relocatable module with all parts except the debug part, record by record: its 164 bytes are its file.
 use Rattle.std.proofs.Common.{ℕ, true, false, List, [], ◌∷◌, Some, None, refl, inl, inr}
 use Rattle.mufom_expr.specs.Tree.{Tree, number, variable, two, plus, minus}
 use Rattle.mufom_expr.specs.declared.token.Letter.TheVariants as letters

@@ -13,7 +13,7 @@ use Rattle.mufom_debug.specs.declared.item.DebugItem.TheOpen.{DebugItem-F, Block
 use Rattle.mufom_debug.specs.Marks.{DebugMark, block_begin, block_end, name_mark, note_mark, value_mark, joined, marks_of, offset_of}
 use Rattle.mufom_module.specs.declared.module.Parts.{Parts}
 
--- the value, where there is one, passes the test
+-- there is a value, and it passes the test
 abbrev pub any_of : {X : Type 0} → (X → Bool) → Option X → Bool
 any_of test None = false
 any_of test (Some x) = test x
@@ -30,7 +30,7 @@ any_expression test (name_mark name) = false
 any_expression test (note_mark name note) = false
 any_expression test (value_mark name value) = test value
 
--- an item of a load passes the test, of a repeat too
+-- an item of a load, or of a repeat, passes the test
 abbrev pub any_item : (Item → Bool) → Load → Bool
 any_item test (SetSection section) = false
 any_item test (SetPc section value) = false

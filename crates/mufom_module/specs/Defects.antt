@@ -1,4 +1,4 @@
--- What keeps the parts of a module from being a valid module: thirteen tests, in the order in which they are tried.
+-- What keeps parts from being a valid module: thirteen defects, in the order in which they are checked.
 use Rattle.std.specs.Prelude.{◌≡◌, ℕ, ◌+◌, ◌^◌, ◌==◌, ◌&&◌, ◌||◌, nat_lt, nat_le, Bool, true, false, not, List, [], ◌∷◌, length, Option, Some, None}
 use Rattle.std.specs.Prelude.{is_some, is_none, if◌then◌else◌, option_and_then}
 use Rattle.std.specs.List.{list_any, find}
@@ -28,7 +28,7 @@ use Rattle.mufom_module.specs.Written.{weight}
 
 -- ---- strings, sections, sizes
 
--- a string of more than 65,535 bytes, which no lead can tell
+-- a string of more than 65,535 bytes, for which there is no lead
 abbrev pub is_long : List ℕ → Bool
 is_long text = nat_lt 65535 (length text)
 
@@ -49,7 +49,7 @@ has_long_string m = is_long m.processor || (is_long m.name
     || (list_any (λ r. is_long r.name) m.names.references
     || list_any has_long_name (debug_marks m)))))
 
--- an address has 1 to 8 addressable units
+-- the size of an address is 1 to 8 addressable units
 abbrev pub is_unit_count : ℕ → Bool
 is_unit_count n = nat_le 1 n && nat_le n 8
 
@@ -73,11 +73,11 @@ has_bad_size (Field kind size value) = (size == 0) || nat_lt 8 size
 
 -- ---- positions
 
--- how many entries the lists of a module have
+-- the number of entries in each list of a module
 abbrev pub counts_of : Parts → Counts
 counts_of m = record { sections = length m.sections; publics = length m.names.publics; references = length m.names.references }
 
--- how many entries the list has that a letter speaks of
+-- the number of entries in the list to which a letter belongs
 abbrev pub count_for : Counts → Letter → ℕ
 count_for n I = n.publics
 count_for n L = n.sections
@@ -86,7 +86,7 @@ count_for n R = n.sections
 count_for n S = n.sections
 count_for n X = n.references
 
--- a variable that names no entry
+-- a variable whose position is outside its list
 abbrev pub is_outside : Counts → Letter × ℕ → Bool
 is_outside n v = nat_le (count_for n v.0) v.1
 
@@ -94,7 +94,7 @@ is_outside n v = nat_le (count_for n v.0) v.1
 abbrev pub names_outside : Counts → Tree → Bool
 names_outside n tree = list_any (is_outside n) (variables_of tree)
 
--- a load that names a section which the module does not have
+-- a load that names a section that the module does not have
 abbrev pub names_no_section : Counts → Load → Bool
 names_no_section n (SetSection section) = nat_le n.sections section
 names_no_section n (SetPc section value) = nat_le n.sections section
@@ -105,7 +105,7 @@ names_no_section n (Repeat count items) = false
 abbrev pub has_bad_place : Counts → Load → Bool
 has_bad_place n load = names_no_section n load || load_any (names_outside n) load
 
--- a block of a section that the module does not have
+-- a block for a section that the module does not have
 abbrev pub names_bad_section : Counts → BlockHead → Bool
 names_bad_section n heads.Module = false
 names_bad_section n (heads.Global stack type_index offset) = false
@@ -113,7 +113,7 @@ names_bad_section n (heads.Source numbers) = false
 names_bad_section n (heads.Local stack type_index offset) = false
 names_bad_section n (heads.Section section_type section offset) = nat_le n.sections section
 
--- a mark that begins a block of a section which the module does not have
+-- a mark that begins a block for a section that the module does not have
 abbrev pub begins_badly : Counts → DebugMark → Bool
 begins_badly n (block_begin head name) = names_bad_section n head
 begins_badly n (block_end end) = false
@@ -121,11 +121,11 @@ begins_badly n (name_mark name) = false
 begins_badly n (note_mark name note) = false
 begins_badly n (value_mark name value) = false
 
--- a mark of the debug part that names no section, or has such a variable
+-- a mark of the debug part that begins such a block, or has such a variable
 abbrev pub has_bad_mark : Counts → DebugMark → Bool
 has_bad_mark n mark = begins_badly n mark || any_expression (names_outside n) mark
 
--- how many debug names are declared after a mark, and none where it uses one that is not declared yet
+-- the number of debug names declared after a mark, or none if the mark uses one that is not declared yet
 abbrev pub declared_after_mark : ℕ → DebugMark → Option ℕ
 declared_after_mark n (block_begin head name) = Some n
 declared_after_mark n (block_end end) = Some n
@@ -133,12 +133,12 @@ declared_after_mark n (name_mark name) = Some (n + 1)
 declared_after_mark n (note_mark name note) = if nat_lt name n then Some n else None
 declared_after_mark n (value_mark name value) = if nat_lt name n then Some n else None
 
--- the same of marks, one after another
+-- the same for marks, one after another
 abbrev pub declared_after : ℕ → List DebugMark → Option ℕ
 declared_after n [] = Some n
 declared_after n (mark ∷ marks) = option_and_then (λ k. declared_after k marks) (declared_after_mark n mark)
 
--- a variable, a load or a block names an entry that is not in its list, or a debug name is used before it is declared
+-- a variable, a load or a block has a position outside its list, or a debug name is used before it is declared
 abbrev pub has_bad_position : Parts → Bool
 has_bad_position m = let n = counts_of m in
     list_any (λ p. names_outside n p.value) m.names.publics
@@ -154,7 +154,7 @@ abbrev pub is_this : Option ℕ → ℕ → Bool
 is_this None place = false
 is_this (Some section) place = section == place
 
--- a program counter of another section than this one, or any where no section is given
+-- the program counter of a section other than this one, or any program counter if no section is given
 abbrev pub is_other_counter : Option ℕ → Letter × ℕ → Bool
 is_other_counter allowed (I, place) = false
 is_other_counter allowed (L, place) = false
@@ -167,18 +167,18 @@ is_other_counter allowed (X, place) = false
 abbrev pub has_other_counter : Option ℕ → Tree → Bool
 has_other_counter allowed tree = list_any (is_other_counter allowed) (variables_of tree)
 
--- the section whose program counter the expressions of a load may name: the one that is set, or the current one
+-- the section whose program counter the expressions of a load may use: the one whose counter it sets, or the current one
 abbrev pub counter_of : Option ℕ → Load → Option ℕ
 counter_of current (SetSection section) = current
 counter_of current (SetPc section value) = Some section
 counter_of current (One item) = current
 counter_of current (Repeat count items) = current
 
--- a load, with the section that is current before it, that names another program counter than it may
+-- a load, with the section that is current before it, that uses a program counter other than the one that it may use
 abbrev pub misplaces_counter : Option ℕ × Load → Bool
 misplaces_counter p = load_any (has_other_counter (counter_of p.0 p.1)) p.1
 
--- a program counter in a public, a start or a debug expression, or of another section than a load may name
+-- a program counter in a public, the start or a debug expression, or one in a load that the load may not use
 abbrev pub has_misplaced_counter : Parts → Bool
 has_misplaced_counter m = list_any (λ p. has_other_counter None p.value) m.names.publics
     || (any_of (has_other_counter None) m.start
@@ -194,11 +194,11 @@ is_loading (SetPc section value) = false
 is_loading (One item) = true
 is_loading (Repeat count items) = true
 
--- such a load before any section is set
+-- such a load while no section is set
 abbrev pub loads_nowhere : Option ℕ × Load → Bool
 loads_nowhere p = is_none p.0 && is_loading p.1
 
--- a note of a debug name with another attribute than the format has
+-- a note of a debug name with an attribute that the format does not have
 abbrev pub has_unknown_attribute : DebugMark → Bool
 has_unknown_attribute (block_begin head name) = false
 has_unknown_attribute (block_end end) = false
@@ -245,15 +245,15 @@ has_defect m d.Attribute = list_any has_unknown_attribute (debug_marks m)
 has_defect m d.Nesting = list_any has_bad_end (blocks_of m.debug)
 has_defect m d.Weight = nat_le (2 ^ 32) (weight m)
 
--- in the order in which they are tried
+-- the defects in the order in which they are checked
 abbrev pub defects : List Defect
 defects = d.Depth ∷ d.LongId ∷ d.BadMaus ∷ d.BadAlign ∷ d.MissingBase ∷ d.Position ∷ d.MisplacedP ∷ d.NoSection
     ∷ d.LongRun ∷ d.FieldSize ∷ d.Attribute ∷ d.Nesting ∷ d.Weight ∷ []
 
--- the first defect of the parts, where they have one
+-- the first defect of the parts, if they have one
 abbrev pub first_defect : Parts → Option Defect
 first_defect m = find (has_defect m) defects
 
--- none of the defects is in the parts
+-- the parts have none of the defects
 abbrev pub IsValid : Parts → Type 0
 IsValid m = first_defect m ≡ None

@@ -25,7 +25,7 @@ use Rattle.mufom_debug.specs.declared.item.BlockHead.TheVariants as head
 use Rattle.mufom_debug.specs.Marks.{DebugMark, block_begin, block_end, name_mark, note_mark, value_mark}
 use Rattle.mufom_module.specs.SpelledRecords.{SpelledRecord, text_in, tree_in, position_in, positioned}
 
--- what records answer to a question, in order
+-- the results of a function on the records, in order, without the records for which it has none
 abbrev pub answers : {X : Type 0} → (Record → Option X) → List SpelledRecord → List X
 answers ask records = filter_map (λ p. ask p.row) records
 
@@ -33,7 +33,7 @@ answers ask records = filter_map (λ p. ask p.row) records
 abbrev pub first_answer : {X : Type 0} → (Record → Option X) → List SpelledRecord → Option X
 first_answer ask records = slice_get (answers ask records) 0
 
--- the value, where the indexes are the same
+-- the value, if the indexes are the same
 abbrev pub for_index : {X : Type 0} → ℕ → ℕ → X → Option X
 for_index i j x = if i == j then Some x else None
 
@@ -58,7 +58,7 @@ base_for i _ = None
 abbrev pub purpose_of : ℕ → Purpose
 purpose_of b = if b == LETTER_P then purpose.Code else (if b == LETTER_D then purpose.Data else purpose.Rom)
 
--- the section that a record declares, with what the part's records state of it: size 0 and alignment 1 where none does
+-- the section that a record declares, with what the part's records state about it; by default the size is 0 and the alignment 1
 abbrev pub section_by : List SpelledRecord → SpelledRecord → Record → Option Section
 section_by part p (r.SectionType i absolute letter name _ _ _) = Some (record {
   name = text_in p name;
@@ -76,7 +76,7 @@ sections_of part = filter_map (λ p. section_by part p p.row) part
 
 -- ---- names
 
--- a note of these numbers
+-- a note with these numbers
 abbrev pub note_of : ℕ → ℕ → ArrayVec ℕ → Note
 note_of type_index attribute ns = record { type_index = type_index; attribute = attribute; numbers = ns }
 
@@ -90,7 +90,7 @@ abbrev pub reference_note_for : ℕ → Record → Option Note
 reference_note_for i (r.ReferenceNote j type_index attribute ns) = for_index i j (note_of type_index attribute ns)
 reference_note_for i _ = None
 
--- WX: its size, and the default, 0 where none is stated
+-- WX: its size, and its default, which is 0 if none is stated
 abbrev pub weak_for : ℕ → Record → Option Weak
 weak_for i (r.WeakReference j n default) = for_index i j (record { size = n; default = unwrap_or default 0 })
 weak_for i _ = None
@@ -104,7 +104,7 @@ value_for i p _ = None
 abbrev pub value_of : Indexes → ℕ → List SpelledRecord → Tree
 value_of ix i part = positioned ix (unwrap_or (slice_get (filter_map (λ p. value_for i p p.row) part) 0) (number 0))
 
--- the public that a record declares, with what the part's records state of it
+-- the public that a record declares, with what the part's records state about it
 abbrev pub public_by : Indexes → List SpelledRecord → SpelledRecord → Record → Option Public
 public_by ix part p (r.PublicName i name) = Some (record {
   name = text_in p name;
@@ -117,7 +117,7 @@ public_by ix part p _ = None
 abbrev pub publics_of : Indexes → List SpelledRecord → List Public
 publics_of ix part = filter_map (λ p. public_by ix part p p.row) part
 
--- the reference that a record declares, with what the part's records state of it; it is strong where none makes it weak
+-- the reference that a record declares, with what the part's records state about it; it is strong if there is no WX for it
 abbrev pub reference_by : List SpelledRecord → SpelledRecord → Record → Option Reference
 reference_by part p (r.ReferenceName i name) = Some (record {
   name = text_in p name;
@@ -132,7 +132,7 @@ references_of part = filter_map (λ p. reference_by part p p.row) part
 
 -- ---- debug items
 
--- the head of a block, by its kind and what the kind adds
+-- the head of a block, by its kind and the fields of that kind
 abbrev pub head_by : Indexes → SpelledRecord → ℕ → BlockTail → BlockHead
 head_by ix p kind tail.Module = head.Module
 head_by ix p kind (tail.Scope stack type_index offset) = let value = positioned ix (tree_in p offset) in
@@ -155,13 +155,13 @@ marks ix part = filter_map (λ p. mark_by ix p p.row) part
 
 -- ---- loads
 
--- the item that a record is; where no size is given a field is as wide as an address
+-- the item that a record is; a field without a size is as wide as an address
 abbrev pub item_by : Indexes → ℕ → SpelledRecord → Record → Option Item
 item_by ix maus p (r.ConstantItem run) = Some (Literal (text_in p run))
 item_by ix maus p (r.FieldItem kind value n) = Some (Field kind (unwrap_or n maus) (positioned ix (tree_in p value)))
 item_by ix maus p _ = None
 
--- the items at the start of these records, up to the first record that is none
+-- the items at the start of these records, up to the first record that is not an item
 abbrev pub items_at_prefix : Indexes → ℕ → List SpelledRecord → List Item
 items_at_prefix ix maus [] = []
 items_at_prefix ix maus (p ∷ records) = with_rest (item_by ix maus p p.row) (items_at_prefix ix maus records) where
@@ -169,7 +169,7 @@ items_at_prefix ix maus (p ∷ records) = with_rest (item_by ix maus p p.row) (i
   with_rest None items = []
   with_rest (Some item) items = item ∷ items
 
--- the loads that a record states, where these items are after it: an LR its items, an RE of an LR the repeat of them
+-- the loads that a record states, given the items after it: an LR loads them, an RE of an LR repeats them
 abbrev pub loads_by : Indexes → SpelledRecord → List Item → Record → List Load
 loads_by ix p items (r.SetSection i) = SetSection (position_in ix.sections i) ∷ []
 loads_by ix p items (r.SetPc i value) = SetPc (position_in ix.sections i) (positioned ix (tree_in p value)) ∷ []

@@ -37,7 +37,7 @@ pub record FileParts : Type 0 where
   pub sections : List SpelledRecord
   pub externals : List SpelledRecord
   pub debug : List SpelledRecord
-  -- the bytes of a debug part that is not read
+  -- the bytes of a debug part that is passed over
   pub skipped : List ℕ
   pub loads : List SpelledRecord
   pub trailer : List SpelledRecord
@@ -86,7 +86,7 @@ after_header f = f.extension ++ (f.environment ++ from_sections f)
 
 -- ---- records that fill a part
 
--- the records are whole ones of these modes, one each, with these bytes after them
+-- the records are complete, one for each of these modes, and these bytes follow them
 abbrev pub AreOfModes : List Mode → List SpelledRecord → List ℕ → Type 0
 AreOfModes [] [] after = Unit {0}
 AreOfModes (m ∷ modes) (p ∷ records) after = IsWholeRecord m p.row p.bytes (first_of (bytes_of records ++ after) None) × AreOfModes modes records after
@@ -97,13 +97,13 @@ abbrev pub header_modes : List Mode
 header_modes = mode.Begin ∷ mode.Descriptor ∷ mode.Offset 0 ∷ mode.Offset 1 ∷ mode.Offset 2 ∷ mode.Offset 3 ∷ mode.Offset 4
     ∷ mode.Offset 5 ∷ mode.Offset 6 ∷ mode.Offset 7 ∷ []
 
--- whole records, and items where items may stand and after an LR, with these bytes after them
+-- the records are complete (items may occur after an LR, and at the start if the flag is true), and these bytes follow them
 abbrev pub AreWhole : Bool → List SpelledRecord → List ℕ → Type 0
 AreWhole items [] after = Unit {0}
 AreWhole items (p ∷ records) after = IsWholeRecord (mode_of items p.bytes) p.row p.bytes (first_of (bytes_of records ++ after) None)
     × AreWhole (opens_items p.row) records after
 
--- whole records of this part, which begins with no item
+-- complete records of this part, the first of which is not an item
 pub record IsPart (part : Part) (records : List SpelledRecord) (after : List ℕ) : Type 0 where
   pub are_whole : AreWhole false records after
   pub own : list_all (λ p. stands_in part p.row) records ≡ true
@@ -119,13 +119,13 @@ offset_in _ = None
 abbrev pub offsets_in : List SpelledRecord → List ℕ
 offsets_in records = filter_map (λ p. offset_in p.row) records
 
--- each offset is that of the first byte of its part, or 0 where the part is empty; the last is where they end
+-- each offset is that of the first byte of its part, or 0 if the part is empty; the last one is the offset of their end
 abbrev pub StandAt : List ℕ → ℕ → List (List ℕ) → Type 0
 StandAt offsets at [] = offsets ≡ at ∷ []
 StandAt [] at (bytes ∷ parts) = ⊥
 StandAt (w ∷ offsets) at (bytes ∷ parts) = ((w ≡ at) ⊎ ((w ≡ 0) × (bytes ≡ []))) × StandAt offsets (at + length bytes) parts
 
--- the most bytes of a file
+-- the greatest length of a file, in bytes
 abbrev pub file_limit : ℕ
 file_limit = MOST_FILE_BYTES
 
@@ -157,11 +157,11 @@ indexes_of f = record {
 abbrev pub records_of : FileParts → List SpelledRecord
 records_of f = f.sections ++ (f.externals ++ (f.debug ++ (f.loads ++ f.trailer)))
 
--- the record declares an index that its kind has
+-- the record declares an index that its kind has already
 abbrev pub declares_again : List SpelledRecord → Record → Bool
 declares_again before row = any_of (is_declared before) (declared_by row)
 
--- it states for an index what may be stated once, and was stated
+-- it states something for an index that may be stated only once, and was stated before
 abbrev pub states_again : List SpelledRecord → Record → Bool
 states_again before row = any_of (is_assigned before) (assigned_by row)
 
@@ -173,14 +173,14 @@ names_unknown before p = not (list_all (is_declared before) (named_at_once p))
 abbrev pub has_no_section : List SpelledRecord → Record → Bool
 has_no_section before row = is_loading row && not (list_any (λ q. is_set_section q.row) before)
 
--- what a record must keep to, after those before it in the file
+-- the conditions on a record, given the records before it in the file
 pub record Follows (before : List SpelledRecord) (p : SpelledRecord) : Type 0 where
   pub new : declares_again before p.row ≡ false
   pub known : names_unknown before p ≡ false
   pub once : states_again before p.row ≡ false
   pub placed : has_no_section before p.row ≡ false
 
--- each record keeps to it, after those before it
+-- each record meets these conditions
 abbrev pub FollowFrom : List SpelledRecord → List SpelledRecord → Type 0
 FollowFrom before [] = Unit {0}
 FollowFrom before (p ∷ records) = Follows before p × FollowFrom (before ++ p ∷ []) records
@@ -195,7 +195,7 @@ pub record HasNames (f : FileParts) : Type 0 where
 
 -- ---- the module
 
--- the letter of an order of bytes; no letter is the most significant byte first
+-- the letter of an order of bytes; without a letter the most significant byte comes first
 abbrev pub IsLetterOf : Order → Option ℕ → Type 0
 IsLetterOf Least letter = letter ≡ Some LETTER_L
 IsLetterOf Most letter = (letter ≡ Some LETTER_M) ⊎ (letter ≡ None)

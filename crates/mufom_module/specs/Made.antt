@@ -1,5 +1,5 @@
--- What the parts of a module have by the types that hold them: numbers, positions, bytes and expressions within their
--- bounds. A law on all parts that writes or reads them has it as its premise.
+-- The bounds that the parts of a module have by their types: those of numbers, positions, bytes and
+-- expressions. A law on all parts that writes or reads them has it as its premise.
 use Rattle.std.specs.Prelude.{ℕ, ◌<◌, ◌≤◌, ◌^◌, length, All, IfSome}
 use Rattle.std.specs.List.{AllByRecursion}
 use Rattle.mufom_numbers.specs.Spelling.{AreBytes}
@@ -31,14 +31,14 @@ IsPosition n = n < 2 ^ 32
 abbrev pub IsMadeTree : Tree → Type 0
 IsMadeTree tree = (length (tokens_of tree) ≤ 255) × AllByRecursion IsInRange (tokens_of tree)
 
--- the name is of bytes, the numbers have 64 bits
+-- the name consists of bytes, the numbers have 64 bits
 pub record IsMadeSection (s : Section) : Type 0 where
   pub name : AreBytes s.name
   pub size : IsNumber s.size
   pub align : IsNumber s.align
   pub base : IfSome s.base IsNumber
 
--- at most four numbers are after the type and the attribute
+-- a note has at most four numbers besides the type and the attribute
 pub record IsMadeNote (note : Note) : Type 0 where
   pub type_index : IsNumber note.type_index
   pub attribute : IsNumber note.attribute
@@ -49,24 +49,24 @@ pub record IsMadeNote (note : Note) : Type 0 where
 abbrev pub IsMadeWeak : Weak → Type 0
 IsMadeWeak weak = IsNumber weak.size × IsNumber weak.default
 
--- a name of bytes, an expression, and notes
+-- a name that consists of bytes, an expression, and notes
 pub record IsMadePublic (p : Public) : Type 0 where
   pub name : AreBytes p.name
   pub value : IsMadeTree p.value
   pub notes : All IsMadeNote p.notes
 
--- a name of bytes, what makes it weak, and notes
+-- a name that consists of bytes, a weak part, and notes
 pub record IsMadeReference (r : Reference) : Type 0 where
   pub name : AreBytes r.name
   pub weak : IfSome r.weak IsMadeWeak
   pub notes : All IsMadeNote r.notes
 
--- a literal is of bytes, and the size of a field is one
+-- a literal consists of bytes, and the size of a field is below 256
 abbrev pub IsMadeItem : Item → Type 0
 IsMadeItem (Literal bytes) = AreBytes bytes
 IsMadeItem (Field kind size value) = IsMadeTree value × (size < 256)
 
--- what a load names and holds
+-- the section and the contents of a load are within their bounds
 abbrev pub IsMadeLoad : Load → Type 0
 IsMadeLoad (SetSection section) = IsPosition section
 IsMadeLoad (SetPc section value) = IsPosition section × IsMadeTree value
@@ -81,7 +81,7 @@ IsMadeHead (heads.Source numbers) = (length numbers.items ≤ 6) × All IsNumber
 IsMadeHead (heads.Local stack type_index offset) = IsNumber stack × IsNumber type_index × IsMadeTree offset
 IsMadeHead (heads.Section section_type section offset) = IsNumber section_type × IsPosition section × IsMadeTree offset
 
--- what a mark of the debug part names and holds
+-- the positions and the contents of a mark of the debug part are within their bounds
 abbrev pub IsMadeMark : DebugMark → Type 0
 IsMadeMark (block_begin head name) = IsMadeHead head × AreBytes name
 IsMadeMark (block_end value) = IfSome value IsMadeTree
@@ -89,7 +89,7 @@ IsMadeMark (name_mark name) = AreBytes name
 IsMadeMark (note_mark name note) = IsPosition name × IsMadeNote note
 IsMadeMark (value_mark name value) = IsPosition name × IsMadeTree value
 
--- The parts are what the types can hold.
+-- The parts are within the bounds of their types.
 pub record IsMade (m : Parts) : Type 0 where
   pub processor : AreBytes m.processor
   pub name : AreBytes m.name

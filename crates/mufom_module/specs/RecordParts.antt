@@ -70,7 +70,7 @@ is_this_part part (Some other) = number_of part == number_of other
 abbrev pub stands_in : Part → Record → Bool
 stands_in part row = is_this_part part (part_of row)
 
--- after LR and its items further items may stand
+-- further items may follow an LR and its items
 abbrev pub opens_items : Record → Bool
 opens_items r.Relocate = true
 opens_items (r.RepeatRelocate _) = true
@@ -83,7 +83,7 @@ abbrev pub begins_item : List ℕ → Bool
 begins_item [] = false
 begins_item (b ∷ _) = begins_number b || is_one_of opening_brackets b
 
--- what begins with these bytes: an item where items may stand and the first byte begins one, and else a record
+-- what begins with these bytes: an item if items may occur here and the first byte begins one, and otherwise a record
 abbrev pub mode_of : Bool → List ℕ → Mode
 mode_of items bytes = if items && begins_item bytes then mode.Items else mode.Body
 

@@ -42,7 +42,7 @@ pub data Kind : Type 0 where
   reference : Kind
   debug_name : Kind
 
--- two kinds are one
+-- two kinds are the same
 abbrev pub is_same_kind : Kind → Kind → Bool
 is_same_kind section section = true
 is_same_kind public public = true
@@ -68,7 +68,7 @@ declared_by (r.ReferenceName i _) = Some (reference, i)
 declared_by (r.DebugName i _) = Some (debug_name, i)
 declared_by _ = None
 
--- the index, where it is of this kind
+-- the index, if it is of this kind
 abbrev pub of_kind : Kind → Option FileIndex → Option ℕ
 of_kind kind None = None
 of_kind kind (Some index) = if is_same_kind kind index.0 then Some index.1 else None
@@ -86,7 +86,7 @@ abbrev pub section_of_block : BlockTail → Option FileIndex
 section_of_block (tail.Section _ i _) = Some (section, i)
 section_of_block _ = None
 
--- the index that a record speaks of and does not declare
+-- the index that a record refers to and does not declare
 abbrev pub named_by : Record → Option FileIndex
 named_by (r.Alignment i _ _) = Some (section, i)
 named_by (r.SectionSize i _) = Some (section, i)
@@ -102,7 +102,7 @@ named_by (r.SetSection i) = Some (section, i)
 named_by (r.SetPc i _) = Some (section, i)
 named_by _ = None
 
--- the offset of a block, of the kinds that have one
+-- the offset of a block, for the kinds that have one
 abbrev pub offset_of_block : BlockTail → Option Span
 offset_of_block (tail.Scope _ _ offset) = Some offset
 offset_of_block (tail.Section _ _ offset) = Some offset
@@ -136,14 +136,14 @@ abbrev pub is_public_value : Record → Bool
 is_public_value (r.PublicValue _ _) = true
 is_public_value _ = false
 
--- The indexes that must be declared before the record: the one that it speaks of, and those of its variables. The
+-- The indexes that must be declared before the record: the one that it refers to, and those of its variables. The
 -- variables of a public's value may be declared later.
 abbrev pub named_at_once : SpelledRecord → List FileIndex
 named_at_once p = option_to_list (named_by p.row) ++ (if is_public_value p.row then [] else named_in_expression p)
 
 -- ---- what is stated once
 
--- what records may state once: once for an index, and the start once at all
+-- what records may state only once: once for each index, and the start address once in a file
 pub data Once : Type 0 where
   value_of_public : ℕ → Once
   weakness : ℕ → Once
@@ -152,7 +152,7 @@ pub data Once : Type 0 where
   section_base : ℕ → Once
   start_address : Once
 
--- two records state the same thing of the same index
+-- two records state the same thing about the same index
 abbrev pub is_same_statement : Once → Once → Bool
 is_same_statement (value_of_public i) (value_of_public j) = i == j
 is_same_statement (weakness i) (weakness j) = i == j

@@ -1,4 +1,4 @@
--- What the records of a written form weigh: nine bytes for each number, three for each lead of a string.
+-- The weights of the records of a written form, in bytes: nine for each number, three for each lead of a string.
 use Rattle.std.specs.Prelude.{ℕ, ◌+◌, ◌*◌, ◌-◌, ◌^◌, ◌==◌, min, Bool, true, false, List, length, sum_by, Option, Some, None, if◌then◌else◌}
 use Rattle.mufom_expr.specs.declared.token.Token.{Token}
 use Rattle.mufom_expr.specs.declared.token.Token.TheVariants.{Number, Var, Fun}
@@ -18,26 +18,26 @@ use Rattle.mufom_debug.specs.declared.item.BlockHead.TheVariants as heads
 use Rattle.mufom_debug.specs.Marks.{DebugMark, block_begin, block_end, name_mark, note_mark, value_mark, marks_of}
 use Rattle.mufom_module.specs.declared.module.Parts.{Parts}
 
--- what a count shows that stops at the greatest of 64 bits
+-- the value of a counter that stops at the greatest number of 64 bits
 abbrev pub capped : ℕ → ℕ
 capped n = min n (2 ^ 64 - 1)
 
--- a number nine bytes, a variable its letter and its index, a function its byte
+-- a number has nine bytes, a variable its letter and its index, a function its byte
 abbrev pub token_weight : Token → ℕ
 token_weight (Number n) = 9
 token_weight (Var letter place) = 10
 token_weight (Fun f) = 1
 
--- an expression, the sum over its tokens
+-- the weight of an expression: the sum over its tokens
 abbrev pub expression_weight : Tree → ℕ
 expression_weight tree = sum_by token_weight (tokens_of tree)
 
--- the same of one that may be absent
+-- the same for one that may be absent
 abbrev pub optional_expression_weight : Option Tree → ℕ
 optional_expression_weight None = 0
 optional_expression_weight (Some tree) = expression_weight tree
 
--- A S are two letters, C is one
+-- `A S` is two letters, `C` is one
 abbrev pub section_letters_weight : Bool → ℕ
 section_letters_weight true = 2
 section_letters_weight false = 1
@@ -47,20 +47,20 @@ abbrev pub purpose_weight : Option Purpose → ℕ
 purpose_weight None = 0
 purpose_weight (Some purpose) = 1
 
--- SA, which an alignment of 1 does without
+-- SA, which is left out for an alignment of 1
 abbrev pub alignment_weight : ℕ → ℕ
 alignment_weight align = if align == 1 then 0 else 19
 
--- ASS, which a size of 0 does without
+-- ASS, which is left out for a size of 0
 abbrev pub size_weight : ℕ → ℕ
 size_weight size = if size == 0 then 0 else 20
 
--- ASL, which needs a base
+-- ASL, if there is a base
 abbrev pub base_weight : Option ℕ → ℕ
 base_weight None = 0
 base_weight (Some base) = 20
 
--- a section weighs at least 14
+-- the weight of a section, which is at least 14
 abbrev pub section_weight : Section → ℕ
 section_weight s = 13 + section_letters_weight s.absolute + purpose_weight s.purpose + length s.name
     + alignment_weight s.align + size_weight s.size + base_weight s.base
@@ -77,11 +77,11 @@ notes_weight notes = sum_by note_weight notes
 abbrev pub public_weight : Public → ℕ
 public_weight p = 24 + length p.name + notes_weight p.notes + expression_weight p.value
 
--- the default of WX, which one of 0 does without
+-- the default of WX, which is left out if it is 0
 abbrev pub default_weight : ℕ → ℕ
 default_weight default = if default == 0 then 0 else 9
 
--- WX, which a strong reference does without
+-- WX, which a strong reference does not have
 abbrev pub weak_weight : Option Weak → ℕ
 weak_weight None = 0
 weak_weight (Some w) = 19 + default_weight w.default
@@ -131,11 +131,11 @@ abbrev pub start_weight : Option Tree → ℕ
 start_weight None = 0
 start_weight (Some value) = 4 + expression_weight value
 
--- what the header, the raw parts and the end weigh: 156 bytes beside their strings and bytes
+-- the weight of the header, the raw parts and the end: 156 bytes besides their strings and bytes
 abbrev pub frame_weight : Parts → ℕ
 frame_weight m = 156 + length m.processor + length m.name + length m.ext + length m.env
 
--- the whole
+-- the weight of all parts
 abbrev pub parts_weight : Parts → ℕ
 parts_weight m = frame_weight m + sum_by section_weight m.sections + sum_by public_weight m.names.publics + sum_by reference_weight m.names.references
     + marks_weight (marks_of m.debug) + sum_by load_weight m.loads + start_weight m.start

@@ -48,7 +48,7 @@ shortest = record { number = shortest_number; lead = shortest_lead }
 abbrev pub widest : Style
 widest = record { number = λ n. LAST_NUMBER ∷ to_be_bytes w64 n; lead = λ len. LONG_STRING ∷ to_be_bytes w16 len }
 
--- the forms of the entries of a list, each by its position, which counts from n
+-- the forms of the entries of a list, each with its position, counted from n
 abbrev pub each_from : {X : Type 0} → ℕ → (ℕ → X → List ℕ) → List X → List ℕ
 each_from n write [] = []
 each_from n write (x ∷ xs) = write n x ++ each_from (n + 1) write xs
@@ -84,7 +84,7 @@ index_of R position = section_index position
 index_of S position = section_index position
 index_of X position = reference_index position
 
--- the letters of a section: A S of an absolute one, and else C
+-- the letters of a section: `A S` for an absolute one, otherwise `C`
 abbrev pub section_letters : Bool → List ℕ
 section_letters true = LETTER_A ∷ LETTER_S ∷ []
 section_letters false = LETTER_C ∷ []
@@ -101,7 +101,7 @@ abbrev pub order_letter : Order → ℕ
 order_letter Least = LETTER_L
 order_letter Most = LETTER_M
 
--- the offsets of parts that begin at an offset, and then the offset where they end; an empty part is absent
+-- the offsets of parts that start at an offset, and then the offset of their end; an empty part has the offset 0
 abbrev pub offsets_from : ℕ → List (List ℕ) → List ℕ
 offsets_from at [] = at ∷ []
 offsets_from at ([] ∷ rest) = 0 ∷ offsets_from at rest
@@ -117,7 +117,7 @@ module _ (style : Style) where
   abbrev pub string : List ℕ → List ℕ
   string text = style.lead (length text) ++ text
 
-  -- the bytes of a literal after their number
+  -- the number of bytes of a literal, and then the bytes
   abbrev pub counted : List ℕ → List ℕ
   counted bytes = number (length bytes) ++ bytes
 
@@ -141,15 +141,15 @@ module _ (style : Style) where
   abbrev pub section_record : ℕ → Section → List ℕ
   section_record i s = SECTION_TYPE ∷ (number i ++ (section_letters s.absolute ++ (purpose_letter s.purpose ++ string s.name)))
 
-  -- SA, but for an alignment of 1
+  -- SA, unless the alignment is 1
   abbrev pub alignment_record : ℕ → ℕ → List ℕ
   alignment_record i align = if align == 1 then [] else SECTION_ALIGNMENT ∷ (number i ++ number align)
 
-  -- ASS, but for a size of 0
+  -- ASS, unless the size is 0
   abbrev pub size_record : ℕ → ℕ → List ℕ
   size_record i size = if size == 0 then [] else ASSIGNMENT ∷ LETTER_S ∷ (number i ++ number size)
 
-  -- ASL, of a section with a base
+  -- ASL, for a section with a base
   abbrev pub base_record : ℕ → Option ℕ → List ℕ
   base_record i None = []
   base_record i (Some base) = ASSIGNMENT ∷ LETTER_L ∷ (number i ++ number base)
@@ -170,16 +170,16 @@ module _ (style : Style) where
   public position p = let i = public_index position in
       (PUBLIC_NAME ∷ (number i ++ string p.name)) ++ (each (λ _. note LETTER_I i) p.notes ++ (ASSIGNMENT ∷ LETTER_I ∷ (number i ++ expression p.value)))
 
-  -- the default where it is not 0
+  -- the default, unless it is 0
   abbrev pub default_number : ℕ → List ℕ
   default_number default = if default == 0 then [] else number default
 
-  -- WX, of a weak reference alone
+  -- WX, only for a weak reference
   abbrev pub weak : ℕ → Option Weak → List ℕ
   weak i None = []
   weak i (Some w) = WEAK_REFERENCE ∷ (number i ++ (number w.size ++ default_number w.default))
 
-  -- NX, the notes as ATX, and WX where it is weak
+  -- NX, the notes as ATX, and WX if it is weak
   abbrev pub reference : ℕ → Reference → List ℕ
   reference position r = let i = reference_index position in
       (REFERENCE_NAME ∷ (number i ++ string r.name)) ++ (each (λ _. note LETTER_X i) r.notes ++ weak i r.weak)
@@ -199,7 +199,7 @@ module _ (style : Style) where
   end_expression None = []
   end_expression (Some value) = expression value
 
-  -- the record of a mark, where n names are before it; 0 stands for the size of a block
+  -- the record of a mark, if n names are declared before it; the size of a block is written as 0
   abbrev pub debug_record : ℕ → DebugMark → List ℕ
   debug_record n (block_begin head name) = BLOCK_BEGIN ∷ (number (kind_number head) ++ (number 0 ++ (string name ++ head_fields head)))
   debug_record n (block_end value) = BLOCK_END ∷ end_expression value
@@ -207,7 +207,7 @@ module _ (style : Style) where
   debug_record n (note_mark name its) = note LETTER_N (debug_name_index name) its
   debug_record n (value_mark name value) = ASSIGNMENT ∷ LETTER_N ∷ (number (debug_name_index name) ++ expression value)
 
-  -- the records of marks, where `n` names are before them
+  -- the records of marks, if `n` names are declared before them
   abbrev pub debug_records : ℕ → List DebugMark → List ℕ
   debug_records n [] = []
   debug_records n (mark ∷ marks) = debug_record n mark ++ debug_records (names_after n mark) marks
@@ -281,6 +281,6 @@ module _ (style : Style) where
 abbrev pub written : Parts → List ℕ
 written m = form shortest m
 
--- the length that the written form would have with nine bytes for each number but the eight offsets, and three for each lead
+-- the length in bytes that the written form would have with nine bytes for each number (except the eight offsets) and three for each lead
 unfoldable pub weight : Parts → ℕ
 weight m = length (form widest m)

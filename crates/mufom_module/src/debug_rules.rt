@@ -1,4 +1,4 @@
-//! Walks over the debug items, for what their marks have.
+//! Checks of the debug items: whether one of their marks breaks a rule.
 
 ghost use Rattle.std.specs.Prelude.{◌≡◌, ◌||◌, ℕ, option_map, is_none};
 ghost use Rattle.std.specs.List.{list_any};
@@ -71,7 +71,7 @@ fn names_bad_section(counts: Counts, head: &BlockHead) -> bool
     }
 }
 
-// Whether the expression at the begin of a block breaks the rule.
+// Whether the expression at the start of a block breaks the rule.
 fn offset_breaks(rule: Rule, head: &BlockHead) -> bool
     ensures { result ≡ breaks rule (block_end (offset_of head.now)) }
 {
@@ -81,7 +81,7 @@ fn offset_breaks(rule: Rule, head: &BlockHead) -> bool
     }
 }
 
-// Whether the begin of a block breaks the rule.
+// Whether the start of a block breaks the rule.
 fn begin_breaks(rule: Rule, head: &BlockHead, name: &[u8]) -> bool
     ensures { result ≡ breaks rule (block_begin head.now name.now) }
 {
@@ -124,7 +124,7 @@ pub(crate) fn any_breaks(rule: Rule, items: &[DebugItem]) -> bool
     false
 }
 
-// Whether blocks of this kind have no expression at their end.
+// Whether blocks of this kind have no expression at their end, by the format.
 fn ends_plainly(head: &BlockHead) -> bool
     ensures { result ≡ ends_plainly head.now }
 {
@@ -167,8 +167,8 @@ pub(crate) fn any_ends_badly(items: &[DebugItem]) -> bool
     false
 }
 
-// How many names are declared after the item, and `None` where it uses one that is not declared
-// yet. The count stops at the greatest of 64 bits.
+// The number of names that are declared after the item, or `None` if it uses one that is not declared
+// yet. The count stops at the greatest `u64`.
 #[cycle(declaring)]
 fn item_declares(item: &DebugItem, declared: u64) -> Option<u64>
     ensures { (n : ℕ) → capped n ≡ declared → result ≡ option_map capped (declared_after n (marks_of_item item.now)) }
@@ -183,7 +183,7 @@ fn item_declares(item: &DebugItem, declared: u64) -> Option<u64>
     }
 }
 
-// The same of items, one after another.
+// The same for items, one after another.
 #[cycle(declaring)]
 fn all_declare(items: &[DebugItem], mut declared: u64) -> Option<u64>
     ensures { (n : ℕ) → capped n ≡ declared → result ≡ option_map capped (declared_after n (marks_of items.now)) }
@@ -194,7 +194,7 @@ fn all_declare(items: &[DebugItem], mut declared: u64) -> Option<u64>
     Some(declared)
 }
 
-/// Whether a note or a value is before the debug name that it speaks of.
+/// Whether a note or a value comes before the declaration of its debug name.
 pub(crate) fn uses_name_early(items: &[DebugItem]) -> bool
     ensures { result ≡ is_none (declared_after 0 (marks_of items.now)) }
 {

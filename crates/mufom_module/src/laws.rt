@@ -1,4 +1,4 @@
-//! Laws of modules and of what a file states, each the contract of a function that does nothing.
+//! Laws of modules and their files, each the contract of a function that does nothing.
 
 ghost use Rattle.std.specs.Prelude.{◌≡◌, ◌≤◌, ℕ, Bool, List, true};
 ghost use Rattle.mufom_expr.specs.Tree.{Tree};
@@ -17,18 +17,18 @@ pub fn expressions_are_as_spelled()
     ensures { (tree : Tree) (bytes : List ℕ) → SpellsTree tree bytes → the_term (tokens_in bytes) ≡ tree }
 {}
 
-/// Each position stands for the index that the file has in its place.
+/// Each position in a module corresponds to the index that the file has in its place.
 pub fn positions_stand_for_indexes()
     ensures { (ix : Indexes) (tree : Tree) → are_listed ix tree ≡ true → IsIndexed ix (positioned ix tree) tree }
 {}
 
-/// A file is one module: bytes that are its file are the file of no other.
+/// A file is the file of one module: no other module has the same file.
 pub fn a_file_is_one_module()
     ensures { (m n : Parts) (bytes : List ℕ) (reads_debug : Bool) → SpellsModule m bytes reads_debug → SpellsModule n bytes reads_debug → m ≡ n }
 {}
 
-/// What a module loads, with the items of a repeat counted once, is no longer than the module
-/// weighs. So [`loaded_bytes`](mufom_loads::loaded_bytes) may be called of the loads of any module.
+/// The bytes that a module loads, with the items of a repeat counted once, are at most its weight. So
+/// [`loaded_bytes`](mufom_loads::loaded_bytes) may be called with the loads of any module.
 pub fn items_are_within_the_weight()
     ensures { (m : Parts) → IsValid m → lengths_once m.loads ≤ weight m }
 {}

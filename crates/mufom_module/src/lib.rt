@@ -1,15 +1,17 @@
 //! Modules: everything that a file of the format states, as one value without a defect.
 //!
-//! [`Parts`] are what a module states, in lists whose entries name one another by positions.
-//! [`assemble`] looks for thirteen defects in a fixed order, returns the first with the parts handed
-//! back, and else a [`Module`] of just these parts: validity is kept by the type. It depends on
-//! `mufom_numbers`, `mufom_expr`, `mufom_records`, `mufom_sections`, `mufom_names`, `mufom_loads` and
-//! `mufom_debug`. Its main clause is that of [`assemble`], both ways; beside it [`Module::weight`] is
-//! the length of the written form with nine bytes for each number but the eight offsets of the parts
-//! and three for the lead of each string.
+//! [`Parts`] are what a module states, in lists whose entries refer to one another by position.
+//! [`assemble`] checks them for thirteen defects in a fixed order. It returns the parts with the first
+//! defect that they have, or a [`Module`] of exactly these parts: so a `Module` is valid by its type.
+//! The crate depends on `mufom_numbers`, `mufom_expr`, `mufom_records`, `mufom_sections`,
+//! `mufom_names`, `mufom_loads`, `mufom_debug`, `arrayvec` and `thiserror`. Its main clause is that of
+//! [`assemble`], in both directions. [`Module::weight`] is the length in bytes that the written form
+//! would have with nine bytes for each number (except the eight offsets of the parts) and three for the
+//! lead of each string.
 //!
-//! Which bytes are the file of a module is `SpellsModule`, in `specs/Grammar.antt`: a relation on the
-//! whole file, for readers and writers. The laws are in this crate's functions with empty bodies.
+//! `SpellsModule`, in `specs/Grammar.antt`, defines which bytes are the file of a module. It is a
+//! relation on the whole file, which readers and writers share. The laws are the contracts of this
+//! crate's functions with empty bodies.
 #![tactic(auto)]
 
 mod debug_rules;

@@ -1,4 +1,4 @@
-//! What parts have by the types that hold them, known of each entry in one walk. Nothing is computed.
+//! The bounds that the parts of a module have by their types, shown for each entry in one walk. It computes nothing.
 
 ghost use Rattle.std.specs.Prelude.{◌<◌, ◌≤◌, ◌^◌, All, IfSome, length};
 ghost use Rattle.mufom_numbers.specs.Spelling.{AreBytes};
@@ -271,8 +271,8 @@ fn frame(parts: &Parts)
     let _units = parts.maus;
 }
 
-/// The bounds that the types of all parts give, as a clause: a byte is below 256, and so on. The walk has no
-/// effect when the program runs.
+/// States the bounds that the types of all parts give as a clause: a byte is below 256, and so on. The walk
+/// has no effect when the program runs.
 pub(crate) fn type_bounds(parts: &Parts)
     ensures { IsMade parts.now }
 {

@@ -1,4 +1,4 @@
-//! A module: its parts, and the defects that it does not have.
+//! A module, its parts, and the defects that keep parts from being a module.
 
 ghost use Rattle.std.specs.Prelude.{◌≡◌, ◌<◌, ◌^◌};
 ghost use Rattle.mufom_module.specs.Bare.{bare_parts};
@@ -27,12 +27,12 @@ pub enum Order {
     Most,
 }
 
-/// What a module states. Entries name one another by positions in these lists, from 0.
+/// What a module states. Entries refer to one another by their positions in these lists, counted from 0.
 #[derive(Debug, Drop)]
 pub struct Parts {
     pub processor: Bytes,
     pub name: Bytes,
-    /// How many minimum addressable units (of eight bits) an address has: 1 to 8.
+    /// The size of an address in minimum addressable units (MAUs, of eight bits each): 1 to 8.
     pub maus: u8,
     pub order: Order,
     /// The extension part as it is in the file.
@@ -48,8 +48,7 @@ pub struct Parts {
 }
 
 impl Parts {
-    /// Parts that state nothing but the size of an address, in MAUs, and the order of bytes. Takes no
-    /// memory.
+    /// Parts that state only the size of an address, in MAUs, and the order of bytes. Does not allocate.
     pub fn new(alloc: Global, maus: u8, order: Order) -> Parts
         ensures { result ≡ bare_parts maus order }
     {
@@ -72,47 +71,47 @@ impl Parts {
     }
 }
 
-/// What keeps parts from being a module, in the order in which it is looked for.
+/// What keeps parts from being a module, in the order in which the defects are checked.
 #[derive(Clone, Copy, Debug, PartialEq, Eq, Error)]
 pub enum Defect {
     /// More than 32 debug blocks are open at once.
     #[error("debug blocks are nested too deeply")]
     Depth,
-    /// A string of more than 65,535 bytes.
+    /// A string is longer than 65,535 bytes.
     #[error("a string is longer than 65,535 bytes")]
     LongId,
-    /// An address has no addressable unit, or more than 8.
+    /// The size of an address is not 1 to 8 addressable units.
     #[error("an address does not have 1 to 8 addressable units")]
     BadMaus,
-    /// An alignment of 0, or of more than 2^31.
+    /// An alignment is 0, or more than 2^31 MAUs.
     #[error("invalid alignment")]
     BadAlign,
-    /// No base for a section with the letters of an absolute one.
+    /// A section with the letters of an absolute one has no base.
     #[error("an absolute section has no base")]
     MissingBase,
-    /// Something names an entry that is not in its list, or a debug name ahead of its declaration.
+    /// A position is outside its list, or a debug name is used before it is declared.
     #[error("an entry refers to a position outside its list")]
     Position,
-    /// The program counter of a section is named where no load goes to it or sets it: by a public, the
-    /// start or a debug item, or by a load of another section.
+    /// A public, the start address or a debug item uses a program counter, or a load uses that of a
+    /// section into which it does not load and whose counter it does not set.
     #[error("misplaced program counter")]
     MisplacedP,
-    /// A load comes while no section is set yet.
+    /// An item or a repeat is loaded before any section is set.
     #[error("no section is set")]
     NoSection,
-    /// A literal of more than 65,535 bytes.
+    /// A literal is longer than 65,535 bytes.
     #[error("a run of bytes is longer than 65,535")]
     LongRun,
-    /// Another size of a field than 1 to 8 bytes.
+    /// The size of a field is not 1 to 8 bytes.
     #[error("the size of a field is not 1 to 8")]
     FieldSize,
-    /// A debug note with an attribute that is not known.
+    /// A debug note has an unknown attribute.
     #[error("unsupported attribute of a debug record")]
     Attribute,
-    /// An expression at the end of a module block or a source block.
+    /// A module block or a source block has an expression at its end.
     #[error("unbalanced debug blocks")]
     Nesting,
-    /// A weight that 32 bits cannot hold.
+    /// The weight is 2^32 or more.
     #[error("the module is too large")]
     Weight,
 }
@@ -140,7 +139,7 @@ impl Model for Module {
     ghost invariant = { λ m. IsValid m.parts × IsMade m.parts };
 }
 
-// Written out so that whoever drops one makes one call: see "Drops" in docs/ARCHITECTURE.md.
+// Written out so that each drop is one call: see "Drops" in docs/ARCHITECTURE.md.
 impl Drop for Module {
     fn drop(self) {
         let Module { parts: _ } = self;
@@ -148,7 +147,7 @@ impl Drop for Module {
 }
 
 impl Module {
-    /// The module of parts that are known to have no defect. Looks for none, and does not allocate.
+    /// The module of parts that are known to have no defects. Does not check them, and does not allocate.
     pub fn sound(parts: Parts) -> Module
         requires { IsValid parts }
         ensures same { result ≡ parts }
@@ -158,7 +157,7 @@ impl Module {
         Module { parts }
     }
 
-    /// The parts, which have no defect, and what their types hold. Does not allocate.
+    /// The parts, which have no defects and are within the bounds of their types. Does not allocate.
     pub fn parts(&self) -> &Parts
         ensures same { result.now ≡ self.now }
         ensures valid { IsValid self.now }
@@ -167,8 +166,8 @@ impl Module {
         &self.parts
     }
 
-    /// The length that the written form would have with nine bytes for each number but the eight
-    /// offsets of its parts, and three for the lead of each string. Does not allocate.
+    /// The length in bytes that the written form would have with nine bytes for each number (except the
+    /// eight offsets of its parts) and three for the lead of each string. Does not allocate.
     pub fn weight(&self) -> u64
         ensures value { result ≡ weight self.now }
         ensures bound { result < 2 ^ 32 }
@@ -176,7 +175,7 @@ impl Module {
         module_weight(&self.parts)
     }
 
-    /// The parts, given back. Does not allocate.
+    /// Turns the module back into its parts. Does not allocate.
     pub fn into_parts(self) -> Parts
         ensures same { result ≡ self }
         ensures valid { IsValid result }

@@ -1,4 +1,4 @@
-//! One function for each defect of the parts but their weight.
+//! One function for each defect of the parts, except their weight.
 
 ghost use Rattle.std.specs.Prelude.{◌≡◌, length, nat_le, Some, None, [], ◌∷◌};
 ghost use Rattle.std.specs.List.{list_any};
@@ -18,7 +18,7 @@ use mufom_names::{Public, Reference};
 use mufom_numbers::limits::MOST_ALIGNMENT;
 use mufom_sections::Section;
 
-/// How many entries the lists of a module have.
+/// The number of entries in each list of a module.
 #[derive(Clone, Copy)]
 pub(crate) struct Counts {
     pub(crate) sections: usize,
@@ -26,14 +26,14 @@ pub(crate) struct Counts {
     pub(crate) references: usize,
 }
 
-/// What a mark of the debug part may break.
+/// A rule that a mark of the debug part may break.
 #[derive(Clone, Copy)]
 pub(crate) enum Rule {
     /// The length of its name.
     Length,
-    /// The positions that it names, but those of debug names.
+    /// The positions that it names, except those of debug names.
     Position(Counts),
-    /// That no program counter is in its expressions.
+    /// That its expressions contain no program counter.
     Counter,
     /// The attribute of a note.
     Attribute,
@@ -50,7 +50,7 @@ fn counts_of(parts: &Parts) -> Counts
     }
 }
 
-/// Whether the bytes are too many for a string or a literal.
+/// Whether there are too many bytes for a string or a literal.
 pub(crate) fn is_long(bytes: &[u8]) -> bool
     ensures { result ≡ is_long bytes.now }
 {
@@ -59,7 +59,7 @@ pub(crate) fn is_long(bytes: &[u8]) -> bool
 
 // ---- positions
 
-// Whether the variable names no entry.
+// Whether the position of the variable is outside its list.
 fn is_outside(counts: Counts, letter: Letter, place: u32) -> bool
     ensures { result ≡ is_outside counts (letter, place) }
 {
@@ -74,7 +74,7 @@ fn is_outside(counts: Counts, letter: Letter, place: u32) -> bool
     count <= place as usize
 }
 
-// Whether the token is a variable that names no entry.
+// Whether the token is a variable whose position is outside its list.
 fn token_is_outside(counts: Counts, token: Token) -> bool
     ensures { result ≡ list_any (is_outside counts) (variables_in (token ∷ [])) }
 {
@@ -92,7 +92,7 @@ fn tokens_are_outside(counts: Counts, tokens: &[Token]) -> bool
     tokens.iter().any(|token| token_is_outside(counts, *token))
 }
 
-/// Whether a variable of the expression names no entry.
+/// Whether a variable of the expression has a position outside its list.
 pub(crate) fn names_outside(counts: Counts, value: &Postfix) -> bool
     ensures { result ≡ names_outside counts value.now }
 {
@@ -101,7 +101,7 @@ pub(crate) fn names_outside(counts: Counts, value: &Postfix) -> bool
 
 // ---- program counters
 
-// Whether the variable is a program counter of another section than this one.
+// Whether the variable is the program counter of a section other than this one.
 fn is_other_counter(allowed: Option<u32>, letter: Letter, place: u32) -> bool
     ensures { result ≡ is_other_counter allowed (letter, place) }
 {
@@ -115,7 +115,7 @@ fn is_other_counter(allowed: Option<u32>, letter: Letter, place: u32) -> bool
     }
 }
 
-// Whether the token is a program counter of another section than this one.
+// Whether the token is the program counter of a section other than this one.
 fn token_is_other_counter(allowed: Option<u32>, token: Token) -> bool
     ensures { result ≡ list_any (is_other_counter allowed) (variables_in (token ∷ [])) }
 {
@@ -135,7 +135,7 @@ fn tokens_are_other_counters(allowed: Option<u32>, tokens: &[Token]) -> bool
         .any(|token| token_is_other_counter(allowed, *token))
 }
 
-/// Whether a program counter of another section than this one is in the expression.
+/// Whether the expression contains the program counter of a section other than this one.
 pub(crate) fn has_other_counter(allowed: Option<u32>, value: &Postfix) -> bool
     ensures { result ≡ has_other_counter allowed value.now }
 {
@@ -184,7 +184,7 @@ pub(crate) fn has_long_string(parts: &Parts) -> bool
         || any_breaks(Rule::Length, parts.debug.as_slice())
 }
 
-/// An address has not 1 to 8 addressable units.
+/// The size of an address is not 1 to 8 addressable units.
 pub(crate) fn has_bad_units(parts: &Parts) -> bool
     ensures { result ≡ has_defect parts.now Defect.BadMaus }
 {
@@ -213,7 +213,7 @@ pub(crate) fn lacks_base(parts: &Parts) -> bool
         .any(|s| s.absolute && s.base.is_none())
 }
 
-// Whether a variable of the item names no entry.
+// Whether a variable of the item has a position outside its list.
 fn item_names_outside(counts: Counts, item: &Item) -> bool
     ensures { result ≡ item_any (names_outside counts) item.now }
 {
@@ -223,14 +223,14 @@ fn item_names_outside(counts: Counts, item: &Item) -> bool
     }
 }
 
-// Whether a variable of one of the items names no entry.
+// Whether a variable of one of the items has a position outside its list.
 fn items_name_outside(counts: Counts, items: &[Item]) -> bool
     ensures { result ≡ list_any (item_any (names_outside counts)) items.now }
 {
     items.iter().any(|item| item_names_outside(counts, item))
 }
 
-// Whether the load names no section, or a variable of its expressions names no entry.
+// Whether the section of the load, or a variable of its expressions, has a position outside its list.
 fn has_bad_place(counts: Counts, load: &Load) -> bool
     ensures { result ≡ has_bad_place counts load.now }
 {
@@ -251,14 +251,14 @@ fn loads_have_bad_place(counts: Counts, loads: &[Load]) -> bool
     loads.iter().any(|load| has_bad_place(counts, load))
 }
 
-// Whether a variable of the value of a public names no entry.
+// Whether a variable of the value of a public has a position outside its list.
 fn publics_name_outside(counts: Counts, publics: &[Public]) -> bool
     ensures { result ≡ list_any (λ p. names_outside counts p.value) publics.now }
 {
     publics.iter().any(|p| names_outside(counts, &p.value))
 }
 
-// Whether a variable of the start address names no entry.
+// Whether a variable of the start address has a position outside its list.
 fn start_names_outside(counts: Counts, start: &Option<Postfix>) -> bool
     ensures { result ≡ any_of (names_outside counts) start.now }
 {
@@ -268,8 +268,8 @@ fn start_names_outside(counts: Counts, start: &Option<Postfix>) -> bool
     }
 }
 
-/// A variable, a load or a block names an entry that is not in its list, or a debug name is used
-/// before it is declared.
+/// A variable, a load or a block has a position outside its list, or a debug name is used before it is
+/// declared.
 pub(crate) fn has_bad_position(parts: &Parts) -> bool
     ensures { result ≡ has_defect parts.now Defect.Position }
 {
@@ -282,7 +282,7 @@ pub(crate) fn has_bad_position(parts: &Parts) -> bool
         || uses_name_early(debug)
 }
 
-// Whether a program counter of another section than this one is in the item.
+// Whether the item contains the program counter of a section other than this one.
 fn item_has_other_counter(allowed: Option<u32>, item: &Item) -> bool
     ensures { result ≡ item_any (has_other_counter allowed) item.now }
 {
@@ -292,7 +292,7 @@ fn item_has_other_counter(allowed: Option<u32>, item: &Item) -> bool
     }
 }
 
-// Whether a program counter of another section than this one is in one of the items.
+// Whether one of the items contains the program counter of a section other than this one.
 fn items_have_other_counter(allowed: Option<u32>, items: &[Item]) -> bool
     ensures { result ≡ list_any (item_any (has_other_counter allowed)) items.now }
 {
@@ -301,8 +301,8 @@ fn items_have_other_counter(allowed: Option<u32>, items: &[Item]) -> bool
         .any(|item| item_has_other_counter(allowed, item))
 }
 
-// Whether a program counter is in the load that is not that of the section which it sets or
-// goes to.
+// Whether the load contains a program counter of a section other than the one that it sets or goes
+// to.
 fn misplaces_counter(current: Option<u32>, load: &Load) -> bool
     ensures { result ≡ misplaces_counter (current, load.now) }
 {
@@ -326,7 +326,7 @@ fn current_after(current: Option<u32>, load: &Load) -> Option<u32>
     }
 }
 
-// Whether such a program counter is in one of the loads.
+// Whether one of the loads contains such a program counter.
 fn loads_misplace_counter(loads: &[Load]) -> bool
     ensures { result ≡ list_any misplaces_counter (placed_from None loads.now) }
 {
@@ -340,14 +340,14 @@ fn loads_misplace_counter(loads: &[Load]) -> bool
     false
 }
 
-// Whether a program counter is in the value of a public.
+// Whether the value of a public contains a program counter.
 fn publics_have_counter(publics: &[Public]) -> bool
     ensures { result ≡ list_any (λ p. has_other_counter None p.value) publics.now }
 {
     publics.iter().any(|p| has_other_counter(None, &p.value))
 }
 
-// Whether a program counter is in the start address.
+// Whether the start address contains a program counter.
 fn start_has_counter(start: &Option<Postfix>) -> bool
     ensures { result ≡ any_of (has_other_counter None) start.now }
 {
@@ -357,8 +357,8 @@ fn start_has_counter(start: &Option<Postfix>) -> bool
     }
 }
 
-/// A program counter is in a public, a start or a debug expression, or is that of another
-/// section than a load may name.
+/// A public, the start or a debug expression contains a program counter, or a load contains one of a
+/// section that it may not name.
 pub(crate) fn has_misplaced_counter(parts: &Parts) -> bool
     ensures { result ≡ has_defect parts.now Defect.MisplacedP }
 {
@@ -434,7 +434,7 @@ pub(crate) fn has_long_literal(parts: &Parts) -> bool
         .any(|load| load_has_long_literal(load))
 }
 
-// Whether the item is a field that has not 1 to 8 bytes.
+// Whether the item is a field whose size is not 1 to 8 bytes.
 fn item_has_bad_size(item: &Item) -> bool
     ensures { result ≡ has_bad_size item.now }
 {
@@ -444,14 +444,14 @@ fn item_has_bad_size(item: &Item) -> bool
     }
 }
 
-// Whether one of the items is a field that has not 1 to 8 bytes.
+// Whether one of the items is a field whose size is not 1 to 8 bytes.
 fn items_have_bad_size(items: &[Item]) -> bool
     ensures { result ≡ list_any has_bad_size items.now }
 {
     items.iter().any(|item| item_has_bad_size(item))
 }
 
-// Whether an item of the load is a field that has not 1 to 8 bytes.
+// Whether an item of the load is a field whose size is not 1 to 8 bytes.
 fn load_has_bad_size(load: &Load) -> bool
     ensures { result ≡ any_item has_bad_size load.now }
 {
@@ -463,7 +463,7 @@ fn load_has_bad_size(load: &Load) -> bool
     }
 }
 
-/// A field has not 1 to 8 bytes.
+/// The size of a field is not 1 to 8 bytes.
 pub(crate) fn has_bad_size(parts: &Parts) -> bool
     ensures { result ≡ has_defect parts.now Defect.FieldSize }
 {
@@ -474,7 +474,7 @@ pub(crate) fn has_bad_size(parts: &Parts) -> bool
         .any(|load| load_has_bad_size(load))
 }
 
-/// The attribute of a debug note is none that is known.
+/// The attribute of a debug note is unknown.
 pub(crate) fn has_unknown_attribute(parts: &Parts) -> bool
     ensures { result ≡ has_defect parts.now Defect.Attribute }
 {

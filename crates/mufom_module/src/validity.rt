@@ -1,4 +1,4 @@
-//! Making a module from parts, or naming their first defect.
+//! Making a module from parts, or reporting their first defect.
 
 ghost use Rattle.std.specs.Prelude.{◌≡◌, IfOk, IfErr, Some};
 ghost use Rattle.std.specs.List.{find};
@@ -13,7 +13,7 @@ use crate::rules::{
 };
 use crate::weight::is_too_heavy;
 
-// The defects in the order in which they are looked for.
+// The defects in the order in which they are checked.
 const DEFECTS: [Defect; 13] = [
     Defect::Depth,
     Defect::LongId,
@@ -68,9 +68,9 @@ fn first_defect(parts: &Parts) -> Option<Defect>
     first_of(parts, &DEFECTS)
 }
 
-/// The module of these parts, or the parts back with their first defect, in the order of [`Defect`].
+/// Makes a module of these parts, or returns them with their first defect, in the order of [`Defect`].
 ///
-/// Does not allocate. Takes time that grows with the size of the parts.
+/// Does not allocate. The time grows with the size of the parts.
 pub fn assemble(parts: Parts) -> Result<Module, (Parts, Defect)>
     ensures same { IfOk result (λ m. m ≡ parts) }
     ensures valid { IfOk result (λ m. IsValid m) }

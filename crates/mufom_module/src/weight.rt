@@ -1,5 +1,5 @@
-//! What the written form of a module weighs. Sums stop at the greatest number of 64 bits, so that
-//! none wraps before the weight is found to be too much.
+//! The weight of a module: an upper bound on the length of its written form, in bytes. Sums stop at the
+//! greatest `u64`, so that none wraps before the weight is found to be too much.
 
 ghost use Rattle.std.specs.Prelude.{◌≡◌, sum_by};
 ghost use Rattle.mufom_module.specs.declared.module.Defect.{Defect};
@@ -58,7 +58,7 @@ fn section_weight(section: &Section) -> u64
     fixed.saturating_add(section.name.len() as u64)
 }
 
-/// What sections weigh together, in bytes; or the greatest number of 64 bits if that is less.
+/// The total weight of sections, in bytes, or the greatest `u64` if that is less.
 pub fn sections_weight(sections: &[Section]) -> u64
     ensures { result ≡ capped (sum_by section_weight sections.now) }
 {
@@ -77,7 +77,7 @@ fn note_weight(note: &Note) -> u64
     29 + 9 * note.numbers.len() as u64
 }
 
-/// What the notes of a name weigh together, in bytes; or the greatest number of 64 bits if that is less.
+/// The total weight of the notes of a name, in bytes, or the greatest `u64` if that is less.
 pub fn notes_weight(notes: &[Note]) -> u64
     ensures { result ≡ capped (notes_weight notes.now) }
 {
@@ -183,8 +183,8 @@ fn debug_item_weight(item: &DebugItem) -> u64
     }
 }
 
-/// What debug items weigh together, with all that is in blocks, in bytes; or the greatest number
-/// of 64 bits if that is less.
+/// The total weight of debug items, with everything inside blocks, in bytes, or the greatest `u64` if
+/// that is less.
 #[cycle(weighing)]
 pub fn debug_items_weight(items: &[DebugItem]) -> u64
     ensures { result ≡ capped (marks_weight (marks_of items.now)) }
@@ -249,7 +249,7 @@ fn start_weight(start: &Option<Postfix>) -> u64
     }
 }
 
-// Of the header, the raw parts and ME.
+// The weight of the header, the raw parts and ME.
 fn frame_weight(parts: &Parts) -> u64
     ensures { result ≡ capped (frame_weight parts.now) }
 {
@@ -260,7 +260,7 @@ fn frame_weight(parts: &Parts) -> u64
         .saturating_add(parts.env.len() as u64)
 }
 
-// What the parts weigh, or the greatest number of 64 bits if that is less.
+// The weight of the parts, or the greatest `u64` if that is less.
 pub(crate) fn module_weight(parts: &Parts) -> u64
     ensures { result ≡ capped (parts_weight parts.now) }
 {

@@ -1,4 +1,4 @@
--- An index as it is kept, a set of keys beside a list of positions, and as it is seen.
+-- An index as it is stored, a set of keys and a list of positions, and as contracts see it.
 use Rattle.std.proofs.Common.{get_or, suc, ◌≡◌, ℕ, ◌+◌, ◌<◌, List, [], ◌∷◌, ◌++◌, length, map, Bool, true, false, not, cond, ◌||◌, nat_lt, Some, None}
 use Rattle.std.proofs.Common.{is_none, refl, sym, ap, ◌∙◌, slice_get, position, arith, true≢false, if◌then◌else◌, Vec, Global, Bor}
 use Rattle.std.specs.List.{list_any, position_or_len, zip, IsDistinct, AllByRecursion}
@@ -9,7 +9,7 @@ use Rattle.mufom_names.specs.Index.{Entry, keys_of, position_of, with_entry, Hav
 slice_get-past : (x : ℕ) (xs : List ℕ) (n : ℕ) → slice_get (x ∷ xs) (1 + n) ≡ slice_get xs n
 slice_get-past x xs n = let e : 1 + n ≡ suc n = omega arith in ap (slice_get (x ∷ xs)) e
 
--- the bytes of a borrowed key, and of one that the index has for itself
+-- the bytes of a borrowed key, and of one that the index owns
 abbrev pub borrowed : Bor (List ℕ) → List ℕ
 borrowed key = key.now
 
@@ -70,7 +70,7 @@ module _ {K : Type 0} (bytes : K → List ℕ) where
   distinct-seen (k ∷ keys) [] d = tt
   distinct-seen (k ∷ keys) (p ∷ positions) d = (apart-seen k keys positions d.0, distinct-seen keys positions d.1)
 
-  -- what a search answers as a slot is the slot
+  -- the slot that a search returns is the slot of the key
   pub position-place : (key : List ℕ) (keys : List K) (place : ℕ) → Some place ≡ position (λ kept. bytes_eq key (bytes kept)) keys → place ≡ place_in key keys
   position-place key keys place e = by_case (nat_lt (place_in key keys) (length keys)) e where
     by_case : (b : Bool) → Some place ≡ cond b (Some (place_in key keys)) None → place ≡ place_in key keys
@@ -109,7 +109,7 @@ last-off (x ∷ xs) (y ∷ ys) more p e l =
     let rest = last-off xs ys more p tails (omega (arith, l)) in
     cc
 
--- a key was not there where it is new
+-- a key that is new was not there
 pub was-new : (there added : Bool) → added ≡ not there → added ≡ true → there ≡ false
 was-new true added e t = absurd (true≢false (sym t ∙ e))
 was-new false added e t = refl

@@ -12,7 +12,7 @@ use Rattle.mufom_names.specs.declared.name.Reference.{Reference}
 use Rattle.mufom_names.specs.Keys.{number_key, numbers_key, note_key, notes_key, weak_key, reference_key, IsSameNote, AreSameNotes, IsSameReference}
 use Rattle.mufom_names.specs.Keys.{IsShort, IsShortNote, IsShortWeak, IsShortReference, EqualKeysAreEqualReferences}
 
--- one element more adds what it gives
+-- one more element adds its results
 pub one_more : {X : Type 0} (f : X → List ℕ) (xs : List X) (i : ℕ) (d : X) → i < length xs → flat_map f (take (i + 1) xs) ≡ flat_map f (take i xs)
     ++ f (get_or xs i d)
 one_more f xs i d inside =
@@ -39,7 +39,7 @@ number-cut m n xs ys short-m short-n e =
       parts.1,
     )
 
--- the same where more follows in the key
+-- the same if more follows in the key
 first-cut : (m n : ℕ) (fs gs xs ys : List ℕ) → IsShort m → IsShort n → (number_key m ++ fs) ++ xs ≡ (number_key n ++ gs) ++ ys → (m ≡ n) × (fs ++ xs ≡ gs ++ ys)
 first-cut m n fs gs xs ys short-m short-n e =
     number-cut m n (fs ++ xs) (gs ++ ys) short-m short-n (sym (append_assoc (number_key m) fs xs) ∙ e ∙ append_assoc (number_key n) gs ys)

@@ -18,7 +18,7 @@ pub first_of-None : (a : Option ℕ) → first_of a None ≡ a
 first_of-None (Some n) = refl
 first_of-None None = refl
 
--- this position where the test holds
+-- this position if the test holds
 abbrev pub given : Bool → ℕ → Option ℕ
 given b p = if b then Some p else None
 
@@ -26,7 +26,7 @@ pub first_of-given : (b c : Bool) (p : ℕ) → first_of (given b p) (given c p)
 first_of-given true c p = refl
 first_of-given false c p = refl
 
--- an entry at the end has the position of its key where no entry before it has
+-- an entry at the end has the position of its key if no entry before it has that key
 pub position_of-push : (es : List Entry) (key : List ℕ) (p : ℕ) (name : List ℕ)
     → position_of (es ++ (key, p) ∷ []) name ≡ first_of (position_of es name) (given (bytes_eq name key) p)
 position_of-push [] key p name = refl
@@ -36,7 +36,7 @@ position_of-push (e ∷ es) key p name = by_case (bytes_eq name e.0) (position_o
   by_case true rest = refl
   by_case false rest = rest
 
--- the same of a key that was added, if it was not there
+-- the same for a key that was added, if it was not there
 pub position_of-with : (es : List Entry) (key : List ℕ) (p : ℕ) (name : List ℕ)
     → position_of (with_entry es key p) name ≡ first_of (position_of es name) (given (bytes_eq name key) p)
 position_of-with es key p name = by_case (position_of es key) refl where

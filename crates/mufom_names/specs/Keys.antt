@@ -1,4 +1,4 @@
--- The keys of references: bytes that are equal exactly where two references are.
+-- The keys of references: bytes that are equal exactly if the references are.
 use Rattle.std.specs.Prelude.{◌≡◌, ◌↔◌, ℕ, ◌<◌, ◌^◌, List, [], ◌∷◌, ◌++◌, length, flat_map, Option, Some, None, IfSome}
 use Rattle.std.specs.List.{AllByRecursion}
 use Rattle.std.specs.Int.{w64, to_be_bytes}
@@ -20,7 +20,7 @@ note_key note = number_key note.type_index ++ (number_key note.attribute ++ (num
 abbrev pub notes_key : List Note → List ℕ
 notes_key notes = flat_map note_key notes
 
--- 0 of a strong reference; 1, the size and the default of a weak one
+-- 0 for a strong reference; 1, the size and the default for a weak one
 abbrev pub weak_key : Option Weak → List ℕ
 weak_key None = number_key 0
 weak_key (Some weak) = number_key 1 ++ (number_key weak.size ++ number_key weak.default)
@@ -71,6 +71,6 @@ pub record IsShortReference (r : Reference) : Type 0 where
   pub count : IsShort (length r.notes)
   pub notes : AllByRecursion IsShortNote r.notes
 
--- Two references have equal keys exactly where they are equal.
+-- Two references have equal keys exactly if they are equal.
 abbrev pub EqualKeysAreEqualReferences : Type 0
 EqualKeysAreEqualReferences = (r q : Reference) → IsShortReference r → IsShortReference q → (reference_key r ≡ reference_key q) ↔ IsSameReference r q

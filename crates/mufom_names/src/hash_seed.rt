@@ -1,17 +1,17 @@
-//! The seed of an index, drawn from all that is added to it.
+//! The hash seed of an index, computed from everything that is added to the index.
 
 use crate::name::{Note, Public, Reference};
 use std::hash::{BuildHasher, DefaultHasher, Hasher};
 
-/// What an index begins each of its hashes with. It is drawn from everything that will be added to
-/// the index, before the first of it is added, so that nobody can choose names that collide: who
-/// changes a name, so that it falls into the place of another, changes the seed, and with it the
-/// places of all of them. Names whose hashes collide would have to be found for just the seed that
-/// these names give.
+/// The seed from which an index starts each of its hashes. It protects the index against names that were
+/// chosen to collide. It is computed from everything that will be added to the index, before the first
+/// entry is added: whoever changes a name so that it collides with another one changes the seed too, and
+/// with it all hashes. An attacker would have to find names that collide under the very seed that these
+/// names give.
 ///
-/// The hashes are SipHash's, and so is the seed, under keys that everybody knows. This is an argument
-/// and nothing that is proved, and it reaches as far as nobody steers SipHash to a state that was
-/// chosen before. Any seed gives the same results: it decides about the time alone.
+/// Hashes and seed are computed by SipHash with publicly known keys. The protection is argued, not
+/// proved, and it assumes that nobody can steer SipHash to a state chosen in advance. The seed does not
+/// change any result; it affects only the time.
 #[derive(Clone, Copy)]
 pub struct HashSeed {
     start: DefaultHasher,
@@ -25,27 +25,27 @@ impl HashSeed {
         }
     }
 
-    // Mixes in the hash of a name or key. That hash ends with the rounds of SipHash's end, so that the
+    // Mixes in the hash of a name or key. That hash ends with SipHash's finalization rounds, so that the
     // bytes of a name don't set the state directly.
     fn mix(&mut self, one: DefaultHasher) {
         self.start.write_u64(one.finish());
     }
 
-    /// Draws from a name.
+    /// Mixes in a name.
     pub fn add_name(&mut self, name: &[u8]) {
         let mut one = DefaultHasher::new();
         one.write(name);
         self.mix(one);
     }
 
-    /// Draws from the names of publics.
+    /// Mixes in the names of publics.
     pub fn add_publics(&mut self, publics: &[Public]) {
         for public in publics {
             self.add_name(public.name.as_slice());
         }
     }
 
-    /// Draws from the names, the weak parts and the notes of references.
+    /// Mixes in the names, the weak parts and the notes of references.
     pub fn add_references(&mut self, references: &[Reference]) {
         for reference in references {
             self.mix(hash_of(reference));
@@ -53,7 +53,7 @@ impl HashSeed {
     }
 }
 
-// Writes the numbers of a note, with their count.
+// Hashes a note: its type, its attribute, and its numbers with their count.
 fn write_note(hasher: &mut DefaultHasher, note: &Note) {
     let numbers = note.numbers.as_slice();
     hasher.write_u64(note.type_index);
@@ -64,7 +64,7 @@ fn write_note(hasher: &mut DefaultHasher, note: &Note) {
     }
 }
 
-// The state of a hash of all that the key of a reference has.
+// A hasher that has taken in everything that the key of a reference contains.
 fn hash_of(reference: &Reference) -> DefaultHasher {
     let mut hasher = DefaultHasher::new();
     hasher.write(reference.name.as_slice());

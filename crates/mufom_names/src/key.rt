@@ -47,7 +47,7 @@ fn add_notes(key: &mut Vec<u8>, notes: &[Note]) -> Result<(), NoMemory>
     Ok(())
 }
 
-// Appends what makes a reference weak.
+// Appends the weak part of a reference: 0 if there is none.
 fn add_weak(key: &mut Vec<u8>, weak: Option<Weak>) -> Result<(), NoMemory>
     ensures { OnOk result (key.new.items ≡ key.old.items ++ weak_key weak) }
 {
@@ -59,8 +59,8 @@ fn add_weak(key: &mut Vec<u8>, weak: Option<Weak>) -> Result<(), NoMemory>
     add_number(key, weak.default)
 }
 
-/// The key by which an index finds a reference: two references have equal keys exactly where their
-/// names, their weak parts and their notes are equal.
+/// The key by which an index finds a reference: two references have equal keys exactly if their names,
+/// their weak parts and their notes are equal.
 ///
 /// A key consists of the length of the name and the name; 0 for a strong reference, or 1, the size
 /// and the default of a weak one; the count of the notes, and for each note its type, its attribute,
@@ -79,8 +79,8 @@ pub fn reference_key(alloc: Global, reference: &Reference) -> Result<Vec<u8>, No
     Ok(key)
 }
 
-/// A law that a proof can cite: two references have equal keys exactly where their names, their weak
-/// parts and their notes are equal.
+/// A law that a proof can cite: two references have equal keys exactly if their names, their weak parts
+/// and their notes are equal.
 pub fn equal_keys_are_equal_references()
     ensures { EqualKeysAreEqualReferences }
 {}

@@ -6,9 +6,8 @@ use mufom_numbers::NoMemory;
 use std::alloc::Global;
 use std::marker::Model;
 
-/// An index from keys of its own to positions, which finds a key by hashing it. Contracts see the
-/// list of the pairs of keys and positions, in the order in which they were added; no key stands
-/// twice.
+/// An index from keys, which it owns, to positions. It finds a key by hashing it. Contracts see the list
+/// of the pairs of keys and positions, in the order in which they were added; no key occurs twice.
 pub struct KeyIndex {
     keys: IndexSet<Vec<u8>, HashSeed>,
     positions: Vec<u32>,
@@ -28,7 +27,7 @@ impl Model for KeyIndex {
         × IsDistinct (λ key other. bytes_eq key.items other.items) index.keys.keys };
 }
 
-// Written out so that whoever drops one makes one call: see "Drops" in docs/ARCHITECTURE.md.
+// Written out so that each drop is one call: see "Drops" in docs/ARCHITECTURE.md.
 impl Drop for KeyIndex {
     fn drop(self) {
         let KeyIndex {
@@ -42,7 +41,7 @@ impl KeyIndex {
     ghost use Rattle.std.specs.Prelude.{◌≡◌, [], IfOk, OnOk, OnErr};
     ghost use Rattle.mufom_names.specs.Index.{position_of, with_entry};
 
-    /// An empty index, which hashes from this seed. Does not allocate.
+    /// An empty index, which hashes with this seed. Does not allocate.
     pub fn new(alloc: Global, seed: HashSeed) -> KeyIndex
         ensures { result ≡ [] }
     {
@@ -52,9 +51,8 @@ impl KeyIndex {
         }
     }
 
-    /// Adds a key with its position at the end and returns `None`. Where the key is in the index
-    /// already, returns the position that it has and changes nothing. A call that runs out of memory
-    /// changes nothing either.
+    /// Adds a key with its position at the end and returns `None`. If the key is in the index already,
+    /// returns its position and changes nothing. A call that runs out of memory changes nothing either.
     pub fn add(&mut self, key: Vec<u8>, position: u32) -> Result<Option<u32>, NoMemory>
         ensures answer { IfOk result (λ found. found ≡ position_of self.old key.items) }
         ensures after { OnOk result (self.new ≡ with_entry self.old key.items position) }

@@ -2,8 +2,8 @@
 //! the notes on both.
 //!
 //! It depends on `mufom_numbers`, `mufom_expr`, `indexmap` and `arrayvec`. Names are bytes of no
-//! character set, and two names are one where their bytes are. [`NameTable::find`] returns the first
-//! public of a name, and [`NameTable::duplicate`] the first public whose name an earlier one has;
+//! character set, and two names are the same if their bytes are. [`NameTable::find`] returns the first
+//! public with a name, and [`NameTable::duplicate`] the first public whose name an earlier one has;
 //! neither allocates. A [`NameIndex`] finds names by hashing, and a [`KeyIndex`] equal references by
 //! the keys that [`reference_key`] makes of them.
 #![tactic(auto)]

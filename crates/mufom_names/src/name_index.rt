@@ -6,9 +6,9 @@ use mufom_numbers::NoMemory;
 use std::alloc::Global;
 use std::marker::Model;
 
-/// An index from names to positions, which finds a name by hashing its bytes. The names stay where
-/// they are, and the index borrows them. Contracts see the list of the pairs of names and positions,
-/// in the order in which they were added; no name occurs twice.
+/// An index from names, which it borrows, to positions. It finds a name by hashing its bytes. Contracts
+/// see the list of the pairs of names and positions, in the order in which they were added; no name
+/// occurs twice.
 pub struct NameIndex<'a> {
     names: IndexSet<&'a [u8], HashSeed>,
     positions: Vec<u32>,
@@ -28,7 +28,7 @@ impl<'a> Model for NameIndex<'a> {
         × IsDistinct (λ name other. bytes_eq name.now other.now) index.names.keys };
 }
 
-// Written out so that whoever drops one makes one call: see "Drops" in docs/ARCHITECTURE.md.
+// Written out so that each drop is one call: see "Drops" in docs/ARCHITECTURE.md.
 impl Drop for NameIndex<'_> {
     fn drop(self) {
         let NameIndex {
@@ -42,7 +42,7 @@ impl<'a> NameIndex<'a> {
     ghost use Rattle.std.specs.Prelude.{◌≡◌, [], IfOk, OnOk, OnErr};
     ghost use Rattle.mufom_names.specs.Index.{position_of, with_entry, HaveDistinctKeys};
 
-    /// An empty index, which hashes from this seed. Does not allocate.
+    /// An empty index, which hashes with this seed. Does not allocate.
     pub fn new(alloc: Global, seed: HashSeed) -> NameIndex<'a>
         ensures { result ≡ [] }
     {
@@ -52,7 +52,7 @@ impl<'a> NameIndex<'a> {
         }
     }
 
-    /// An empty index with room for `count` names, which hashes from this seed.
+    /// An empty index with room for `count` names, which hashes with this seed.
     pub fn with_capacity(
         alloc: Global,
         seed: HashSeed,
@@ -66,9 +66,8 @@ impl<'a> NameIndex<'a> {
         })
     }
 
-    /// Adds a name with its position at the end and returns `None`. Where the name is in the index
-    /// already, returns the position that it has and changes nothing. A call that runs out of memory
-    /// changes nothing either.
+    /// Adds a name with its position at the end and returns `None`. If the name is in the index already,
+    /// returns its position and changes nothing. A call that runs out of memory changes nothing either.
     pub fn add(&mut self, name: &'a [u8], position: u32) -> Result<Option<u32>, NoMemory>
         ensures answer { IfOk result (λ found. found ≡ position_of self.old name.now) }
         ensures after { OnOk result (self.new ≡ with_entry self.old name.now position) }
@@ -88,7 +87,7 @@ impl<'a> NameIndex<'a> {
         }
     }
 
-    /// The position of a name, and `None` where it is not in the index. Does not allocate.
+    /// The position of a name, or `None` if it is not in the index. Does not allocate.
     pub fn find(&self, name: &[u8]) -> Option<u32>
         ensures value { result ≡ position_of self.now name.now }
         ensures distinct { HaveDistinctKeys self.now }

@@ -1,4 +1,4 @@
--- How many bytes a number has without leading zeros.
+-- The number of bytes of a number without leading zeros.
 use Rattle.std.proofs.Common.{◌≡◌, ℕ, zero, suc, ◌+◌, ◌-◌, ◌*◌, ◌/◌, ◌^◌, ◌<◌, ◌≤◌, length, refl, sym, inl, inr, arith}
 use Rattle.std.proofs.lemmas.Bool.{cases_lt}
 use Rattle.std.proofs.lemmas.Nat.{leading_top, pow-add}
@@ -18,7 +18,7 @@ bits_of_bytes (suc k) =
     let same : 8 * suc k ≡ 8 * k + 8 = omega arith in
     rw same (omega (arith, step, bits_of_bytes k))
 
--- a power that is below a number that is below another
+-- if 2^i is at most n, and n is below 2^j, then i is less than j
 between : (i j n : ℕ) → 2 ^ i ≤ n → n < 2 ^ j → i < j
 between i j n above below = elim (cases_lt i j) [
   | inl less ↦ less

@@ -27,7 +27,7 @@ without_leading_zeros-length (suc b ∷ bytes) = omega arith
 first : (b p w : ℕ) → (0 + suc b) * p ≤ w → p ≤ w
 first b p w h = omega arith
 
--- bytes without leading zeros, of some value, are worth at least 256 for each byte but the first
+-- a value above 0 is at least 256 to the power of k, where k bytes follow the first one that is not 0
 pub without_leading_zeros-high : (bytes : List ℕ) → 0 < big_endian bytes → 256 ^ (length (without_leading_zeros bytes) - 1) ≤ big_endian bytes
 without_leading_zeros-high [] some = absurd (omega arith)
 without_leading_zeros-high (zero ∷ bytes) some = without_leading_zeros-high bytes some
@@ -55,7 +55,7 @@ shortest_number-spells n fits = elim (cases_lt n 128) [
       rw (le-ltb n 128 large) (inr (refl, few, fit, sym (without_leading_zeros-value bytes ∙ to_be_bytes-value n fits)))
 ]
 
--- j bytes that spell n are no fewer than k, where n needs k
+-- if n needs k bytes, any bytes that spell n are at least k
 needs : (j k n : ℕ) → n < 256 ^ j → 256 ^ (k - 1) ≤ n → k ≤ j
 needs j k n below above = elim (cases_lt j k) [
   | inl fewer ↦ let more : 256 ^ j ≤ 256 ^ (k - 1) = pow-le-pow_right (omega arith) (omega arith) in absurd (omega arith)

@@ -81,7 +81,7 @@ number_at-got (lead ∷ bytes) fits =
       ])
     ]
 
--- less than a spelling wants more
+-- less than a spelling asks for more bytes
 pub number_at-cut_off : (input : List ℕ) (n : ℕ) → IsCutOff (SpellsNumber n) input → number_at input ≡ More
 number_at-cut_off [] n cut = refl
 number_at-cut_off (lead ∷ bytes) n (rest, more, inl short) = absurd (more (nil_from_length rest (omega (arith, length-append bytes rest, ap length short.1))))

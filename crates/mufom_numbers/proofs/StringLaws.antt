@@ -37,7 +37,7 @@ string_at-spelling (a ∷ b ∷ c ∷ []) text rest is =
     rw (is.0, ← is.3) (after 3 (length text) (223 ∷ b ∷ c ∷ (text ++ rest)) there)
 string_at-spelling (a ∷ b ∷ c ∷ d ∷ lead) text rest is = absurd is
 
--- what a taken string is: its lead stands before its bytes, and both are all that was taken
+-- a string that was taken: its lead is before its bytes, and nothing else was taken
 abbrev pub IsTakenString : List ℕ → Taken Span → Type 0
 IsTakenString input taken = IfGot taken (λ span used. (used ≤ length input) × (used ≡ span.start + span.len) × IsStringLead span.len (take span.start input))
 
@@ -76,7 +76,7 @@ string_at-taken (lead ∷ bytes) fits =
 short_after : (lead len : ℕ) (input : List ℕ) → length input < lead + len → string_after lead len input ≡ More
 short_after lead len input short = rw (lt-ltb _ _ short) refl
 
--- the prefix of a string wants more
+-- a proper prefix of a string asks for more bytes
 pub string_at-cut_off : (text input : List ℕ) → IsCutOff (SpellsString text) input → string_at input ≡ More
 string_at-cut_off text input (rest, more, (lead, is, fits, split)) = cut lead text input rest is split more where
   cut : (lead text input rest : List ℕ) → IsStringLead (length text) lead → input ++ rest ≡ lead ++ text → (rest ≡ [] → ⊥) → string_at input ≡ More
@@ -102,7 +102,7 @@ string_at-cut_off text input (rest, more, (lead, is, fits, split)) = cut lead te
       rw (same, high, low, ← is.3) (short_after 3 (length text) (223 ∷ b ∷ c ∷ input) (omega (arith, shorter)))
   cut (a ∷ b ∷ c ∷ d ∷ lead) text (i ∷ input) rest is split more = absurd is
 
--- `len` bytes that a lead counts, of which some are not there yet
+-- `len` bytes that a lead counts, some of which are not there yet
 completed : (len : ℕ) (lead bytes : List ℕ) → IsStringLead len lead → AreBytes bytes → length bytes < len → (text : List ℕ)
     × IsCutOff (SpellsString text) (lead ++ bytes)
 completed len lead bytes is fits short =

@@ -1,4 +1,4 @@
--- The value of bytes, the most significant first, and what bounds it.
+-- The value of bytes, the most significant first, and its bounds.
 use Rattle.std.proofs.Common.{ℕ, ◌+◌, ◌*◌, ◌^◌, ◌<◌, ◌≤◌, List, [], ◌∷◌, length, arith}
 use Rattle.std.proofs.Math.Nat.{pow-succ', mul-le-mul_right}
 use Rattle.mufom_numbers.specs.Spelling.{AreBytes, value_after, big_endian}
@@ -19,6 +19,6 @@ value_after-high v [] fits = omega arith
 value_after-high v (b ∷ bytes) fits = rw (pow-succ' 256 (length bytes))
     (high_step v b (256 ^ length bytes) _ fits.0 (value_after-high (256 * v + b) bytes fits.1))
 
--- k bytes are worth less than 256 ^ k
+-- the value of k bytes is less than 256 ^ k
 pub big_endian-below : (bytes : List ℕ) → AreBytes bytes → big_endian bytes < 256 ^ length bytes
 big_endian-below bytes fits = omega (arith, value_after-high 0 bytes fits)

@@ -11,7 +11,7 @@ use Rattle.mufom_numbers.specs.declared.taken.Taken.TheVariants.{Got, More, Bad}
 abbrev pub AreBytes : List ℕ → Type 0
 AreBytes bytes = AllByRecursion (λ b. b < 256) bytes
 
--- the number of bytes that are after the digits of n, the most significant first
+-- the number whose digits are those of n and then these bytes, the most significant first
 abbrev pub value_after : ℕ → List ℕ → ℕ
 value_after n [] = n
 value_after n (b ∷ bytes) = value_after (256 * n + b) bytes
@@ -25,14 +25,14 @@ SpellsNumber n [] = ⊥
 SpellsNumber n (lead ∷ bytes) = ((lead < 128) × (bytes ≡ []) × (n ≡ lead))
     ⊎ ((lead ≡ 128 + length bytes) × (length bytes ≤ 8) × AreBytes bytes × (n ≡ big_endian bytes))
 
--- What is before the bytes of a string of this length: the length, or DE and it, or DF and it in two bytes.
+-- The lead of a string of this length: the length (below 128), DE and the length in one byte, or DF and the length in two bytes.
 abbrev pub IsStringLead : ℕ → List ℕ → Type 0
 IsStringLead len (a ∷ []) = (len < 128) × (a ≡ len)
 IsStringLead len (a ∷ b ∷ []) = (a ≡ 222) × (len < 256) × (b ≡ len)
 IsStringLead len (a ∷ b ∷ c ∷ []) = (a ≡ 223) × (b < 256) × (c < 256) × (len ≡ 256 * b + c)
 IsStringLead len _ = ⊥
 
--- A string is a lead for its length and its bytes, of any character set.
+-- A string is a lead for its length, followed by its bytes, in any character set.
 abbrev pub SpellsString : List ℕ → List ℕ → Type 0
 SpellsString text bytes = (lead : List ℕ) × IsStringLead (length text) lead × AreBytes text × (bytes ≡ lead ++ text)
 
@@ -64,7 +64,7 @@ NoneIsShorter Spells bytes = (other : List ℕ) → Spells other → length byte
 
 -- ---- reading at the start of an input
 
--- the number at the start and the bytes it takes
+-- the number at the start, and how many bytes it takes
 abbrev pub number_at : List ℕ → Taken ℕ
 number_at [] = More
 number_at (lead ∷ bytes) = if nat_lt lead 128 then Got lead 1
@@ -72,12 +72,12 @@ number_at (lead ∷ bytes) = if nat_lt lead 128 then Got lead 1
     else (if nat_lt (length bytes) (lead - 128) then More
     else Got (big_endian (take (lead - 128) bytes)) (lead - 127)))
 
--- a string of len bytes after a lead of that length, where they stand
+-- the span of a string of len bytes after a lead of `lead` bytes, if they are there
 abbrev pub string_after : ℕ → ℕ → List ℕ → Taken Span
 string_after lead len input = if nat_lt (length input) (lead + len) then More
     else Got (record { start = lead; len = len }) (lead + len)
 
--- the span of the bytes of the string at the start, and the bytes it takes with its lead
+-- the span of the bytes of the string at the start, and how many bytes it takes with its lead
 abbrev pub string_at : List ℕ → Taken Span
 string_at [] = More
 string_at (lead ∷ bytes) = if nat_lt lead 128 then string_after 1 lead (lead ∷ bytes)
@@ -92,25 +92,25 @@ string_at (lead ∷ bytes) = if nat_lt lead 128 then string_after 1 lead (lead �
       two_byte_length (a ∷ b ∷ _) input = string_after 3 (256 * a + b) input
       two_byte_length _ input = More
 
--- ---- the words of clauses
+-- ---- definitions for clauses
 
--- a fact of the value and the count of bytes that were taken
+-- a fact about the value and the number of bytes that were taken
 abbrev pub IfGot : {X : Type 0} → Taken X → (X → ℕ → Type 0) → Type 0
 IfGot (Got x used) P = P x used
 IfGot More P = Unit {0}
 IfGot (Bad offset reason) P = Unit {0}
 
--- a fact of the offset of a fault
+-- a fact about the offset of an error
 abbrev pub IfBad : {X : Type 0} → Taken X → (ℕ → Type 0) → Type 0
 IfBad (Got x used) P = Unit {0}
 IfBad More P = Unit {0}
 IfBad (Bad offset reason) P = P offset
 
--- the input is the prefix of a spelling, and not all of it
+-- the input is a proper prefix of a spelling
 abbrev pub IsCutOff : (List ℕ → Type 0) → List ℕ → Type 0
 IsCutOff Spells input = (rest : List ℕ) × (rest ≢ []) × Spells (input ++ rest)
 
--- the first byte is one of those from low to high
+-- the first byte is in the range from low to high
 abbrev pub BeginsIn : ℕ → ℕ → List ℕ → Type 0
 BeginsIn low high [] = ⊥
 BeginsIn low high (b ∷ _) = (low ≤ b) × (b ≤ high)

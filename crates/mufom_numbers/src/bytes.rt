@@ -7,12 +7,12 @@ use smallvec::SmallVec;
 use std::alloc::Global;
 use std::marker::Model;
 
-// How many bytes are held without memory of their own.
+// The greatest length, in bytes, that is held without an allocation.
 const SHORT: usize = 16;
 
-/// Bytes that are kept, of no character set: a name, or literal bytes. Contracts see them as a list.
+/// An owned string of bytes in no particular character set: a name, or literal bytes. Contracts see it as a list.
 ///
-/// At most 16 are held in the value itself, as those of most names and loads are: these do not allocate.
+/// Up to 16 bytes are held in the value itself, without an allocation. This is enough for most names and loads.
 #[derive(Debug, Drop)]
 pub struct Bytes {
     held: SmallVec<u8, SHORT>,
@@ -27,7 +27,7 @@ impl Model for Bytes {
 }
 
 impl Bytes {
-    /// No bytes, with the allocator.
+    /// An empty string of bytes, which keeps the allocator.
     pub fn new(alloc: Global) -> Bytes
         ensures { result ≡ [] }
     {
@@ -60,7 +60,7 @@ impl Bytes {
         self.held.len()
     }
 
-    /// Whether there is no byte.
+    /// Whether there are no bytes.
     pub fn is_empty(&self) -> bool
         ensures { IsTrue result ↔ (self.now ≡ []) }
     {

@@ -6,7 +6,7 @@
 
 /// The lead of a number of four bytes.
 pub const NUMBER_OF_FOUR_BYTES: u8 = 0x84;
-/// The last byte that begins a number: eight bytes follow.
+/// The last byte that begins a number: the lead of a number of eight bytes.
 pub const LAST_NUMBER: u8 = 0x88;
 /// The lead of a string whose length is two bytes.
 pub const LONG_STRING: u8 = 0xDF;
@@ -15,16 +15,16 @@ pub const LONG_STRING: u8 = 0xDF;
 
 /// The comma before the size of a field.
 pub const COMMA: u8 = 0x90;
-/// The first byte of a function, left out or not.
+/// The first byte of the range of functions, which includes those that this profile leaves out.
 pub const FIRST_FUNCTION: u8 = 0xA0;
-/// The last byte of a function, left out or not.
+/// The last byte of the range of functions, which includes those that this profile leaves out.
 pub const LAST_FUNCTION: u8 = 0xB9;
 
 // Functions.
 
 /// The absolute value.
 pub const FUNCTION_ABS: u8 = 0xA2;
-/// The negative.
+/// The negation.
 pub const FUNCTION_NEG: u8 = 0xA3;
 /// The sum.
 pub const FUNCTION_PLUS: u8 = 0xA5;
@@ -48,11 +48,11 @@ pub const FUNCTION_GREATER: u8 = 0xAD;
 pub const FUNCTION_EQUAL: u8 = 0xAE;
 /// Whether they differ.
 pub const FUNCTION_UNEQUAL: u8 = 0xAF;
-/// The bits of both.
+/// The bitwise AND.
 pub const FUNCTION_AND: u8 = 0xB0;
-/// The bits of either.
+/// The bitwise OR.
 pub const FUNCTION_OR: u8 = 0xB1;
-/// The bits of one alone.
+/// The bitwise exclusive OR.
 pub const FUNCTION_XOR: u8 = 0xB2;
 
 // Brackets of fields.

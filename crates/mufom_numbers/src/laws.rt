@@ -5,18 +5,18 @@ ghost use Rattle.mufom_numbers.specs.Spelling.{SpellsNumber, SpellsString, numbe
 
 use crate::Taken;
 
-/// No spelling of a number begins another one: of two, where one begins with the other, both are
-/// one and spell one number.
+/// No spelling of a number is a proper prefix of another one: if one spelling begins with another, the
+/// two are equal and spell the same number.
 pub fn number_spellings_exclude()
     ensures { (m n : ℕ) (text rest : List ℕ) → SpellsNumber m text → SpellsNumber n (text ++ rest) → (m ≡ n) × (rest ≡ []) }
 {}
 
-/// No spelling of a string begins another one.
+/// No spelling of a string is a proper prefix of another one.
 pub fn string_spellings_exclude()
     ensures { (s t text rest : List ℕ) → SpellsString s text → SpellsString t (text ++ rest) → (s ≡ t) × (rest ≡ []) }
 {}
 
-/// What a writer writes is read back, whatever follows it.
+/// The shortest spellings, which a writer uses, are read back, whatever follows them.
 pub fn shortest_spellings_are_read()
     ensures number { (n : ℕ) (rest : List ℕ) → n < 2 ^ 64 → number_at (shortest_number n ++ rest) ≡ Taken.Got n (length (shortest_number n)) }
     ensures string { (text rest : List ℕ) → length text < 2 ^ 16

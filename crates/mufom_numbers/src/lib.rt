@@ -1,10 +1,10 @@
-//! Numbers and strings as object modules spell them, the reasons for which a module's bytes are
-//! refused, and the lists and texts that all other crates keep.
+//! Numbers and strings as object modules spell them, the errors that the bytes of a module can have,
+//! and the lists and texts that the other crates store.
 //!
-//! The lowest layer: it depends on `std`, `arrayvec` and `smallvec` alone. Its main clause is that
-//! [`read_number`] and [`read_id`] take a spelling exactly: a value is got where the input begins
-//! with a spelling of it, more is asked for where the input is the prefix of a spelling and not all
-//! of it, and anything else is refused at its first byte.
+//! This is the lowest layer: it depends only on `std`, `arrayvec`, `smallvec` and `thiserror`. Its
+//! main clause is that [`read_number`] and [`read_id`] accept exactly the spellings. If the input
+//! begins with a spelling, they return its value; if the input is a proper prefix of a spelling, they
+//! ask for more bytes; anything else is an error at the first byte.
 #![tactic(auto)]
 
 mod bytes;

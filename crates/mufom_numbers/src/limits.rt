@@ -1,6 +1,6 @@
 //! The limits of modules, files and images that several layers share.
 
-/// The greatest alignment of a section, in addressable units.
+/// The greatest alignment of a section, in minimum addressable units (MAUs).
 pub const MOST_ALIGNMENT: u64 = 2_147_483_648;
 /// The greatest length of a module's file, and of all input files of a command together, in bytes.
 pub const MOST_FILE_BYTES: usize = 67_108_864;

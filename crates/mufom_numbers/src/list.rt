@@ -36,7 +36,7 @@ impl<T> List<T> {
         }
     }
 
-    /// An empty list with room for `count` items, which are then added without taking memory.
+    /// An empty list with room for `count` items, which can then be added without an allocation.
     pub fn with_capacity(alloc: Global, count: usize) -> Result<List<T>, NoMemory>
         ensures { IfOk result (λ list. list ≡ []) }
     {
@@ -51,14 +51,14 @@ impl<T> List<T> {
         List { items }
     }
 
-    /// How many items there are.
+    /// The number of items.
     pub fn len(&self) -> usize
         ensures { result ≡ length self.now }
     {
         self.items.len()
     }
 
-    /// Whether there is no item.
+    /// Whether there are no items.
     pub fn is_empty(&self) -> bool
         ensures { IsTrue result ↔ (self.now ≡ []) }
     {
@@ -72,7 +72,7 @@ impl<T> List<T> {
         self.items.as_slice()
     }
 
-    /// The item at a position from 0, and `None` past the end.
+    /// The item at a position, counted from 0, or `None` past the end.
     pub fn get(&self, place: usize) -> Option<&T>
         ensures { option_map (λ item. item.now) result ≡ slice_get self.now place }
     {
@@ -87,7 +87,7 @@ impl<T> List<T> {
         items
     }
 
-    /// Takes the last item off, and `None` from an empty list.
+    /// Removes and returns the last item, or returns `None` if the list is empty.
     pub fn pop(&mut self) -> Option<T>
         ensures last { self.old ≡ self.new ++ option_to_list result }
         ensures none { IsNone result ↔ (self.old ≡ []) }
@@ -97,7 +97,7 @@ impl<T> List<T> {
 }
 
 impl<T: Drop> List<T> {
-    /// The list of one item, in memory for just that one.
+    /// A list of one item, with an allocation for just that one.
     pub fn single(alloc: Global, item: T) -> Result<List<T>, NoMemory>
         ensures { IfOk result (λ list. list ≡ item ∷ []) }
     {

@@ -2,17 +2,16 @@
 
 use thiserror::Error;
 
-/// Why a file is not an object module. The number of a reason is its rank: of two errors at one byte, the one with the
-/// lower number is reported.
+/// Why a file is not an object module.
 #[derive(Clone, Copy, Debug, PartialEq, Eq, Error)]
 pub enum Reason {
-    /// A number is expected and the byte begins none, or an index is 2^32 or more.
+    /// A number is expected and the byte does not begin one, or an index is 2^32 or more.
     #[error("invalid number")]
-    BadNumber = 1,
+    BadNumber,
     /// A string is expected and the byte does not begin one.
     #[error("invalid string")]
     BadId,
-    /// One byte, or two, that do not begin a record.
+    /// The byte, or the pair of bytes, does not begin a record.
     #[error("invalid record")]
     BadRecord,
     /// A record of the standard that this profile leaves out.
@@ -30,19 +29,19 @@ pub enum Reason {
     /// An expression ends with more than one term.
     #[error("the expression leaves more than one term")]
     SurplusTerms,
-    /// An expression is expected and has no token.
+    /// An expression is expected, but there is no token.
     #[error("empty expression")]
     Empty,
     /// An expression has a 256th token.
     #[error("the expression has more than 255 tokens")]
     TooLong,
-    /// A run of literal bytes is longer than 65,535.
+    /// A run of literal bytes is longer than 65,535 bytes.
     #[error("the run of bytes is longer than 65,535")]
     LongRun,
-    /// A field's size is not 1 to 8.
+    /// A field's size is not 1 to 8 bytes.
     #[error("the size of a field is not 1 to 8")]
     BadFieldSize,
-    /// The byte where a bracket has to close is not its partner.
+    /// A closing bracket is expected, and the byte is not the one that matches the opening bracket.
     #[error("mismatched bracket")]
     BracketMismatch,
     /// A section's letters are neither `C` nor `A S`.
@@ -60,7 +59,7 @@ pub enum Reason {
     /// The header contains an unexpected record.
     #[error("invalid header")]
     BadHeader,
-    /// The addressable units are not of this profile.
+    /// The addressable units are not those of this profile.
     #[error("unsupported addressable units")]
     BadDescriptor,
     /// The offsets of the parts decrease, or that of the end is 0.
@@ -90,16 +89,16 @@ pub enum Reason {
     /// An alignment is 0 or above 2^31.
     #[error("invalid alignment")]
     BadAlignment,
-    /// A load comes before a section is set.
+    /// A load occurs before a section is set.
     #[error("no section is set")]
     NoSection,
-    /// The program counter is used where no section is meant.
+    /// An expression uses a program counter where there is none.
     #[error("misplaced program counter")]
     BadP,
-    /// The end of a debug block has no beginning, has a value that it cannot have, or is missing.
+    /// The end of a debug block has no matching beginning, has a value that it cannot have, or is missing.
     #[error("unbalanced debug blocks")]
     BlockNesting,
-    /// A 33rd open debug block.
+    /// A 33rd debug block is opened inside 32 open ones.
     #[error("debug blocks are nested too deeply")]
     Depth,
     /// A byte follows the end of the module.

@@ -8,14 +8,14 @@ ghost use Rattle.mufom_numbers.specs.Spelling.{shortest_lead, without_leading_ze
 use crate::{Reason, Span, Taken};
 use arrayvec::ArrayVec;
 
-/// Reads the number at the start of the input, and states how many bytes it takes.
+/// Reads the number at the start of the input, and returns it with the length of its spelling in bytes.
 ///
-/// `Bad` is at offset 0 with [`Reason::BadNumber`], where the first byte begins no number. Takes
-/// no memory.
+/// Returns `Bad` at offset 0 with [`Reason::BadNumber`] if the first byte does not begin a number. Does
+/// not allocate.
 pub fn read_number(input: &[u8]) -> Taken<u64>
-    // What is taken is the prefix of the input, and spells the number.
+    // The bytes taken are a prefix of the input, and spell the number.
     ensures got { IfGot result (λ n used. (used ≤ length input.now) × SpellsNumber n (take used input.now)) }
-    // An input that begins with a spelling gives it.
+    // If the input begins with a spelling of a number, the result is that number.
     ensures only { (n : ℕ) (text rest : List ℕ) → SpellsNumber n text → input.now ≡ text ++ rest → result ≡ Taken.Got n (length text) }
     ensures more { (result ≡ Taken.More) ↔ ((n : ℕ) × IsCutOff (SpellsNumber n) input.now) }
     ensures bad { (result ≡ Taken.Bad 0 Reason.BadNumber) ↔ BeginsIn 0x89 0xFF input.now }
@@ -68,16 +68,16 @@ fn span_after(lead: usize, len: usize, input: &[u8]) -> Taken<Span>
     Taken::Got(Span { start: lead, len }, lead + len)
 }
 
-/// Reads the string at the start of the input: where its bytes are after the lead, and how many
-/// bytes lead and string take.
+/// Reads the string at the start of the input: returns the span of its bytes, which follow the lead, and
+/// the length of lead and string together, in bytes.
 ///
-/// `Bad` is at offset 0 with [`Reason::BadId`], where the first byte begins no string. Takes no
-/// memory.
+/// Returns `Bad` at offset 0 with [`Reason::BadId`] if the first byte does not begin a string. Does not
+/// allocate.
 pub fn read_id(input: &[u8]) -> Taken<Span>
-    // What is taken is the prefix of the input: a lead, and the bytes that it counts.
+    // The bytes taken are a prefix of the input: a lead, and the bytes that it counts.
     ensures got { IfGot result (λ span used. (used ≤ length input.now) × (used ≡ span.start + span.len)
         × IsStringLead span.len (take span.start input.now)) }
-    // An input that begins with a lead and the bytes it counts gives their span.
+    // If the input begins with a lead and the bytes that it counts, the result is their span.
     ensures only { (lead text rest : List ℕ) → IsStringLead (length text) lead → input.now ≡ lead ++ (text ++ rest)
         → result ≡ Taken.Got (record { start = length lead; len = length text }) (length lead + length text) }
     ensures more { (result ≡ Taken.More) ↔ ((text : List ℕ) × IsCutOff (SpellsString text) input.now) }
@@ -105,7 +105,7 @@ fn string(input: &[u8]) -> Taken<Span>
     }
 }
 
-// How many bytes a number has from its first that is not 0 on.
+// The number of bytes of a value, without leading zero bytes.
 fn significant(value: u64) -> usize
     ensures count { result ≡ length (without_leading_zeros (to_be_bytes w64 value)) }
     ensures within { result ≤ 8 }
@@ -113,7 +113,7 @@ fn significant(value: u64) -> usize
     8 - value.leading_zeros() as usize / 8
 }
 
-/// The shortest spelling of a number; of 0, which has two of one byte, the byte 00. Does not allocate.
+/// The shortest spelling of a number. Of the two spellings of 0 that have one byte, it is 00. Does not allocate.
 pub fn number_spelling(value: u64) -> ArrayVec<u8, 9>
     ensures spells { SpellsNumber value result.items }
     ensures shortest { NoneIsShorter (SpellsNumber value) result.items }
@@ -139,7 +139,7 @@ fn shortest(value: u64) -> ArrayVec<u8, 9>
     spelling
 }
 
-/// How many bytes the shortest spelling of a number has. Does not allocate.
+/// The length in bytes of the shortest spelling of a number. Does not allocate.
 pub fn number_length(value: u64) -> usize
     ensures { result ≡ length (shortest_number value) }
 {
@@ -149,7 +149,7 @@ pub fn number_length(value: u64) -> usize
     1
 }
 
-/// The shortest lead of a string of this many bytes. Does not allocate.
+/// The shortest lead for a string of `length` bytes. Does not allocate.
 pub fn id_lead(length: u16) -> ArrayVec<u8, 3>
     ensures leads { IsStringLead length result.items }
     ensures shortest { NoneIsShorter (IsStringLead length) result.items }

@@ -9,13 +9,13 @@ pub struct Span {
     pub len: usize,
 }
 
-/// What a reader makes of the prefix of an input.
+/// The result of reading at the start of an input.
 #[derive(Clone, Copy, Debug, PartialEq, Eq, Drop)]
 pub enum Taken<T> {
-    /// A value, and how many bytes of the input it takes.
+    /// A value, and the number of bytes of the input that it takes.
     Got(T, usize),
-    /// No fault stands, and more bytes are wanted.
+    /// There is no error so far, and more bytes are needed.
     More,
-    /// A fault at this position, which no further bytes can mend.
+    /// An error at this offset in the input, in bytes, whatever bytes follow.
     Bad { offset: usize, reason: Reason },
 }

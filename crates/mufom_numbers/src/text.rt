@@ -1,4 +1,4 @@
-//! A text of characters, as arguments and names of files are.
+//! A text of characters, such as an argument or the name of a file.
 
 ghost use Rattle.std.specs.Prelude.{◌≡◌, IfOk};
 
@@ -6,7 +6,7 @@ use crate::NoMemory;
 use std::alloc::Global;
 use std::marker::Model;
 
-/// A text that is kept, over `String`. Contracts see it as its bytes, which are UTF-8.
+/// An owned text, over `String`. Contracts see it as its UTF-8 bytes.
 #[derive(Debug, Drop)]
 pub struct Text {
     text: String,

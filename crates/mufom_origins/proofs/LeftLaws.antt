@@ -9,7 +9,7 @@ use Rattle.mufom_origins.specs.declared.origins.Place.{Place}
 use Rattle.mufom_origins.specs.Origins.{origins_left}
 use Rattle.mufom_origins.specs.Places.{place_from, place_in, set_from, set_marks}
 
--- a mark that is set is no earlier than the first
+-- a mark that is set is not before the first
 set-after : (base : ℕ) (marks : List Bool) (number old : ℕ) → slice_get (set_from base marks) number ≡ Some old → base ≤ old
 set-after base [] number old there = absurd cc
 set-after base (true ∷ marks) zero old there = let same : base ≡ old = cc in omega (arith, same)

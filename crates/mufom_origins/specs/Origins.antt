@@ -36,7 +36,7 @@ origin_of f = record {
 abbrev pub origins_of : List FileModule → List Origin
 origins_of files = map origin_of files
 
--- What is left of the origins where a link keeps some of its sections and publics, by a mark for each of them: every module has as many of
+-- What is left of the origins if a link keeps some of its sections and publics, by a mark for each of them: every module has as many of
 -- them as are left of its own. References are counted as before.
 abbrev pub origins_left : (sections publics : List Bool) → List Origin → List Origin
 origins_left sections publics [] = []

@@ -3,13 +3,13 @@ use Rattle.std.specs.Prelude.{ℕ, zero, suc, ◌+◌, ◌-◌, ◌<◌, ◌≤�
 use Rattle.std.specs.Prelude.{None, option_to_list, slice_get, nat_lt, count_by, Bool, true, false, if◌then◌else◌}
 use Rattle.mufom_origins.specs.declared.origins.Place.{Place}
 
--- where the entry with a number is, where lists from the one with a position on have this many entries
+-- where the entry with a number is, if lists from the one with a position on have this many entries
 abbrev pub place_from : ℕ → List ℕ → ℕ → Option Place
 place_from position [] number = None
 place_from position (count ∷ counts) number =
     if nat_lt number count then Some (record { «module» = position; entry = number }) else place_from (suc position) counts (number - count)
 
--- where the entry with a number is, in lists with these numbers of entries; none where they have no more
+-- where the entry with a number is, in lists with these numbers of entries; none if they have no more
 abbrev pub place_in : List ℕ → ℕ → Option Place
 place_in counts number = place_from 0 counts number
 
@@ -43,7 +43,7 @@ with_chosen roots chosen xs = take roots xs ++ at_positions (drop roots xs) chos
 abbrev pub set_marks : List Bool → ℕ
 set_marks marks = count_by (λ (mark : Bool). mark) marks
 
--- the positions of the marks that are set, where the first of all has this one
+-- the positions of the marks that are set, if the first of all has this one
 abbrev pub set_from : ℕ → List Bool → List ℕ
 set_from position [] = []
 set_from position (true ∷ marks) = position ∷ set_from (suc position) marks

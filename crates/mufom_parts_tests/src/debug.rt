@@ -1,4 +1,4 @@
-//! How deep debug items stand, and their addresses in order.
+//! Tests of debug items: their depth, and their addresses in order.
 
 use arrayvec::ArrayVec;
 use mufom_debug::{Block, BlockHead, Boxed, DebugItem, addresses, depth, is_within_depth};
@@ -7,12 +7,12 @@ use mufom_numbers::{Bytes, List};
 use std::alloc::Global;
 use std::process::Abort;
 
-// The expression that is this number.
+// The expression that consists of this number.
 fn expression(rt: &impl Abort, alloc: Global, number: u64) -> Postfix {
     Postfix::constant(alloc, number).expect(rt, "memory")
 }
 
-// A list of one value of the name 0.
+// A list of one item: a value of the name at position 0.
 fn value(rt: &impl Abort, alloc: Global, number: u64) -> List<DebugItem> {
     let value = expression(rt, alloc, number);
     List::single(alloc, DebugItem::Value { name: 0, value }).expect(rt, "memory")
@@ -22,7 +22,7 @@ fn block(rt: &impl Abort, alloc: Global, block: Block) -> DebugItem {
     DebugItem::Block(Boxed::new(alloc, block).expect(rt, "memory"))
 }
 
-// A source file that holds a value 3.
+// A source file that contains a value 3.
 fn source(rt: &impl Abort, alloc: Global) -> Block {
     Block {
         head: BlockHead::Source {
@@ -34,7 +34,7 @@ fn source(rt: &impl Abort, alloc: Global) -> Block {
     }
 }
 
-// A function whose begin is at 1 and whose end at 4, with a value 2 and a source file that holds a
+// A function whose start is at 1 and whose end is at 4, with a value 2 and a source file that contains a
 // value 3.
 fn function(rt: &impl Abort, alloc: Global) -> List<DebugItem> {
     let mut inner = value(rt, alloc, 2);

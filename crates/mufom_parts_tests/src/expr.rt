@@ -1,4 +1,4 @@
-//! Tokens and expressions: their bytes, values, texts, copies, and the sequences that are refused.
+//! Tests of tokens and expressions: their bytes, values, texts and copies, and the sequences that are errors.
 
 use mufom_expr::Function::{
     Abs, And, Divide, Equal, Greater, Less, Max, Min, Minus, Mod, Neg, Or, Plus, Times, Unequal,
@@ -14,7 +14,7 @@ use std::process::Abort;
 
 const R0: Token = Var(Letter::R, 0);
 
-// Each variable has this value, or none.
+// An environment in which each variable has this value, or none.
 #[derive(Drop)]
 struct All(Option<u64>);
 
@@ -26,7 +26,7 @@ impl Env for All {
     }
 }
 
-// One variable replaces each.
+// A renaming that replaces each variable by this one.
 #[derive(Drop)]
 struct AllAre(Letter, u32);
 
@@ -206,7 +206,7 @@ fn a_builder_refuses_what_is_no_expression(rt: HostRuntime) {
     assert_eq!(rt; refused(&[Number(1)]), None);
 }
 
-// Why the builder does not take the token, where it does not.
+// The error for which the builder rejects the token, if it does.
 fn fault(builder: &mut Builder, token: Token) -> Option<ExprFault> {
     builder.push(token).err()
 }
@@ -284,7 +284,7 @@ fn tokens_are_read_by_their_first_byte(rt: HostRuntime) {
     }
 }
 
-// The byte of each function, of each letter, and of those that are left out.
+// The byte of each function, of each letter, and of those that the profile leaves out.
 static FUNCTIONS: [(u8, Function); 16] = [
     (0xA2, Abs),
     (0xA3, Neg),
@@ -372,7 +372,7 @@ fn expressions_are_shown_in_infix_form(rt: HostRuntime) {
     }
 }
 
-// R0 less X7.
+// R0 minus X7.
 static DIFFERENCE: [Token; 3] = [R0, Var(Letter::X, 7), Fun(Minus)];
 
 #[test]

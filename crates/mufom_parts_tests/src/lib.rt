@@ -1,7 +1,7 @@
-//! Tests of the crates that a module's parts are made of: numbers, expressions, index tables, names, loads
-//! and debug items; and of the host in memory and the real one.
+//! Tests of the crates for the parts of a module (numbers, expressions, index tables, names, loads and
+//! debug items), of the host in memory and of the real host.
 //!
-//! They are in a crate of their own, so that the gate proves the crates that they test once.
+//! The tests are in a crate of their own, so that the gate proves the crates under test only once.
 #![tactic(auto)]
 
 #[cfg(test)]

@@ -1,4 +1,4 @@
-//! How many bytes items and loads put at addresses.
+//! Tests of the number of bytes that items and loads put into sections.
 
 use mufom_loads::{Item, Load, item_length, loaded_bytes};
 use mufom_numbers::{Bytes, List};

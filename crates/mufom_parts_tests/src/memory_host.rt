@@ -1,5 +1,5 @@
-//! Calls of a host in memory: what each takes or gives, those that fail by their number or because the room is
-//! used up, and the file and the texts that are after them.
+//! Tests of a host in memory: how many bytes each call takes or gives, which calls fail by their number or because
+//! the room is used up, and the file and the texts after the calls.
 
 use mufom_host::{Host, MemHost, Sink, Source, write_all};
 use mufom_numbers::{Bytes, List, Text};
@@ -21,7 +21,7 @@ enum Call {
 
 type Named = Option<(&'static str, &'static str)>;
 
-/// The file that is being made, the one that is made, and the texts that were printed.
+/// The file that is being made, the finished file, and the texts that were printed.
 #[derive(Clone, Copy, Debug)]
 struct Known {
     making: Named,
@@ -30,8 +30,9 @@ struct Known {
     err: &'static str,
 }
 
-/// A host with the files `a` and `b`: the numbers of its calls that fail, and its room; calls with how many bytes
-/// each takes or gives, 0 for those that have no number, and none for those that fail; and what is after them.
+/// A test of a host with the files `a` and `b`: the numbers of its calls that fail, and its room in bytes; the calls,
+/// each with the number of bytes that it takes or gives (0 for calls that return no number, `None` for those that
+/// fail); and the state after them.
 struct Run {
     fail_reads: &'static [u64],
     fail_writes: &'static [u64],
@@ -40,7 +41,7 @@ struct Run {
     after: Known,
 }
 
-// How many bytes a call took or gave, 0 for other calls, and none for one that failed.
+// The number of bytes that a call took or gave, 0 for other calls, and `None` for one that failed.
 fn taken(host: &mut MemHost, call: Call) -> Option<usize> {
     let mut buffer = [0u8; 3];
     let answer = match call {
@@ -109,7 +110,7 @@ fn do_all(rt: &impl Abort, alloc: Global, run: &Run) {
     assert!(rt; reveals(&host, &run.after));
 }
 
-// The room of the hosts that are not short of it.
+// The room, in bytes, of the hosts that have enough of it.
 const ROOM: usize = 1_048_576;
 
 // What a fresh host reveals.
@@ -188,7 +189,7 @@ fn a_file_is_made_and_texts_are_printed(rt: HostRuntime) {
     do_all(&rt, rt.alloc(), &FINISHING);
 }
 
-// The last call fails since no file `c` is there.
+// The last call fails, since there is no file `c`.
 const FAILING_READS: Run = Run {
     fail_reads: &[1, 3],
     fail_writes: &[],
@@ -209,7 +210,7 @@ fn reads_and_opens_fail_by_their_numbers(rt: HostRuntime) {
     do_all(&rt, rt.alloc(), &FAILING_READS);
 }
 
-// The last call fails since a file is finished.
+// The last call fails, since a file is finished already.
 const FAILING_WRITES: Run = Run {
     fail_reads: &[],
     fail_writes: &[0, 2, 4, 6, 8],
@@ -264,8 +265,8 @@ fn bytes_that_pass_the_room_are_refused(rt: HostRuntime) {
     do_all(&rt, rt.alloc(), &SHORT_OF_BYTES);
 }
 
-// Each name takes 8 bytes more than it has. Opened names of 18 bytes fit, and so does a created one of 20; with 27
-// and 28 bytes a call fails, and so does each later one of its kind.
+// Each name takes 8 bytes more than its length. Opened names that take 18 bytes fit, and so does a created one that
+// takes 20; with 27 and 28 bytes a call fails, and so does each later one of its kind.
 const SHORT_OF_NAMES: Run = Run {
     fail_reads: &[],
     fail_writes: &[],

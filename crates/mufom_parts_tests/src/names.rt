@@ -1,4 +1,4 @@
-//! Public symbols by name: in the table of a module, and in an index.
+//! Tests of finding public symbols by name: in the table of a module, and in an index.
 
 ghost use Rattle.std.specs.Prelude.{◌<◌, ◌^◌, length};
 
@@ -20,7 +20,7 @@ fn declare(rt: &impl Abort, alloc: Global, table: &mut NameTable, name: &[u8]) {
     table.publics.push(public).expect(rt, "memory");
 }
 
-// A table of the publics `f` and `g`.
+// A table with the publics `f` and `g`.
 fn table(rt: &impl Abort, alloc: Global) -> NameTable {
     let mut table = NameTable {
         publics: List::new(alloc),
@@ -41,7 +41,7 @@ fn duplicate(rt: &impl Abort, table: &NameTable) -> Option<u32> {
     table.duplicate()
 }
 
-// Names, and their positions in a table of `f`, `g` and `f` again.
+// Names, and their positions in a table with `f`, `g` and `f` again.
 static PLACES: [(&[u8], Option<u32>); 3] = [(b"f", Some(0)), (b"g", Some(1)), (b"h", None)];
 
 #[test]
@@ -75,7 +75,7 @@ fn a_name_keeps_its_first_position(rt: HostRuntime) {
     }
 }
 
-// The key of a reference `q` with this weak part.
+// The key of a reference to `q` with this weak part.
 fn key(rt: &impl Abort, alloc: Global, weak: Option<Weak>) -> Vec<u8> {
     let reference = Reference {
         name: Bytes::from_slice(alloc, b"q").expect(rt, "memory"),

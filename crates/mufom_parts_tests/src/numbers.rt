@@ -1,4 +1,4 @@
-//! Numbers and strings in each spelling, and lists, byte strings and texts.
+//! Tests of numbers and strings in each spelling, and of lists, byte strings and texts.
 
 use mufom_numbers::{
     Bytes, List, Reason, Span, Taken, Text, id_lead, number_spelling, read_id, read_number,
@@ -54,7 +54,7 @@ fn numbers_are_spelled_shortest(rt: HostRuntime) {
     }
 }
 
-// Bytes, and where the text of the string at their start stands.
+// Bytes, and the span of the string at their start.
 static STRINGS: [(&[u8], Taken<Span>); 10] = [
     (&[0x00, 0x41], Taken::Got(Span { start: 1, len: 0 }, 1)),
     (
@@ -130,7 +130,7 @@ fn a_list_of_one_item_holds_it(rt: HostRuntime) {
     assert_eq!(rt; list.as_slice(), [5].as_slice());
 }
 
-// The second is longer than what is in place.
+// The second string is longer than what fits in the value itself.
 static BYTES: [&[u8]; 2] = [&[0, 255], b"twenty-six bytes of a name"];
 
 #[test]
@@ -154,7 +154,7 @@ fn texts_are_copied(rt: HostRuntime) {
     assert_eq!(rt; text.as_str(), "code");
 }
 
-// A type that holds itself through a list.
+// A type that contains itself through a list.
 #[derive(Debug, Drop)]
 struct Node {
     value: u32,

@@ -1,4 +1,4 @@
-//! A file of the system that is written and read back, and texts that are printed.
+//! Tests of the real host: a file that is written and read back, and texts that are printed.
 
 use mufom_host::{Failed, Host, RealHost, Sink, Source};
 use std::fs;
@@ -6,7 +6,7 @@ use std::test::Fail;
 
 const NAME: &str = "real_host_test.tmp";
 
-// Makes the file with these bytes in two chunks, and states whether all went well.
+// Makes the file from these two chunks, and returns whether every call succeeded.
 fn makes(host: &mut RealHost, first: &[u8], second: &[u8]) -> bool {
     host.create(NAME).is_ok()
         && host.write(first) == Ok(first.len())
@@ -14,7 +14,7 @@ fn makes(host: &mut RealHost, first: &[u8], second: &[u8]) -> bool {
         && host.finish().is_ok()
 }
 
-// How many bytes of the file one read gives, where it opens.
+// The number of bytes that one read of the file gives, if it opens.
 fn reads(host: &mut RealHost, buffer: &mut [u8]) -> Result<usize, Failed> {
     host.open(NAME)?;
     host.read(buffer)
@@ -38,11 +38,11 @@ fn a_file_is_written_and_read_back(rt: HostRuntime) -> Result<(), Fail> {
     Ok(())
 }
 
-/// More bytes than the host gathers of a file, and fewer than two blocks.
+/// A length in bytes: more than the host gathers of a file, and less than two blocks.
 const LONG: usize = 100_000;
 
-// Whether a file is read back that is written by a short chunk, one that is longer than a block, and a
-// short one again.
+// Whether a file is read back correctly that was written in three chunks: a short one, one that is longer
+// than a block, and a short one again.
 fn returns_all(host: &mut RealHost, long: &[u8]) -> bool {
     let mut first = [0u8; 1];
     let mut rest = [0u8; LONG];

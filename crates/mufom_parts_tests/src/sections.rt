@@ -1,4 +1,4 @@
-//! Positions of indexes, in the order in which they were added.
+//! Tests of the positions of indexes, in the order in which they were added.
 
 ghost use Rattle.std.specs.Prelude.{◌≡◌, ◌+◌, ◌-◌, ◌<◌, ◌^◌, length};
 
@@ -6,7 +6,7 @@ use mufom_sections::{AddFault, IndexTable};
 use std::alloc::Global;
 use std::process::Abort;
 
-// Adds an index that is new and gets this position.
+// Adds a new index, which must get the position `want`.
 fn add_new(rt: &impl Abort, table: &mut IndexTable, index: u32, want: u32)
     requires { length table.old < 2 ^ 32 - 1 }
     ensures { length table.new ≡ length table.old + 1 }
@@ -30,7 +30,7 @@ fn indexes_get_positions_in_order(rt: HostRuntime) {
     finds(&rt, &table, &[(7, Some(0)), (3, Some(1)), (4, None)]);
 }
 
-// The row of 7, 8 and 9, and then two more.
+// The row of 7, 8 and 9, and then two more indexes.
 fn row_and_gap(rt: &impl Abort, alloc: Global) -> IndexTable
     ensures { length result ≡ 5 }
 {

@@ -1,4 +1,4 @@
--- The sections that wait are aligned where all sections are.
+-- The sections that wait are aligned if all sections are.
 use Rattle.std.proofs.Common.{ℕ, zero, suc, ◌+◌, List, [], ◌∷◌, map, Bool, true, false, cond, arith}
 use Rattle.std.specs.Prelude.{filter, All}
 use Rattle.std.specs.List.{AllByRecursion, enumerate_from}
@@ -38,7 +38,7 @@ pub waiting-aligned : (listed : List (List ℕ)) (sections : List Section) → A
 waiting-aligned listed sections h all = all_of (All IsAlignedWaiting) (map (waiting_among listed (numbered sections)) all)
     (entries_aligned listed (numbered sections) (numbered_aligned 0 sections h) all)
 
--- commons that wait are aligned where the commons are
+-- commons that wait are aligned if the commons are
 pub commons-aligned : (first : ℕ) (commons : List Section) → All IsAligned commons → All IsAlignedWaiting (map waiting (enumerate_from first commons))
 commons-aligned first commons h = all_of IsAlignedWaiting (map waiting (enumerate_from first commons))
     (each first commons (numbered_aligned first commons h)) where

@@ -1,4 +1,4 @@
--- Among lists in which no name stands twice, one entry at most stands for a name.
+-- Among lists in which no name occurs twice, one entry at most matches a name.
 use Rattle.std.proofs.Common.{◌≡◌, ◌≢◌, ℕ, ◌<◌, ◌≤◌, List, [], ◌∷◌, ◌++◌, length, get_or, Option, Some, None, Bool, true, false, not, ◌&&◌, ◌||◌}
 use Rattle.std.proofs.Common.{cond, refl, ap, ◌∙◌, subst, arith, rules}
 use Rattle.std.specs.Prelude.{position, nat_lt, codes}
@@ -43,7 +43,7 @@ not_true false e = refl
 less_false : (m n : ℕ) → nat_lt m n ≡ false → n ≤ m
 less_false m n e = search rules
 
--- where no position is found, no element passes
+-- if no position is found, no element passes
 pub no_position : (p : List ℕ → Bool) (xs : List (List ℕ)) → position p xs ≡ None → list_any p xs ≡ false
 no_position p xs e = by_test (nat_lt (position_or_len p xs) (length xs)) refl e where
   by_test : (b : Bool) → nat_lt (position_or_len p xs) (length xs) ≡ b → cond b (Some (position_or_len p xs)) None ≡ None → list_any p xs ≡ false
@@ -53,7 +53,7 @@ no_position p xs e = by_test (nat_lt (position_or_len p xs) (length xs)) refl e 
       list_any_none p xs (λ k d less. let before : k < position_or_len p xs = omega (arith, less, far) in
       not_true (p (get_or xs k d)) (prefix_len_passes (λ x. not (p x)) xs k d before))
 
--- no element passes where the list has none that does
+-- no element passes if the list has none that does
 pub none_at : (p : List ℕ → Bool) (xs : List (List ℕ)) (k : ℕ) (d : List ℕ) → k < length xs → list_any p xs ≡ false → p (get_or xs k d) ≡ false
 none_at p xs k d less none = by_case (p (get_or xs k d)) refl where
   by_case : (b : Bool) → p (get_or xs k d) ≡ b → b ≡ false
@@ -81,7 +81,7 @@ apart listed j k h j_in k_in differ = by_order (nat_lt k j) refl where
 abbrev star : List ℕ
 star = codes "*"
 
--- an entry stands for a name, and no other one does
+-- an entry matches a name, and no other one does
 pub record StandsAlone (listed : List (List ℕ)) (name : List ℕ) (e : ℕ) : Type 0 where
   pub within : e < length listed
   pub stands : stands_for listed (get_or listed e []) name ≡ true
@@ -122,7 +122,7 @@ entry_for-some listed name e h found = by_name (position (bytes_eq name) listed)
   by_name (Some at) is found = let same : at ≡ e = cc in subst (StandsAlone listed name) same (of_name at is)
   by_name None is found = of_star e (no_position (bytes_eq name) listed is) found
 
--- no entry stands for a name that has none
+-- no entry matches a name that has none
 pub entry_for-none : (listed : List (List ℕ)) (name : List ℕ) → entry_for listed name ≡ None → is_listed listed name ≡ false
 entry_for-none listed name missing = by_name (position (bytes_eq name) listed) refl missing where
   at : (k : ℕ) (d : List ℕ) → k < length listed → list_any (bytes_eq name) listed ≡ false → list_any (bytes_eq star) listed ≡ false

@@ -12,7 +12,7 @@ use Rattle.mufom_sections.specs.declared.section.Section.{Section}
 use Rattle.mufom_place.specs.declared.placing.Extent.{Extent}
 use Rattle.mufom_place.specs.Facts.{extents, is_before, put_in_order, in_order}
 
--- an element stands in a list
+-- an element is in a list
 abbrev pub StandsIn : {A : Type 0} → A → List A → Type 0
 StandsIn x xs = (i : ℕ) × (slice_get xs i ≡ Some x)
 
@@ -114,7 +114,7 @@ put_keeps x (z ∷ xs) y i e = by_case (is_before x z) i e (put_keeps x xs y) wh
   by_case false zero e later = (0, e)
   by_case false (suc i) e later = let found = later i e in (suc found.0, found.1)
 
--- the position of an element is no other's
+-- no other element has the position of an element
 abbrev OtherNumber : Extent → List Extent → Type 0
 OtherNumber x xs = (y : Extent) (i : ℕ) → slice_get xs i ≡ Some y → x.section ≢ y.section
 

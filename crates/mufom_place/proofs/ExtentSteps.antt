@@ -13,7 +13,7 @@ some_size n differ = by_case (n == 0) refl where
   by_case true e = absurd (differ (search rules))
   by_case false e = refl
 
--- an empty section has no extent, and another one stands at its base
+-- an empty section has no extent, and another one is at its base
 pub extents-empty : (s : Numbered) (more : List Numbered) (base : ℕ) (placed : List ℕ) → s.1.size ≡ 0 → extents (s ∷ more) (base ∷ placed) ≡ extents more placed
 extents-empty s more base placed e = ap (λ t. if t then extents more placed
     else record { base = base; section = s.0; size = s.1.size } ∷ extents more placed) (empty_size s.1.size e)

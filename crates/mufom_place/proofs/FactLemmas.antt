@@ -1,4 +1,4 @@
--- What is answered in place of bases is a fact, and facts are answered.
+-- What is returned in place of bases is a fact, and facts are returned.
 use Rattle.std.proofs.Common.{◌≡◌, ◌≢◌, ℕ, zero, suc, ◌+◌, ◌<◌, ◌≤◌, ◌^◌, ◌⊎◌, inl, inr, List, [], ◌∷◌, ◌++◌, map, Option, Some, None, Bool, true}
 use Rattle.std.proofs.Common.{false, not, ◌&&◌, ◌||◌, refl, sym, ap, ◌∙◌, subst, arith, rules}
 use Rattle.std.specs.Prelude.{slice_get, is_none, nat_lt, nat_le, ◌==◌, if◌then◌else◌}
@@ -209,7 +209,7 @@ overlap_at (x ∷ y ∷ xs) o fact e = by_case (nat_lt y.base (x.base + x.size))
     found.3,
   )
 
--- where no neighbours overlap, no two do
+-- if no neighbours overlap, no two do
 apart : (xs : List Extent) → InOrder xs → first_overlap xs ≡ None → (x y : Extent) (i j : ℕ) → i < j → slice_get xs i ≡ Some x → slice_get xs j
     ≡ Some y → x.base + x.size ≤ y.base
 apart [] o e x y i j less a b = absurd cc
@@ -426,7 +426,7 @@ module _ (plan : Plan) (sections commons : List Section) where
         by_order (inr (inl h)) a b c = b h
         by_order (inr (inr h)) a b c = c h
 
--- All three, in the order in which they are answered.
+-- All three, in the order in which they are returned.
 module _ (width : ℕ) (plan : Plan) (sections commons : List Section) where
   abbrev unplaced : Option PlaceRefusal
   unplaced = first_some (unplaced_at (listed_names plan.regions)) (numbered sections)

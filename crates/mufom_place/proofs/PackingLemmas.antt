@@ -38,7 +38,7 @@ drop-prefix : {A : Type 0} (xs ys : List A) → drop (length xs) (xs ++ ys) ≡ 
 drop-prefix [] ys = refl
 drop-prefix (x ∷ xs) ys = drop-prefix xs ys
 
--- where the sections of each name wait, the regions give the bases that their lists state
+-- if the sections of each name wait, the regions give the bases that their lists state
 pub placings_from-waiting : (waiting : List ℕ → List Waiting) (commons : List Waiting) (n : ℕ) (regions : List Region)
     → placings_from n regions (map waiting (listed_names regions)) commons
     ≡ flat_map (λ r. packed r.0 r.1.base (flat_map waiting r.1.sections ++ commons_in r.1 commons)) (enumerate_from n regions)
@@ -53,7 +53,7 @@ placings_from-waiting waiting commons n (region ∷ regions) =
     (λ i. packed n region.base (flat_map (λ xs. xs) (prefix i) ++ commons_in region commons) ++ placings_from (n + 1) regions (back i) commons)
     ∙ (λ i. packed n region.base (joined-map waiting region.sections i ++ commons_in region commons) ++ placings_from-waiting waiting commons (n + 1) regions i)
 
--- where nothing is unplaced, what is answered by the plan is what is answered by what its regions give
+-- if nothing is unplaced, the result by the plan is the result by what its regions give
 pub place_refusal-by : (width : ℕ) (plan : Plan) (before last sections : List Section) (given : List Placing) (placed : List ℕ)
     → before ++ last ≡ sections → given ≡ placings plan before last → placed ≡ map (λ s. (site_by given s).base) (numbered sections)
     → first_some (unplaced_at (listed_names plan.regions)) (numbered before) ≡ None

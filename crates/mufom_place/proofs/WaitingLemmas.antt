@@ -52,7 +52,7 @@ waiting-based listed prefix s based = sym (map_same (waiting_among listed prefix
       stays entry = waiting_among-next listed entry s prefix false (ap (λ b. b && stands_for listed entry s.1.name) based)
           ∙ append-nil (waiting_among listed prefix entry)
 
--- a section without a base waits at the entry that stands for its name
+-- a section without a base waits at the entry that matches its name
 pub waiting-added : (listed : List (List ℕ)) (prefix : List Numbered) (s : Numbered) (e : ℕ) → has_no_base s.1 ≡ true → StandsAlone listed s.1.name e
     → map (waiting_among listed (prefix ++ s ∷ [])) listed ≡ set (map (waiting_among listed prefix) listed) e
     (waiting_among listed prefix (get_or listed e []) ++ waiting s ∷ [])

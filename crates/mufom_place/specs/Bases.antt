@@ -1,6 +1,6 @@
 -- Where a plan puts sections and commons. All numbers are exact: nothing wraps here.
 --
--- There are two lists. The first has the sections of the modules that are placed, which go by their own bases or by the lists of the
+-- There are two lists. The first has the sections of the modules, which are placed at their own bases or by the lists of the
 -- plan's regions; the second has the commons, which have no base and go to the region that takes them. The positions of the commons
 -- follow those of the sections.
 use Rattle.std.specs.Prelude.{ℕ, ◌+◌, ◌-◌, ◌*◌, ◌/◌, ◌==◌, List, [], ◌∷◌, ◌++◌, length, map, filter, Option, Some, None, is_none, Bool, not, ◌&&◌}
@@ -30,22 +30,22 @@ numbered sections = enumerate_from 0 sections
 abbrev pub has_no_base : Section → Bool
 has_no_base section = is_none section.base
 
--- an entry of the lists stands for its own name, and a star also for the names that no list has
+-- an entry of the lists matches its own name, and a star also matches the names that no list has
 abbrev pub stands_for : List (List ℕ) → List ℕ → List ℕ → Bool
 stands_for listed entry name = bytes_eq entry name || (bytes_eq entry (codes "*") && not (has_name listed name))
 
--- some entry of the lists stands for the name
+-- some entry of the lists matches the name
 abbrev pub is_listed : List (List ℕ) → List ℕ → Bool
 is_listed listed name = list_any (λ entry. stands_for listed entry name) listed
 
--- a section goes where an entry stands: it has no base, and the entry stands for its name
+-- a section is placed at an entry: the section has no base, and the entry matches its name
 abbrev pub goes_to : List (List ℕ) → List ℕ → Numbered → Bool
 goes_to listed entry s = has_no_base s.1 && stands_for listed entry s.1.name
 
 abbrev pub waiting : Numbered → Waiting
 waiting s = record { section = s.0; align = s.1.align; size = s.1.size }
 
--- those of some sections that go where an entry stands, in their order
+-- the sections that are placed at an entry, in their order
 abbrev pub waiting_among : List (List ℕ) → List Numbered → List ℕ → List Waiting
 waiting_among listed sections entry = map waiting (filter (goes_to listed entry) sections)
 
@@ -57,11 +57,11 @@ taken_by plan sections region = flat_map (waiting_among (listed_names plan.regio
 abbrev pub waiting_commons : List Section → List Section → List Waiting
 waiting_commons sections commons = map waiting (enumerate_from (length sections) commons)
 
--- the commons, where a region takes them
+-- the commons, if the region takes them
 abbrev pub commons_in : Region → List Waiting → List Waiting
 commons_in region commons = if region.common then commons else []
 
--- what is put into a region: the sections that it takes, and after them the commons where it takes those
+-- what is put into a region: the sections that it takes, and after them the commons if it takes those
 abbrev pub put_into : Plan → List Section → List Section → Region → List Waiting
 put_into plan sections commons region = taken_by plan sections region ++ commons_in region (waiting_commons sections commons)
 
@@ -75,7 +75,7 @@ packed region address (w ∷ more) = let base = aligned_up w.align address in
 abbrev pub placings : Plan → List Section → List Section → List Placing
 placings plan sections commons = flat_map (λ r. packed r.0 r.1.base (put_into plan sections commons r.1)) (enumerate_from 0 plan.regions)
 
--- the last of two that there is
+-- the second of two, or the first if there is no second
 abbrev pub last_of : {A : Type 0} → Option A → Option A → Option A
 last_of first (Some second) = Some second
 last_of first None = first
@@ -85,17 +85,17 @@ abbrev pub placing_of : List Placing → ℕ → Option Placing
 placing_of [] n = None
 placing_of (p ∷ more) n = last_of (if p.section == n then Some p else None) (placing_of more n)
 
--- a section is at its own base, or where a region puts it, or at 0 where no region does
+-- a section is at its own base, or where a region puts it, or at 0 if no region does
 abbrev pub site_with : Option ℕ → Option Placing → AssignedBase
 site_with (Some base) placing = record { base = base; region = None }
 site_with None (Some placing) = record { base = placing.base; region = Some placing.region }
 site_with None None = record { base = 0; region = None }
 
--- where a section or a common stands, by what regions give
+-- the base of a section or a common, by what regions give
 abbrev pub site_by : List Placing → Numbered → AssignedBase
 site_by given s = site_with s.1.base (placing_of given s.0)
 
--- where it stands by the plan
+-- its base by the plan
 abbrev pub site_of : Plan → List Section → List Section → Numbered → AssignedBase
 site_of plan sections commons s = site_by (placings plan sections commons) s
 

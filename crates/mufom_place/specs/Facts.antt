@@ -36,11 +36,11 @@ sections_before count sections = take (length sections - count) sections
 abbrev pub last_sections : ℕ → List Section → List Section
 last_sections count sections = drop (length sections - count) sections
 
--- a refusal is what is returned, but for out of memory
+-- the error is the one that the definition gives, unless it is out of memory
 abbrev pub IsAnswer : Option PlaceRefusal → PlaceRefusal → Type 0
 IsAnswer answer refusal = refusal ≢ NoMemory → answer ≡ Some refusal
 
--- the first answer that there is
+-- the first of the two that is there
 infixr 20 ◌or_else◌
 abbrev pub ◌or_else◌ : {A : Type 0} → Option A → Option A → Option A
 (Some x) or_else other = Some x
@@ -50,7 +50,7 @@ abbrev pub first_some : {A B : Type 0} → (A → Option B) → List A → Optio
 first_some f [] = None
 first_some f (x ∷ xs) = f x or_else first_some f xs
 
--- a section without a base for whose name no list of the plan stands
+-- a section without a base whose name no list of the plan matches
 abbrev pub is_unplaced : List (List ℕ) → Section → Bool
 is_unplaced listed section = has_no_base section && not (is_listed listed section.name)
 
@@ -119,7 +119,7 @@ pub record IsAt (plan : Plan) (sections commons : List Section) (n : ℕ) (secti
   pub found : slice_get (sections ++ commons) n ≡ Some section
   pub placed : site ≡ site_of plan sections commons (n, section)
 
--- the section at a position has no base, and no list of the plan stands for its name; a common has no need of a list
+-- the section at a position has no base, and no list of the plan matches its name; a common needs no list
 pub record IsUnplaced (plan : Plan) (sections : List Section) (n : ℕ) : Type 0 where
   pub section : Section
   pub found : slice_get sections n ≡ Some section
@@ -156,7 +156,7 @@ pub record IsOverlap (plan : Plan) (sections commons : List Section) (m n : ℕ)
   pub first : Covers plan sections commons m address
   pub second : Covers plan sections commons n address
 
--- What keeps sections and commons from being placed. A misfit stands only where no section is unplaced, and an overlap only where no
+-- What keeps sections and commons from being placed. A misfit holds only if no section is unplaced, and an overlap only if no
 -- section is unplaced and nothing is a misfit.
 abbrev pub Stands : ℕ → Plan → List Section → List Section → PlaceRefusal → Type 0
 Stands width plan sections commons (Unplaced n) = IsUnplaced plan sections n

@@ -21,7 +21,7 @@ abbrev pub end_of : ℕ → List Waiting → ℕ
 end_of address [] = address
 end_of address (w ∷ more) = end_of (aligned_up w.align address + w.size) more
 
--- the bases that regions give, the first at this position, where the sections of each wait at as many entries as its list has names
+-- the bases that regions give, the first at this position, if the sections of each wait at as many entries as its list has names
 abbrev pub placings_from : ℕ → List Region → List (List Waiting) → List Waiting → List Placing
 placings_from n [] entries commons = []
 placings_from n (region ∷ regions) entries commons =

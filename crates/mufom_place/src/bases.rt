@@ -91,7 +91,7 @@ fn pack_region(
     Ok(())
 }
 
-/// The commons, where a region takes them.
+/// The commons, if the region takes them; otherwise none.
 fn commons_of<'a>(region: &Region, commons: &'a [Waiting]) -> &'a [Waiting]
     ensures commons { result.now ≡ commons_in region.now commons.now }
     ensures bound { length result.now ≤ length commons.now }

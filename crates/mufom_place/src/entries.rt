@@ -55,7 +55,7 @@ pub fn index_of_entries(alloc: Global, plan: &Plan) -> Result<NameList, NoMemory
     Ok(index)
 }
 
-/// The position of the entry that stands for a name: that of the name, or of the star.
+/// The position of the entry that matches a name: that of the name itself, or that of the star.
 fn entry_of(index: &NameList, star: Option<usize>, name: &[u8]) -> Option<usize>
     requires { star ≡ position (bytes_eq (codes "*")) index.now }
     ensures { result ≡ entry_for index.now name.now }
@@ -103,7 +103,7 @@ pub fn waiting_commons(
     Ok(list)
 }
 
-/// The sections without a base, at the entries that stand for their names.
+/// The sections without a base, grouped by the entries that match their names.
 pub fn waiting_sections(
     alloc: Global,
     sections: &[Section],

@@ -1,4 +1,4 @@
-//! The bases of sections, where each lies in the address space and in its region.
+//! The bases of sections, if each lies within the address space and its region.
 
 ghost use Rattle.std.specs.Prelude.{◌≡◌, ◌≤◌, ◌<◌, ◌^◌, None, Some, IfOk, IfErr, OnOk, length, map};
 ghost use Rattle.mufom_place.specs.Bases.{numbered, site_by, site_with};
@@ -12,7 +12,7 @@ use mufom_plan::Region;
 use mufom_sections::Section;
 use std::alloc::Global;
 
-/// Where a section stands, by its own base and by what a region gives it.
+/// The base of a section: its own, or else the one that a region gives it.
 pub(crate) fn site(base: Option<u64>, placing: Option<Placing>) -> AssignedBase
     ensures { result ≡ site_with base placing }
 {
@@ -45,7 +45,7 @@ fn is_past(regions: &[Region], region: Option<u32>, end: u128) -> bool
     }
 }
 
-/// The base of the section at a position, where it lies in the address space and in its region.
+/// The base of the section at a position, if it lies within the address space and its region.
 fn fitting_base(
     place: u32,
     size: u64,

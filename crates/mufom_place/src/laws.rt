@@ -6,8 +6,8 @@ ghost use Rattle.mufom_plan.specs.declared.plan.Plan.{Plan};
 ghost use Rattle.mufom_place.specs.declared.refusal.PlaceRefusal.{PlaceRefusal};
 ghost use Rattle.mufom_place.specs.Facts.{Stands, place_refusal};
 
-/// What is returned in place of bases is a fact that holds, and where nothing is returned no fact
-/// stands. So there is an answer exactly where there is a fact.
+/// What is returned in place of bases is a fact that holds, and if nothing is returned no fact
+/// holds. So a fact is returned exactly if one holds.
 pub fn place_refusals_are_facts()
     ensures sound { (width : ℕ) (plan : Plan) (sections commons : List Section) (fact : PlaceRefusal)
         → place_refusal width plan sections commons ≡ Some fact → Stands width plan sections commons fact }

@@ -45,17 +45,17 @@ pub(crate) fn regional(
 /// The bases of sections and commons by a plan, in the order of the list.
 ///
 /// The last `commons` sections of the list are the commons; they have no base of their own. Any
-/// other section with a base is there. The rest go where the lists of the plan's regions put
-/// them: by the order of a list, for one name in the order of the sections, each at the least
-/// multiple of its alignment that is not below the end of the one before, the first not below the
-/// region's base. The name `*` stands for itself and for all names that no list has. In the common
+/// other section that has a base stays there. The rest are placed in the regions whose lists match
+/// their names: in the order of the list, and for one entry in the order of the sections. Each is at the
+/// least multiple of its alignment that is not below the end of the section before it; for the first
+/// one, not below the region's base. The entry `*` matches the name `*` and all names that no list has. In the common
 /// region the commons follow in their order by the same rule, whatever their names. Bases and
 /// sizes are in addressable units.
 ///
 /// `width` is the number of bits of an address, a multiple of 8 from 8 to 64. Alignments are 1 to
 /// 2^31, there are fewer than 2^32 sections and regions, no section name occurs twice in the plan,
 /// and at most one region is common, as [`read_plan`](mufom_plan::read_plan) gives it. There are
-/// commons only where a region is common. `Unplaced` goes first, then `Misfit`, each with the
+/// commons only if a region is common. `Unplaced` is reported first, then `Misfit`, each with the
 /// first such section, and then `Overlap`, with the first two neighbours by base and then by
 /// position. Commons are never `Unplaced`.
 pub fn place(
@@ -75,11 +75,11 @@ pub fn place(
     requires somewhere { has_common plan.now.regions ≡ false → commons ≡ 0 }
     requires without { All HasNoBase (last_sections commons sections.now) }
 
-    // The bases are those that the plan gives, and nothing keeps the sections from them.
+    // The bases are those that the plan gives, and there is no error to report.
     ensures bases { IfOk result (λ bases. bases ≡ bases_of plan.now (sections_before commons sections.now) (last_sections commons sections.now)) }
     ensures placed { OnOk result (place_refusal width plan.now (sections_before commons sections.now) (last_sections commons sections.now) ≡ None) }
 
-    // A refusal is the first thing that keeps them, or memory ran out.
+    // The error is the first one that applies, or out of memory.
     ensures refused { IfErr result
         (IsAnswer (place_refusal width plan.now (sections_before commons sections.now) (last_sections commons sections.now))) }
 {

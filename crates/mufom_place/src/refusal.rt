@@ -3,10 +3,10 @@
 use mufom_numbers::NoMemory;
 use thiserror::Error;
 
-/// Why sections cannot be placed. Sections and regions go by their positions, from 0.
+/// Why sections cannot be placed. Sections and regions are given by their positions, from 0.
 #[derive(Clone, Copy, Debug, PartialEq, Eq, Error)]
 pub enum PlaceRefusal {
-    /// A section has no base, and no list of the plan stands for its name.
+    /// A section has no base, and no list of the plan matches its name.
     #[error("no region takes section {0}")]
     Unplaced(u32),
     /// A section lies or ends past the address space, or ends past the region that it is placed

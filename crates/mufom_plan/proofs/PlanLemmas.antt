@@ -1,4 +1,4 @@
--- How the regions of a plan follow from its tables, that no section name stands twice, and that at most one region takes the commons.
+-- How the regions of a plan follow from its tables, that no section name occurs twice, and that at most one region takes the commons.
 use Rattle.std.proofs.Common.{◌≡◌, ℕ, ◌+◌, List, [], ◌∷◌, ◌++◌, length, Option, Some, None, Result, Ok, Err, Bool, true, false, ◌||◌, cond, ◌⊎◌, inl}
 use Rattle.std.proofs.Common.{inr, refl, ap, sym, ◌∙◌, subst, append_assoc, arith}
 use Rattle.std.specs.Prelude.{filter, option_map, option_and_then, nat_lt, if◌then◌else◌, codes}
@@ -61,13 +61,13 @@ new_names-distinct earlier (value ∷ values) names e h = by_text (as_str value)
       subst AreDistinctNames (append_assoc earlier (name ∷ []) parts.1 ∙ ap (λ more. earlier ++ more) (sym parts.3))
       (later name parts.1 parts.2 (IsDistinct-push nat_list_eq_equiv earlier name h parts.0))
 
--- what stands after regions that were read
+-- what is after regions that were read
 prefix_ok : (region : Region) (more : Result (List Region) PlanRefusal) (regions : List Region) → in_prefix (region ∷ []) more ≡ Ok regions
     → (rest : List Region) × (more ≡ Ok rest) × (regions ≡ region ∷ rest)
 prefix_ok region (Ok rest) regions e = (rest, refl, cc)
 prefix_ok region (Err refusal) regions e = absurd cc
 
--- a region that is read has the section names that its table gives, and takes the commons where its table states so
+-- a region that is read has the section names that its table gives, and takes the commons if its table states so
 pub record IsRegionOf (sections : Option (List (List ℕ))) (common : Option Bool) (region : Region) : Type 0 where
   pub listed : sections ≡ Some region.sections
   pub taken : common ≡ Some region.common
@@ -95,7 +95,7 @@ named_by : (listed : List (List ℕ)) (values : Option (List Data)) (names : Lis
 named_by listed None names e h = absurd cc
 named_by listed (Some values) names e h = new_names-distinct listed values names e h
 
--- a region takes the commons only where none before does
+-- a region takes the commons only if none before does
 new_after : (earlier : Bool) (truth : Option Bool) (common : Bool) → option_and_then (new_common earlier) truth ≡ Some common → (common ≡ false)
     ⊎ (earlier ≡ false)
 new_after earlier None common e = absurd cc
@@ -128,7 +128,7 @@ one_common before region truth e h = by_case (new_after (has_common before) trut
       at_most region.common (count_by (λ r. r.common) before) (sym (length-filter (λ r. r.common) before)
       ∙ ap length (none_common before free)) (count-append before region)
 
--- what the regions of a plan keep: no section name stands twice, and at most one region takes the commons
+-- what the regions of a plan keep: no section name occurs twice, and at most one region takes the commons
 pub record IsSound (regions : List Region) : Type 0 where
   pub distinct : AreDistinctNames (listed_names regions)
   pub common : HasAtMostOneCommon regions

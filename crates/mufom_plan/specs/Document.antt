@@ -6,7 +6,7 @@ use Rattle.toml.specs.Data.{Data, as_bool, as_str, as_integer, as_array, Items, 
 use Rattle.toml.specs.Parse.{parse_document}
 use Rattle.mufom_plan.specs.Names.{has_name}
 
--- the members of the document that the bytes are; bytes that are no UTF-8 are none
+-- the members of the document that the bytes are; bytes that are not UTF-8 have none
 abbrev pub document_of : List ℕ → Option Members
 document_of bytes = if utf8_valid_len bytes == length bytes then parse_document bytes else None
 

@@ -12,18 +12,18 @@ use Rattle.mufom_plan.specs.Names.{has_name, region_names, listed_names}
 use Rattle.mufom_plan.specs.Commons.{has_common}
 use Rattle.mufom_plan.specs.Document.{document_of, has_only_keys, items_at, number_at, text_at, truth_at}
 
--- the value, or the refusal in its place
+-- the value, or the error in its place
 infixl 10 ◌>>=◌
 abbrev pub ◌>>=◌ : {A B : Type 0} → Result A PlanRefusal → (A → Result B PlanRefusal) → Result B PlanRefusal
 (Ok value) >>= f = f value
 (Err refusal) >>= f = Err refusal
 
--- the value, and this refusal where there is none
+-- the value, or this error if there is none
 abbrev pub or_refuse : {A : Type 0} → PlanRefusal → Option A → Result A PlanRefusal
 or_refuse refusal (Some value) = Ok value
 or_refuse refusal None = Err refusal
 
--- this refusal where the test fails
+-- this error if the test fails
 abbrev pub unless : {A : Type 0} → Bool → PlanRefusal → Result A PlanRefusal → Result A PlanRefusal
 unless true refusal answer = answer
 unless false refusal answer = Err refusal
@@ -35,25 +35,25 @@ plan_keys = codes "region" ∷ []
 abbrev pub region_keys : List (List ℕ)
 region_keys = codes "name" ∷ codes "base" ∷ codes "size" ∷ codes "sections" ∷ codes "common" ∷ []
 
--- the name, where it is not empty and is none of those before
+-- the name, if it is not empty and is none of those before
 abbrev pub new_name : List (List ℕ) → List ℕ → Option (List ℕ)
 new_name earlier name = if (length name == 0) || has_name earlier name then None else Some name
 
--- the name, where it is none of those before, before more names
+-- the name, if it is none of those before, followed by more names
 abbrev pub before_names : List (List ℕ) → List ℕ → Option (List (List ℕ)) → Option (List (List ℕ))
 before_names earlier name more = if has_name earlier name then None else option_map (λ names. name ∷ names) more
 
--- the texts of an array, where each item is a text and none is earlier
+-- the texts of an array, if each item is a text that neither the earlier names nor an item before it has
 abbrev pub new_names : List (List ℕ) → List Data → Option (List (List ℕ))
 new_names earlier [] = Some []
 new_names earlier (value ∷ more) = option_and_then (λ name. before_names earlier name (new_names (earlier ++ name ∷ []) more)) (as_str value)
 
--- whether a region takes the commons, where none before does
+-- whether a region takes the commons, if none before does
 abbrev pub new_common : Bool → Bool → Option Bool
 new_common earlier common = if earlier && common then None else Some common
 
 -- The region at a position of the plan, by what is in its table: whether the table has the keys of a region alone, the
--- name, the base, the size, the section names and whether it takes the commons, each where it has the shape that it must have.
+-- name, the base, the size, the section names and whether it takes the commons, each if it has the shape that it must have.
 abbrev pub region_with : ℕ → Bool → Option (List ℕ) → Option ℕ → Option ℕ → Option (List (List ℕ)) → Option Bool → Result Region PlanRefusal
 region_with place false name base size sections common = Err (Shape (Some place) field.Extra)
 region_with place true None base size sections common = Err (Shape (Some place) field.Name)
@@ -93,7 +93,7 @@ regions_of before (value ∷ more) =
 abbrev pub are_tables : List Data → Bool
 are_tables values = list_all (λ value. is_some (as_table value)) values
 
--- the regions at the key `region`, where an array of tables or nothing stands
+-- the regions at the key `region`, if its value is an array of tables or absent
 abbrev pub regions_at : Option Data → Result (List Region) PlanRefusal
 regions_at None = Ok []
 regions_at (Some value) = or_refuse (Shape None field.Region) (items_at (Some value)) >>= λ items. unless (are_tables items) (Shape None field.Region)

@@ -40,7 +40,7 @@ pub fn number_of(value: Option<&Value>) -> Option<u64>
     }
 }
 
-/// The truth value at a key, which is false where the key is absent.
+/// The truth value at a key, which is false if the key is absent.
 pub fn truth_of(value: Option<&Value>) -> Option<bool>
     ensures { result ≡ truth_at (option_map (λ v. view v.now) value.entry) }
 {

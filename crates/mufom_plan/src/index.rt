@@ -51,14 +51,14 @@ impl NameList {
         self.names.len()
     }
 
-    /// Whether there is no name.
+    /// Whether the list is empty.
     pub fn is_empty(&self) -> bool
         ensures { result ≡ (length self.now == 0) }
     {
         self.names.is_empty()
     }
 
-    /// Adds a name at the end, and states whether it was new. A name that is there stays where it is.
+    /// Adds a name at the end, and returns whether it was new. A name that is in the list already keeps its position.
     pub fn add(&mut self, name: &[u8]) -> Result<bool, NoMemory>
         ensures added { IfOk result (λ added. added ≡ not (has_name self.old name.now)) }
         ensures after { IfOk result (λ added. self.new ≡ (if added then self.old ++ name.now ∷ [] else self.old)) }
@@ -69,7 +69,7 @@ impl NameList {
         Ok(added)
     }
 
-    /// The position of a name, and `None` where it is not there. Does not allocate.
+    /// The position of a name, or `None` if it is not in the list. Does not allocate.
     pub fn position(&self, name: &[u8]) -> Option<usize>
         ensures { result ≡ position (bytes_eq name.now) self.now }
     {

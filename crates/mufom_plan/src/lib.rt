@@ -2,7 +2,7 @@
 //!
 //! A plan is a TOML document. The crate depends on `mufom_numbers`, `mufom_names`, `indexmap`, `thiserror` and `toml`,
 //! which states what document the bytes are. Its main clause is that of [`read_plan`]: the plan that it
-//! returns is the one that the document states, and a refusal is the first thing that is wrong with
+//! returns is the one that the document states, and an error is the first thing that is wrong with
 //! it, in a fixed order. In a plan that was read no section name occurs twice.
 #![tactic(auto)]
 

@@ -7,21 +7,21 @@ use mufom_numbers::{Bytes, List};
 /// Addresses and sizes are counted in minimum addressable units.
 #[derive(Debug, Drop)]
 pub struct Region {
-    /// The region's own name, which is not empty and no other region's.
+    /// The region's own name. It is not empty, and no other region has it.
     pub name: Bytes,
     /// The lowest address of the region.
     pub base: u64,
-    /// How many units the region has.
+    /// The size of the region, in addressable units.
     pub size: u64,
-    /// The names of the sections that go here, in the order in which they are put. The name `*`
-    /// stands for itself and for each name that no list of the plan has.
+    /// The names of the sections that are placed here, in this order. The name `*`
+    /// matches itself and each name that no list of the plan has.
     pub sections: List<Bytes>,
     /// Whether the commons go here, after those sections. In a plan that was read, at most one
     /// region has it true.
     pub common: bool,
 }
 
-/// Where the sections without a base of their own are put.
+/// A memory plan: the regions in which sections without a base of their own are placed.
 #[derive(Debug, Drop)]
 pub struct Plan {
     pub regions: List<Region>,

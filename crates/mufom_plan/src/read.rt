@@ -15,7 +15,7 @@ use mufom_numbers::limits::MOST_PLAN_BYTES;
 use std::alloc::Global;
 use toml::{Table, Value};
 
-/// What is returned where `region` is no array of tables.
+/// The error if `region` is not an array of tables.
 const NO_REGIONS: PlanRefusal = PlanRefusal::Shape {
     region: None,
     field: PlanField::Region,
@@ -88,14 +88,14 @@ fn plan(alloc: Global, seed: HashSeed, document: &Table) -> Result<Plan, PlanRef
 /// The plan that the bytes of a file state.
 ///
 /// The plan is a TOML document whose only key is `region`, an array of tables, each with exactly
-/// the keys `name`, `base`, `size` and `sections`, and where wanted `common`. No bytes are the plan
+/// the keys `name`, `base`, `size` and `sections`, and optionally `common`. No bytes are the plan
 /// without regions. What is wrong is returned in this order: too many bytes, no document, another
 /// key, no array of tables, and then region by region another key, the name, the base, the size,
 /// the section names, the truth value `common`, and an end above 2^63 - 1.
 pub fn read_plan(alloc: Global, text: &[u8]) -> Result<Plan, PlanRefusal>
     // The plan is the one that the document states.
     ensures ok { IfOk result (λ plan. plan_of_text text.now ≡ Ok plan) }
-    // A refusal is the first thing that is wrong, or memory ran out.
+    // The error is the first thing that is wrong, or out of memory.
     ensures refused { IfErr result (λ refusal. refusal ≢ PlanRefusal.NoMemory → plan_of_text text.now ≡ Err refusal) }
     // No section name occurs twice in the plan.
     ensures distinct { IfOk result (λ plan. AreDistinctNames (listed_names plan.regions)) }

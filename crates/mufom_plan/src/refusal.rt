@@ -3,12 +3,12 @@
 use mufom_numbers::NoMemory;
 use thiserror::Error;
 
-/// The part of a plan that has not the shape it must have.
+/// The part of a plan that does not have the required shape.
 #[derive(Clone, Copy, Debug, PartialEq, Eq)]
 pub enum PlanField {
     /// The key `region`, which is an array of tables.
     Region,
-    /// A key that a plan, or a region, has not.
+    /// A key that a plan, or a region, does not have.
     Extra,
     /// The key `name`: a text that is not empty and that no region before has.
     Name,
@@ -22,14 +22,14 @@ pub enum PlanField {
     Common,
 }
 
-/// Why bytes are no plan.
+/// Why bytes are not a plan.
 #[derive(Clone, Copy, Debug, PartialEq, Eq, Error)]
 pub enum PlanRefusal {
-    /// The bytes are no TOML document.
+    /// The bytes are not a TOML document.
     #[error("the plan is not a TOML document")]
     Syntax,
-    /// A key of the document, or of the region at this position, is missing, is not known or has
-    /// not the value that it must have.
+    /// A key of the document, or of the region at this position, is missing, is unknown or does
+    /// not have the required value.
     #[error("the plan does not have the keys and values of a plan")]
     Shape {
         region: Option<u32>,
@@ -38,7 +38,7 @@ pub enum PlanRefusal {
     /// The end of the region at this position is above 2^63 - 1.
     #[error("the region {0} ends above 2^63 - 1")]
     Beyond(u32),
-    /// The plan has more than 65,536 bytes.
+    /// The text of the plan is longer than 65,536 bytes.
     #[error("the plan has more than 65,536 bytes")]
     TooLong,
     /// Out of memory.

@@ -58,7 +58,7 @@ all_reference_needs m (r ∷ references) = λ i. option_to_list (finds_named m r
 
 -- ---- the needs of sections
 
--- the needs with more for one section, where the first has this number
+-- the needs with more for one section, if the first has this number
 abbrev add_at : ℕ → Option ℕ → List ℕ → List (List ℕ) → List (List ℕ)
 add_at k h more [] = []
 add_at k h more (e ∷ es) = (if is_this h k then e ++ more else e) ∷ add_at (suc k) h more es
@@ -90,7 +90,7 @@ with_more-add : (es : List (List ℕ)) (h : Option ℕ) (more : List ℕ) → wi
 with_more-add es None more = sym (add_none 0 more es)
 with_more-add es (Some s) more = let from : 0 + s ≡ s = omega arith in add_at-set 0 s more es ∙ ap (λ n. add_at 0 (Some n) more es) from
 
--- the needs with what loads mention, section by section, where the first has this number
+-- the needs with what loads mention, section by section, if the first has this number
 abbrev plus_loads : Parts → List (Option ℕ × Load) → ℕ → List (List ℕ) → List (List ℕ)
 plus_loads n placed k [] = []
 plus_loads n placed k (e ∷ es) = (e ++ flat_map (mentions_for n k) placed) ∷ plus_loads n placed (suc k) es

@@ -99,11 +99,11 @@ module _ (new : NewPositions) where
   -- ---- the current section
 
   module _ (marks : List Bool) where
-    -- where the current section remains, it is current in the new loads
+    -- if the current section remains, it is current in the new loads
     abbrev Runs : Option ℕ → Option ℕ → Type 0
     Runs current now = (s : ℕ) → current ≡ Some s → is_marked marks s ≡ true → now ≡ Some (get_or new.sections s 0)
 
-    -- these loads keep to the rules, where this section is current before them
+    -- these loads keep to the rules, if this section is current before them
     abbrev Keep : Option ℕ → List Load → Type 0
     Keep now loads = (list_any misplaces_counter (placed_from now loads) ≡ false) × (list_any loads_nowhere (placed_from now loads) ≡ false)
 

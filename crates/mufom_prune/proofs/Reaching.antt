@@ -80,7 +80,7 @@ looked needs roots place n ns c u at its inside = record {
               let one : ks ≡ ns = cc in
               subst (AreMarked (with_members c ns)) (sym one) all.chosen
 
--- Where the number of those looked at is no less than that of the order, all of it was looked at.
+-- If at least as many entries were looked at as the order has, all of it was looked at.
 pub all-done : (needs : List (List ℕ)) (roots : List ℕ) (place : ℕ) (c : Choice) → IsUnderway needs roots place c → length c.order ≤ place
     → IsUnderway needs roots (length c.order) c
 all-done needs roots place c u past = record {

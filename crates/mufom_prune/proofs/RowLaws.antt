@@ -22,7 +22,7 @@ one_of has (k ∷ ns) n all e = by_case (either (nat_eq k n) (has_number ns n) e
   by_case (inl same) later = ap has (sym (eqb-true k n same)) ∙ all.0
   by_case (inr more) later = later more
 
--- what the marked entries need is marked, where the first of these has this number
+-- what the marked entries need is marked, if the first of these has this number
 abbrev pub is_shut : List Bool → ℕ → List (List ℕ) → Bool
 is_shut marks n [] = true
 is_shut marks n (ns ∷ needs) = (not (is_marked marks n) || list_all (is_marked marks) ns) && is_shut marks (suc n) needs
@@ -83,7 +83,7 @@ derived needs roots has closed seen (n ∷ ns) before e =
       by_case (inl root) = one_of has roots n closed.rooted root
       by_case (inr need) = from_seen needs roots has closed n seen before need
 
--- each marked entry is among these, where the first mark has this number
+-- each marked entry is among these, if the first mark has this number
 abbrev pub are_listed : ℕ → List Bool → List ℕ → Bool
 are_listed n [] order = true
 are_listed n (mark ∷ marks) order = (not mark || has_number order n) && are_listed (suc n) marks order

@@ -28,7 +28,7 @@ first_for m R = 0
 first_for m S = 0
 first_for m X = length m.sections + length m.names.publics
 
--- the entry that a variable names, where the module has it
+-- the entry that a variable names, if the module has it
 abbrev pub entry_of : Parts → Letter × ℕ → Option ℕ
 entry_of m v = if is_outside (counts_of m) v then None else Some (first_for m v.0 + v.1)
 
@@ -54,7 +54,7 @@ load_trees (SetPc section value) = value ∷ []
 load_trees (One item) = item_trees item
 load_trees (Repeat count items) = flat_map item_trees items
 
--- the section that a load belongs to, where this one is current: the one that it names, or the current one
+-- the section that a load belongs to, if this one is current: the one that it names, or the current one
 abbrev pub home : Option ℕ → Load → Option ℕ
 home current (SetSection section) = Some section
 home current (SetPc section value) = Some section
@@ -70,7 +70,7 @@ abbrev pub section_needs : Parts → List (Option ℕ × Load) → ℕ → List 
 section_needs m placed place [] = []
 section_needs m placed place (section ∷ sections) = flat_map (mentions_for m place) placed ∷ section_needs m placed (suc place) sections
 
--- the number of the first public with the name, where the first of all has this number
+-- the number of the first public with the name, if the first of all has this number
 abbrev pub named_from : ℕ → List Public → List ℕ → Option ℕ
 named_from n [] name = None
 named_from n (public ∷ publics) name = if bytes_eq name public.name then Some n else named_from (suc n) publics name
@@ -88,7 +88,7 @@ needs m =
 
 -- ---- what is kept
 
--- the sections with a base, where the first of these has this position
+-- the sections with a base, if the first of these has this position
 abbrev pub based_from : ℕ → List Section → List ℕ
 based_from n [] = []
 based_from n (section ∷ sections) = if is_some section.base then n ∷ based_from (suc n) sections else based_from (suc n) sections

@@ -28,7 +28,7 @@ remaining (mark ∷ marks) [] = []
 remaining (true ∷ marks) (x ∷ xs) = x ∷ remaining marks xs
 remaining (false ∷ marks) (x ∷ xs) = remaining marks xs
 
--- the new position of each element, where the first that remains has this one; one that goes has the position of the next that remains
+-- the new position of each element, if the first that remains has this one; one that goes has the position of the next that remains
 abbrev pub new_positions : ℕ → List Bool → List ℕ
 new_positions n [] = []
 new_positions n (true ∷ marks) = n ∷ new_positions (suc n) marks
@@ -56,7 +56,7 @@ with_commons names (mark ∷ marks) (r ∷ references) = (mark || (is_common r &
 abbrev pub remaining_names : List Bool → List Reference → List (List ℕ)
 remaining_names marks references = map (λ r. r.name) (remaining marks references)
 
--- What remains of a module where these entries are kept: the kept sections, publics and references, and the weak references of a size
+-- What remains of a module if these entries are kept: the kept sections, publics and references, and the weak references of a size
 -- above 0 that have the name of a kept reference.
 abbrev pub remains : Parts → List Bool → Remains
 remains m marks =
@@ -105,7 +105,7 @@ new_load c (SetPc section t) = SetPc (get_or c.sections section 0) (new_tree c t
 new_load c (One item) = One (new_item c item)
 new_load c (Repeat count items) = Repeat count (map (new_item c) items)
 
--- the section, where there is one, remains
+-- the section, if there is one, remains
 abbrev pub is_left : List Bool → Option ℕ → Bool
 is_left marks None = false
 is_left marks (Some section) = is_marked marks section

@@ -9,7 +9,7 @@ use mufom_loads::{Item, Load};
 use mufom_module::Parts;
 use mufom_numbers::{List, NoMemory};
 
-// The entry that a variable names, where the module has it.
+// The entry that a variable names, if the module has it.
 fn entry_of(parts: &Parts, letter: Letter, index: u32) -> Option<u32>
     requires { entry_count parts.now < 2 ^ 32 }
     ensures { result ≡ entry_of parts.now (letter, index) }
@@ -27,7 +27,7 @@ fn entry_of(parts: &Parts, letter: Letter, index: u32) -> Option<u32>
     Some(first as u32 + index)
 }
 
-// Appends an entry, where there is one.
+// Appends an entry, if there is one.
 pub(crate) fn add_entry(entry: Option<u32>, all: &mut List<u32>) -> Result<(), NoMemory>
     ensures { OnOk result (all.new ≡ all.old ++ option_to_list entry) }
 {
@@ -37,7 +37,7 @@ pub(crate) fn add_entry(entry: Option<u32>, all: &mut List<u32>) -> Result<(), N
     }
 }
 
-// Appends the entry that a token names, where it does.
+// Appends the entry that a token names, if it names one.
 fn add_token(parts: &Parts, token: Token, all: &mut List<u32>) -> Result<(), NoMemory>
     requires { entry_count parts.now < 2 ^ 32 }
     ensures { OnOk result (all.new ≡ all.old ++ token_mentions parts.now (token ∷ [])) }

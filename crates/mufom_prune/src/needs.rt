@@ -30,7 +30,7 @@ pub(crate) fn index_publics<'a>(alloc: Global, parts: &'a Parts) -> Result<NameI
     Ok(index)
 }
 
-/// The section that a load belongs to, where this one is current.
+/// The section that a load belongs to, if this one is current.
 pub(crate) fn home(current: Option<u32>, load: &Load) -> Option<u32>
     ensures { result ≡ home current load.now }
 {
@@ -42,7 +42,7 @@ pub(crate) fn home(current: Option<u32>, load: &Load) -> Option<u32>
     }
 }
 
-/// The section that is current after a load, where this one was.
+/// The section that is current after a load, if this one was.
 pub(crate) fn current_after(current: Option<u32>, load: &Load) -> Option<u32>
     ensures { result ≡ current_after current load.now }
 {
@@ -191,7 +191,7 @@ fn add_start(parts: &Parts, all: &mut List<u32>) -> Result<(), NoMemory>
     }
 }
 
-/// What is kept in any case, where this entry is the public of the name.
+/// What is kept in any case, if this entry is the public of the name.
 pub(crate) fn roots(
     alloc: Global,
     parts: &Parts,

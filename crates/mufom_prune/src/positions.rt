@@ -51,7 +51,7 @@ impl VarMap for NewPositions {
     }
 }
 
-/// The new positions of what these marks tell of.
+/// The new positions of the entries that have these marks.
 pub(crate) fn new_positions(alloc: Global, marks: &[bool]) -> Result<List<u32>, NoMemory>
     requires { length marks.now < 2 ^ 32 }
     ensures { IfOk result (λ positions. positions ≡ new_positions 0 marks.now) }

@@ -120,7 +120,7 @@ fn positions(
     })
 }
 
-// What remains of a module where these entries are kept.
+// What remains of a module if these entries are kept.
 fn remaining_parts(alloc: Global, parts: &Parts, marks: &[bool]) -> Result<Parts, NoMemory>
     requires few { entry_count parts.now < 2 ^ 32 }
     requires sized { length marks.now ≡ entry_count parts.now }
@@ -162,8 +162,8 @@ fn copy_marks(
 /// A copy of a module without what a public symbol does not need, with a mark for each section and each
 /// public of the module that tells whether it is left. [`prune`] returns the module alone.
 ///
-/// The marks tell which numbers of the whole module the entries had that are left: the n-th entry that is
-/// left has the place of the n-th mark that is set. Errors are those of [`prune`].
+/// The marks tell which positions the remaining entries had in the whole module: the n-th entry that is
+/// left had the position of the n-th mark that is set. Errors are those of [`prune`].
 pub fn prune_with_marks(alloc: Global, module: &Module, keep: &[u8]) -> Result<Pruned, PruneRefusal>
     ensures pruned { IfOk result (λ left. IsPrunedWithMarks left «module».now keep.now) }
     ensures known { IfOk result (λ _. has_name (public_names («module».now ∷ [])) keep.now ≡ true) }
@@ -189,14 +189,14 @@ pub fn prune_with_marks(alloc: Global, module: &Module, keep: &[u8]) -> Result<P
 /// and loads that are kept for the public of this name.
 ///
 /// Kept are the sections with a base, the public, what the start mentions, and all that something kept
-/// mentions: by the value of a public, or by the loads of a section. An `X` mentions the public of its
-/// reference's name, where there is one. Besides, a weak reference of a size above 0 remains where a
+/// mentions: by the value of a public, or by the loads of a section. An `X` variable mentions the public of its
+/// reference's name, if there is one. Besides, a weak reference of a size above 0 remains if a
 /// kept reference has its name. The positions are those of the new lists; debug items are gone, and
 /// all else stays, in its order. The module weighs no more than the one it is made of, which stays as
 /// it is.
 ///
-/// `Unknown` is returned exactly where no public has the name, with the name. `NoMemory` may be
-/// returned of any module.
+/// If no public has the name, the error is `Unknown` with the name, which is returned in no other case.
+/// `NoMemory` may be returned for any module.
 pub fn prune(alloc: Global, module: &Module, keep: &[u8]) -> Result<Module, PruneRefusal>
     ensures pruned { IfOk result (λ M. IsPruned M «module».now keep.now) }
     ensures known { IfOk result (λ _. has_name (public_names («module».now ∷ [])) keep.now ≡ true) }

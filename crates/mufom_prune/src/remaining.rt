@@ -99,7 +99,7 @@ fn remains(names: &NameIndex<'_>, mark: bool, reference: &Reference) -> bool
     }
 }
 
-/// A mark for each reference that remains, where these are marked that are mentioned.
+/// A mark for each reference that remains, given marks for those that are mentioned.
 pub(crate) fn reference_marks(
     alloc: Global,
     marks: &[bool],
@@ -179,7 +179,7 @@ fn move_load(alloc: Global, positions: &NewPositions, load: &Load) -> Result<Loa
     }
 }
 
-// Whether the section remains, where there is one.
+// Whether the section remains, if there is one.
 fn is_left(marks: &[bool], section: Option<u32>) -> bool
     ensures { result ≡ is_left marks.now section }
 {

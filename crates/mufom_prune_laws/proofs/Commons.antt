@@ -116,7 +116,7 @@ common-remains names (mark ∷ marks) (x ∷ xs) r sized (inr h) c n =
       by_case true e = inr e
       by_case false e = e
 
--- What a name that no public has finds among the commons is the same, where a kept reference has it.
+-- What a name that no public has finds among the commons is the same, if a kept reference has it.
 pub same_commons : (m M : Parts) (names : List (List ℕ)) (marks : List Bool) (name : List ℕ) → length marks ≡ length m.names.references
     → M.names.references ≡ remaining (with_commons names marks m.names.references) m.names.references → has_name names name ≡ true
     → has_name (public_names (m ∷ [])) name ≡ false → has_name (public_names (M ∷ [])) name ≡ false

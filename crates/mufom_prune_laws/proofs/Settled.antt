@@ -1,4 +1,4 @@
--- As many steps of names as there are publics are enough in any setting: more give the same, also where names lead in a circle.
+-- As many steps of names as there are publics are enough in any setting: more give the same, also if names form a cycle.
 use Rattle.std.proofs.Common.{◌≡◌, ℕ, zero, suc, ◌+◌, ◌-◌, ◌<◌, ◌≤◌, ◌⊎◌, inl, inr, List, [], ◌∷◌, length, Option, Some, None, is_some, Bool, true}
 use Rattle.std.proofs.Common.{false, refl, sym, ◌∙◌, ap, subst, true≢false, arith}
 use Rattle.std.specs.Prelude.{slice_get, if◌then◌else◌}
@@ -94,7 +94,7 @@ module _ (s : Setting) where
       let same : suc (d + k) ≡ suc d + k = omega arith in
       subst IsStable same (λ q i e. stable_step (d + k) before q.site None q.entry.value)
 
-  -- the public has a value with fewer than so many steps
+  -- the public has a value with fewer than this many steps
   abbrev has : ℕ → SitedPublic → Bool
   has k q = is_some (valuation_below s k q.site q.entry.value)
 

@@ -28,8 +28,8 @@ moved_reading new (field_reading section at kind size value) = field_reading (ge
 abbrev pub left_readings : List Bool → List StepReading → List StepReading
 left_readings sections steps = map (moved_reading (new_positions 0 sections)) (filter (λ step. is_marked sections (section_read step)) steps)
 
--- M means of the module what remains of it, wherever sections and commons stand: the sections and the publics that remain, the steps
--- of these sections with their new positions, and the start, each with the values that it has in the module.
+-- M means the same as the part of the module that remains, wherever sections and commons are placed: the sections and the
+-- publics that remain, the steps of these sections with their new positions, and the start, each with the values that it has in the module.
 pub record MeansTheRest (M m : Parts) (c : Remains) (bases : Bases) : Type 0 where
   pub sections : (readings (M ∷ []) (new_bases c bases)).sections ≡ remaining c.sections (readings (m ∷ []) bases).sections
   pub publics : (readings (M ∷ []) (new_bases c bases)).publics ≡ remaining c.publics (readings (m ∷ []) bases).publics

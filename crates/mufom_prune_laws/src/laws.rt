@@ -2,14 +2,14 @@
 
 ghost use Rattle.mufom_prune_laws.specs.Meaning.{PrunedIsSingle, PrunedMeansTheRest};
 
-/// What remains of a module without a defect means what the module means of it, wherever the sections
-/// and commons stand: the sections, the publics, the steps of these sections and the start have the
+/// What remains of a module without a defect means the same as it does in the whole module, wherever
+/// sections and commons are placed: the sections, the publics, the steps of these sections and the start have the
 /// same values. Fewer publics allow fewer steps of names, and these are enough.
 pub fn pruned_means_the_rest()
     ensures { PrunedMeansTheRest }
 {}
 
-/// There is one module at most that remains of a module for a name.
+/// For each name there is at most one module that remains of a module.
 pub fn pruned_is_single()
     ensures { PrunedIsSingle }
 {}

@@ -1,4 +1,4 @@
--- The faults of parts as wholes, by what the code keeps of a prefix.
+-- The errors of whole parts, by what the code keeps of a prefix.
 use Rattle.std.proofs.Common.{◌≡◌, List, [], None, sym, ap, subst, ◌∙◌}
 use Rattle.mufom_module.specs.RecordParts.{section_part, external_part, debug_part}
 use Rattle.mufom_module.specs.Grammar.{FollowFrom}
@@ -14,7 +14,7 @@ use Rattle.mufom_read.proofs.stepping.PrefixLaws.{records-placed}
 use Rattle.mufom_read.proofs.so_far.SectionFaults.{unbased-first}
 use Rattle.mufom_read.proofs.so_far.PublicFaults.{external-least}
 
--- the fault of the first section that is kept and lacks a base is that of the section part
+-- the error of the first kept section that lacks a base is that of the section part
 pub section-fault : (f : Prefix) (prefix : List Step) → IsPrefixOf f prefix
     → first_unbased f.contents.sections.starts.items f.contents.sections.list.items ≡ whole_fault section_part prefix
 section-fault f prefix is =
@@ -22,7 +22,7 @@ section-fault f prefix is =
     ∙ unbased-first (offset_records_of prefix)
     ∙ ap (λ ps. first_fault (section_fault ps) (offset_records_of prefix)) (sym (records-placed prefix))
 
--- the least fault of the publics that are kept is that of the external part
+-- the error with the smallest offset among the kept publics is that of the external part
 pub external-fault : (f : Prefix) (prefix : List Step) → IsPrefixOf f prefix
     → least_from None (public_faults f.tables f.contents.publics.marks.items f.contents.publics.list.items) ≡ whole_fault external_part prefix
 external-fault f prefix is =
@@ -31,6 +31,6 @@ external-fault f prefix is =
     ∙ external-least (offset_records_of prefix) (size_of prefix) is.rising (subst (FollowFrom []) same is.follow)
     ∙ ap (λ ps. first_fault (external_fault ps) (offset_records_of prefix)) (sym same)
 
--- the fault of the innermost open block that is kept is that of the debug part
+-- the error of the innermost open block that is kept is that of the debug part
 pub debug-fault : (f : Prefix) (prefix : List Step) → IsPrefixOf f prefix → open_fault (opened f.contents.debug) ≡ whole_fault debug_part prefix
 debug-fault f prefix is = ap open_fault is.contents.debug.blocks

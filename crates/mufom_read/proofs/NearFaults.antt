@@ -1,4 +1,4 @@
--- A fault of a record stands at a byte of the input, or after its last.
+-- The offset of a record's error is that of a byte of the input, or of the byte right after its last.
 use Rattle.std.proofs.Common.{inl, inr, ℕ, ◌+◌, ◌≤◌, Bool, true, false, cond, ◌==◌, List, length, Option, Some, None, ap, arith, length-append}
 use Rattle.mufom_numbers.specs.declared.reason.Reason.{Reason}
 use Rattle.mufom_numbers.specs.declared.reason.Reason.TheVariants as why
@@ -14,7 +14,7 @@ use Rattle.mufom_records.specs.Faults.{TokenFault, ExpressionFault, FieldFault, 
 abbrev Layout : Type 0
 Layout = Layouts.Layout
 
--- ---- layouts whose numbers name no fault after themselves
+-- ---- layouts whose numbers report no error after themselves
 
 abbrev pub IsNear : Field → Type 0
 IsNear (number fits fault_offset fault) = (n : ℕ) → fault_offset n ≤ n

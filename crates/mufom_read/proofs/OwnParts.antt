@@ -1,4 +1,4 @@
--- What a record names by its position stands in its bytes.
+-- The positions in a record are within its bytes.
 use Rattle.std.proofs.Common.{◌≡◌, ℕ, ◌+◌, ◌-◌, ◌≤◌, Bool, true, false, cond, ◌==◌, List, [], ◌∷◌, ◌++◌, length, take, drop, Option, Some, None, refl}
 use Rattle.std.proofs.Common.{sym, ap, subst, ◌∙◌, arith, append_assoc, length-append}
 use Rattle.std.specs.Prelude.{slice_range}
@@ -17,7 +17,7 @@ Layout = Layouts.Layout
 
 -- ---- fields
 
--- what a field's value names stands in the text
+-- the position that is a field's value is within the text
 abbrev pub Owned : List ℕ → (f : Field) → ValueOf f → Type 0
 Owned text byte b = Unit {0}
 Owned text (number fits fault_offset fault) n = Unit {0}

@@ -1,4 +1,4 @@
--- What holds of a record that was got, and of a fault.
+-- What holds of a record that was read, and of an error.
 use Rattle.std.proofs.Common.{◌≡◌, ℕ, zero, suc, ◌+◌, ◌<◌, Bool, true, false, cond, List, [], ◌∷◌, ◌++◌, length, Option, Some, None, is_some, nat_le}
 use Rattle.std.proofs.Common.{le-leb, sym, ap, subst, ◌∙◌, arith, length-append}
 use Rattle.mufom_numbers.specs.Spelling.{SpellsNumber}
@@ -38,7 +38,7 @@ got-some mode.Items row bytes after (None, prefix, back, none, constant, all) =
     item_some row (0 + length prefix) after back bytes constant (all ∙ ap (λ l. l ++ back) none.0)
 got-some mode.Items row bytes after (Some b, prefix, back, here, field, all) = byte_some b prefix back bytes here.0 all
 
--- what it names by its position stands in its bytes
+-- the positions in a record are within its bytes
 pub got-own : (m : Mode) (row : Record) (bytes : List ℕ) (after : Option ℕ) → Layouts.IsWholeRecord m row bytes after → HasParts bytes row
 got-own mode.Begin row bytes after is = begin_owned row bytes after is
 got-own mode.Descriptor row bytes after is = let d = descriptor_row row bytes after is in subst (HasParts bytes) (sym d.3) tt
@@ -46,13 +46,13 @@ got-own (mode.Offset k) row bytes after is = let o = offset_row k row bytes afte
 got-own mode.Body row bytes after is = body_owned row bytes after is
 got-own mode.Items row bytes after is = item_owned row bytes after is
 
--- those of the header are MB, AD and ASW
+-- the records of the header are MB, AD and ASW
 pub got-header : (k : ℕ) (row : Record) (bytes : List ℕ) (after : Option ℕ) → Layouts.IsWholeRecord (header_mode k) row bytes after → IsHeaderRow row
 got-header zero row bytes after is = let b = begin_row row bytes after is in subst IsHeaderRow (sym b.2) tt
 got-header (suc zero) row bytes after is = let d = descriptor_row row bytes after is in subst IsHeaderRow (sym d.3) tt
 got-header (suc (suc k)) row bytes after is = let o = offset_row k row bytes after is in subst IsHeaderRow (sym o.1) tt
 
--- and those after the first two have an offset
+-- the records of the header after the first two have an offset
 pub got-offset : (k : ℕ) (row : Record) (bytes : List ℕ) (after : Option ℕ) → Layouts.IsWholeRecord (header_mode k) row bytes after
     → is_some (offset_in row) ≡ nat_le 2 k
 got-offset zero row bytes after is = let b = begin_row row bytes after is in ap (λ x. is_some (offset_in x)) b.2

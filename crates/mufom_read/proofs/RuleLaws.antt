@@ -86,7 +86,7 @@ states ps (r.RepeatConstant a b) = refl
 states ps (r.RepeatRelocate a) = refl
 states ps (r.Start a) = refl
 
--- ---- indexes that are named
+-- ---- indexes that are referred to
 
 named-entry : (ps : List SpelledRecord) (row : Record) → list_all (is_declared_in (tables_of ps)) (option_to_list (named_by row))
     ≡ list_all (is_declared ps) (option_to_list (named_by row))
@@ -141,7 +141,7 @@ known-variables ps (v ∷ vs) =
       or-not true b = refl
       or-not false b = refl
 
--- the variables of an expression, where there is one
+-- the variables of an expression, if there is one
 pub known-tree : (ps : List SpelledRecord) (tree : Option Tree) → any_of (λ t. list_any (is_unknown (tables_of ps)) (variables_of t)) tree
     ≡ not (list_all (is_declared ps) (map index_of_variable (joined (map variables_of (option_to_list tree)))))
 known-tree ps None = refl

@@ -1,4 +1,4 @@
--- What the tables answer is what the records state.
+-- The tables have what the records state.
 use Rattle.std.proofs.Common.{◌≡◌, ◌⊎◌, ℕ, ◌==◌, ◌||◌, nat_eq, List, [], ◌∷◌, Option, Some, None, is_some, IsSome, ◌↔◌, Contains, filter_map, refl}
 use Rattle.std.proofs.Common.{sym, ap, ◌∙◌, eq-eqb, ne_eqb, inl, inr, true≢false}
 use Rattle.std.specs.List.{list_any}
@@ -19,7 +19,7 @@ has-any : (k : ℕ) (ks : List ℕ) → has ks k ≡ list_any (nat_eq k) ks
 has-any k [] = refl
 has-any k (i ∷ ks) = ap (λ b. b || has ks k) (eqb-swap i k) ∙ ap (λ b. nat_eq k i || b) (has-any k ks)
 
--- a table has an index where it shows its position
+-- a table has an index if it finds its position
 pub has-position : (r : Option ℕ) (ks : List ℕ) (k : ℕ) → (IsSome r ↔ Contains ks k) → is_some r ≡ has ks k
 has-position None ks k h = sym (has-any k ks ∙ false_from_ne_true _ (λ e. true≢false (sym (h.1 (Contains-from_test k ks e)))))
 has-position (Some i) ks k h = sym (has-any k ks ∙ list_any-from_Contains nat_eq_equiv k ks (h.0 refl))

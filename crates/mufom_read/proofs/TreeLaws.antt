@@ -35,7 +35,7 @@ spelled (suc k) (token ∷ tokens) bytes few (prefix, back, first, rest, split) 
 pub tree-spelled : (tree : Tree) (bytes : List ℕ) → SpellsTree tree bytes → tree ≡ the_term (tokens_in bytes)
 tree-spelled tree bytes s = sym (ap the_term (spelled 255 (tokens_of tree) bytes s.0 s.1) ∙ the_term-tokens_of tree)
 
--- the same of an expression that was read, where one was
+-- the same of an expression that was read, if one was
 pub tree-read : {E : Type 0} (r : Result Tree E) (text bytes : List ℕ) → text ≡ bytes → IfOk r (λ tree. SpellsTree tree text)
     → IfOk r (λ tree. tree ≡ the_term (tokens_in bytes))
 tree-read (Ok tree) text bytes same s = tree-spelled tree bytes (subst (λ b. SpellsTree tree b) same s)

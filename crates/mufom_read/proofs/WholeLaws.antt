@@ -52,7 +52,7 @@ same_first : (f g : OffsetRecord → Option Fault) (placed : List OffsetRecord) 
 same_first f g [] same = refl
 same_first f g (p ∷ placed) same = ap (λ o. option_or o (first_fault f placed)) (same p) ∙ ap (λ o. option_or (g p) o) (same_first f g placed same)
 
--- the first public without a value, or value with a variable that names no entry
+-- the first public without a value, or value with a variable whose index is not declared
 pub external_fault-tables : (ps : List SpelledRecord) (placed : List OffsetRecord) → first_fault (external_fault_in (tables_of ps)) placed
     ≡ first_fault (external_fault ps) placed
 external_fault-tables ps placed = same_first _ _ placed (λ p.

@@ -1,4 +1,4 @@
--- Streams judged record by record: the definitions give each of them the answer that the format states.
+-- Worked examples: streams read record by record. The definitions give each of them the result that the format states.
 use Rattle.std.proofs.Common.{◌≡◌, ℕ, zero, suc, ◌+◌, Bool, true, false, List, [], ◌∷◌, ◌++◌, length, take, drop, Option, Some, None, refl}
 use Rattle.mufom_numbers.specs.declared.reason.Reason.{Reason}
 use Rattle.mufom_numbers.specs.declared.reason.Reason.TheVariants as why
@@ -7,7 +7,7 @@ use Rattle.mufom_numbers.specs.declared.taken.Taken.TheVariants.{Got}
 use Rattle.mufom_read.specs.Prefixes.{Step, size_of, next_step, is_ended}
 use Rattle.mufom_read.specs.Faults.{Fault, fault_after}
 
--- where the module ended, what was refused, or where more bytes are wanted
+-- the offset at which the module ended, the error, or the offset from which more bytes are needed
 data Outcome : Type 0 where
   ended : ℕ → Outcome
   fault : ℕ × Reason → Outcome
@@ -25,7 +25,7 @@ abbrev unless_ended : Bool → ℕ → (ℕ → Outcome) → Outcome
 unless_ended true size next = ended size
 unless_ended false size next = next 0
 
--- what the given number of steps after a prefix come to
+-- the result of this number of steps after a prefix
 abbrev judged_from : ℕ → Bool → List Step → List ℕ → Outcome
 judged_from zero reads_debug prefix rest = waiting 0
 judged_from (suc k) reads_debug prefix rest = unless_ended (is_ended prefix) (size_of prefix) (λ _. after_fault (fault_after reads_debug prefix rest)
@@ -210,7 +210,7 @@ unsupported_block = refl
 unsupported_debug_attribute : judged (with_debug (0xF1 ∷ 0xCE ∷ 0x20 ∷ 0x00 ∷ 0x06 ∷ [])) ≡ fault (104, why.UnsupportedAttribute)
 unsupported_debug_attribute = refl
 
--- a given number of blocks of the kind 3, each within the one before it
+-- this number of blocks of kind 3, each within the one before it
 abbrev begun : ℕ → List ℕ
 begun zero = []
 begun (suc k) = 0xF8 ∷ 0x03 ∷ 0x00 ∷ 0x00 ∷ begun k

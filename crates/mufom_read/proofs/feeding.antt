@@ -1,4 +1,4 @@
--- What a reader that is fed chunks, or reads a source, answers.
+-- What a reader returns for the chunks that it is fed, and for a source that it reads.
 pub mod Chunks
 pub mod Complete
 pub mod Feed

@@ -1,4 +1,4 @@
--- Each stream has one judgment, which stays in longer streams.
+-- Each stream has exactly one judgment, and an error stays the same in longer streams.
 pub mod PrefixesOne
 pub mod Stays
 pub mod PrefixJudged

@@ -1,4 +1,4 @@
--- What the code keeps of a whole prefix for the module that it states (IEEE Std 695, module structure).
+-- What the code keeps of a complete stream, from which the module is built (IEEE Std 695, module structure).
 use Rattle.std.specs.Prelude.{◌≡◌, ℕ, ◌≤◌, Bool, true, List, length, map, Some}
 use Rattle.mufom_numbers.specs.Spelling.{AreBytes}
 use Rattle.mufom_module.specs.declared.module.Parts.{Parts}
@@ -11,7 +11,7 @@ use Rattle.mufom_read.specs.NamesSoFar.{placed_public}
 use Rattle.mufom_read.specs.LoadsSoFar.{closed}
 use Rattle.mufom_read.specs.PrefixOfCode.{IsPrefixOf}
 
--- What the code keeps is what the module has.
+-- The module has what the code keeps.
 pub record IsStatedByKept (f : Prefix) (m : Parts) : Type 0 where
   pub names : f.contents.header.names ≡ Some (record { processor = m.processor; name = m.name })
   pub layout : f.contents.header.layout ≡ Some (record { maus = m.maus; order = m.order })
@@ -24,7 +24,7 @@ pub record IsStatedByKept (f : Prefix) (m : Parts) : Type 0 where
   pub loads : m.loads ≡ closed f.contents.loads
   pub start : m.start ≡ f.contents.start
 
--- The code keeps this prefix; it is sound, ends with the stream of these bytes, and is the whole of it.
+-- The code keeps this prefix. It has no error and has ended, and it is the whole stream of these bytes.
 pub record IsWhole (reads_debug : Bool) (f : Prefix) (prefix : List Step) (bytes : List ℕ) : Type 0 where
   pub kept : IsPrefixOf f prefix
   pub fits : AreBytes bytes

@@ -20,7 +20,7 @@ abbrev pub starts_from : List SpelledRecord → List SpelledRecord → List Tree
 starts_from before [] = []
 starts_from before (p ∷ records) = cons_option (start_by (indexes_by (tables_of before)) p p.row) (starts_from (before ++ p ∷ []) records)
 
--- the start address that these records give first
+-- the first start address that these records state
 abbrev pub start_so_far : List SpelledRecord → Option Tree
 start_so_far records = slice_get (starts_from [] records) 0
 
@@ -35,14 +35,15 @@ pub record AreContentsOf (c : Contents) (all : List OffsetRecord) : Type 0 where
   pub loads : c.loads ≡ loads_so_far (records_in all)
   pub start : c.start ≡ start_so_far (records_in all)
 
--- what is known before one more record: the tables of those before it, and that each keeps to the rules
+-- What is known before one more record: the contents and the tables of the records before it, and that all of them, and
+-- the new one, keep the rules.
 pub record AreContentsBefore (c : Contents) (t : Tables) (all : List OffsetRecord) (p : SpelledRecord) : Type 0 where
   pub contents : AreContentsOf c all
   pub tables : t ≡ tables_of (records_in all)
   pub follow : FollowFrom [] (records_in all)
   pub next : Follows (records_in all) p
 
--- what is kept beside the sections and the publics is there for each of them
+-- each section has the offset of its declaration, and each public its mark
 pub record AreMarked (c : Contents) : Type 0 where
   pub sections : length c.sections.list.items ≡ length c.sections.starts.items
   pub publics : length c.publics.list.items ≡ length c.publics.marks.items

@@ -1,4 +1,4 @@
--- The debug items so far, and the blocks that are open, as the code keeps them.
+-- The debug items read so far, and the blocks that are still open, as the code keeps them.
 use Rattle.std.specs.Prelude.{◌≡◌, ◌⊎◌, ℕ, List, [], ◌∷◌, ◌++◌, map}
 use Rattle.std.specs.List.{cons_option}
 use Rattle.mufom_records.specs.declared.record.BlockTail.{BlockTail}
@@ -17,23 +17,23 @@ use Rattle.mufom_read.specs.NamesSoFar.{records_in}
 
 -- ---- blocks
 
--- the kind of a block is one with what it adds
+-- the kind of the block has these fields
 abbrev pub FitsKind : ℕ → BlockTail → Type 0
 FitsKind kind tail.Module = kind ≡ 3
 FitsKind kind (tail.Scope stack type_index offset) = (kind ≡ 4) ⊎ (kind ≡ 6)
 FitsKind kind (tail.Source ns) = kind ≡ 5
 FitsKind kind (tail.Section section_type section offset) = kind ≡ 11
 
--- that of a block which the record begins
+-- the same of the block that the record begins, if it begins one
 abbrev pub HasKind : Record → Type 0
 HasKind (r.BlockBegin kind n name block) = FitsKind kind block
 HasKind _ = Unit {0}
 
--- the open block as judging names it
+-- an open block of the code as a block of the spec: its offset and its kind
 abbrev pub as_opened : code.OpenBlock → OpenBlock
 as_opened b = (b.start, kind_number b.head)
 
--- the open blocks, the innermost first, where the code has it last; these are around them
+-- the open blocks of the code, inside the blocks of `outer`; the innermost is first here, and last in the code
 abbrev pub stacked : List OpenBlock → List code.OpenBlock → List OpenBlock
 stacked outer [] = outer
 stacked outer (b ∷ blocks) = stacked (as_opened b ∷ outer) blocks
@@ -44,20 +44,21 @@ opened d = stacked [] d.blocks
 
 -- ---- marks
 
--- the marks of what is before an open block at its level, and of its begin
+-- the debug records of the items before an open block at its level, and its BB
 abbrev pub marks_to_block : code.OpenBlock → List DebugMark
 marks_to_block b = marks_of b.before ++ block_begin b.head b.name ∷ []
 
--- The marks so far: of each open block those before its items, the innermost last, and then those of the items in that one.
+-- The debug records so far: for each open block, from the outermost on, those before its items; then those of the items of
+-- the innermost block.
 abbrev pub marks_kept : Debugs → List DebugMark
 marks_kept d = joined (map marks_to_block d.blocks) ++ marks_of d.items
 
--- the marks of further records, each by the indexes of those before it
+-- the debug records of further records, each by the indexes of those before it
 abbrev pub marks_from : List SpelledRecord → List SpelledRecord → List DebugMark
 marks_from before [] = []
 marks_from before (p ∷ records) = cons_option (mark_by (indexes_by (tables_of before)) p p.row) (marks_from (before ++ p ∷ []) records)
 
--- the marks that these records give
+-- the debug records that these records state
 abbrev pub marks_so_far : List SpelledRecord → List DebugMark
 marks_so_far records = marks_from [] records
 

@@ -1,5 +1,5 @@
--- What a reader returns for a stream: a module, or a refusal at an offset. The stream is judged as a whole; how it came
--- in chunks makes no difference.
+-- What reading a stream results in: a module, or an error at an offset. The stream is taken as a whole; how it is cut into
+-- chunks makes no difference.
 use Rattle.std.specs.Prelude.{◌≡◌, ◌⊎◌, ℕ, ◌<◌, ◌≤◌, Bool, true, false, List, [], ◌∷◌, ◌++◌, length, take, drop, Some, None}
 use Rattle.mufom_numbers.specs.declared.reason.Reason.{Reason}
 use Rattle.mufom_numbers.specs.declared.reason.Reason.TheVariants as why
@@ -9,36 +9,37 @@ use Rattle.mufom_module.specs.Grammar.{SpellsModule, file_limit}
 use Rattle.mufom_read.specs.Prefixes.{Step, step_bytes, size_of, next_step, is_ended}
 use Rattle.mufom_read.specs.Faults.{fault_after}
 
--- the steps are those with which the stream goes on after a prefix, and none of them has a fault
+-- these steps come next in the stream after a prefix, and none of them has an error
 abbrev pub IsSoundFrom : Bool → List Step → List Step → List ℕ → Type 0
 IsSoundFrom reads_debug before [] rest = Unit {0}
 IsSoundFrom reads_debug before (step ∷ steps) rest = (is_ended before ≡ false) × (fault_after reads_debug before rest ≡ None)
     × (next_step reads_debug before rest ≡ Got step (length (step_bytes step)))
     × IsSoundFrom reads_debug (before ++ step ∷ []) steps (drop (length (step_bytes step)) rest)
 
--- The stream begins with these steps; no record in them, and no part that ends before their end, has a fault.
+-- The stream begins with these steps, and neither a record in them nor a part that ends before their end has an error. Such
+-- a prefix is called sound.
 abbrev pub IsSoundPrefix : Bool → List Step → List ℕ → Type 0
 IsSoundPrefix reads_debug prefix bytes = IsSoundFrom reads_debug [] prefix bytes
 
--- the bytes that are judged; what is after them is too long
+-- the bytes that are checked: a file may have no more
 abbrev pub within_limit : List ℕ → List ℕ
 within_limit bytes = take file_limit bytes
 
--- a fault is after a sound prefix, which is the longest then
+-- an error follows a sound prefix, which is then the longest one
 pub record HasFault (reads_debug : Bool) (bytes : List ℕ) (offset : ℕ) (reason : Reason) : Type 0 where
   pub prefix : List Step
   pub sound : IsSoundPrefix reads_debug prefix (within_limit bytes)
   pub unended : is_ended prefix ≡ false
   pub fault : fault_after reads_debug prefix (drop (size_of prefix) (within_limit bytes)) ≡ Some (offset, reason)
 
--- the module ends before this offset, with no fault before it
+-- the module ends at this offset, and no error is before it
 pub record EndsAt (reads_debug : Bool) (bytes : List ℕ) (offset : ℕ) : Type 0 where
   pub prefix : List Step
   pub sound : IsSoundPrefix reads_debug prefix (within_limit bytes)
   pub ended : is_ended prefix ≡ true
   pub here : size_of prefix ≡ offset
 
--- after a sound prefix, the longest, more bytes are wanted; these are there
+-- after the longest sound prefix more bytes are needed; `pending` is what follows it
 pub record IsWaiting (reads_debug : Bool) (bytes pending : List ℕ) : Type 0 where
   pub prefix : List Step
   pub sound : IsSoundPrefix reads_debug prefix (within_limit bytes)
@@ -47,22 +48,23 @@ pub record IsWaiting (reads_debug : Bool) (bytes pending : List ℕ) : Type 0 wh
   pub wanting : next_step reads_debug prefix pending ≡ More
   pub after : pending ≡ drop (size_of prefix) (within_limit bytes)
 
--- The stream is refused at this offset.
+-- The stream has an error, with this offset and reason: that of a record or a part, a byte after the module's end, or a
+-- byte beyond the limit of a file.
 abbrev pub IsRefusedAt : Bool → List ℕ → ℕ → Reason → Type 0
 IsRefusedAt reads_debug bytes offset reason = HasFault reads_debug bytes offset reason
     ⊎ (((reason ≡ why.AfterEnd) × EndsAt reads_debug bytes offset × (offset < length bytes))
     ⊎ ((reason ≡ why.FileLimit) × (offset ≡ file_limit) × (file_limit < length bytes) × (pending : List ℕ) × IsWaiting reads_debug bytes pending))
 
--- The stream ends too early: nothing is refused, and the module has not ended.
+-- The stream ends too early: it has no error, and the module has not ended.
 abbrev pub IsTruncated : Bool → List ℕ → Type 0
 IsTruncated reads_debug bytes = (length bytes ≤ file_limit) × (pending : List ℕ) × IsWaiting reads_debug bytes pending
 
--- how many bytes are after the whole records and the bytes of parts that are not read
+-- the number of bytes that wait for the rest of their record
 abbrev pub IsPending : Bool → List ℕ → ℕ → Type 0
 IsPending reads_debug bytes n = ((pending : List ℕ) × IsWaiting reads_debug bytes pending × (length pending ≡ n))
     ⊎ (EndsAt reads_debug bytes (length bytes) × (n ≡ 0))
 
--- what a whole stream is
+-- what a complete stream is: the file of a module, or one with an error
 pub data Judgment : Type 0 where
   module_of : Parts → Judgment
   refusal : ℕ → Reason → Judgment

@@ -1,4 +1,4 @@
--- What the code keeps of the records of a prefix: which indexes they declare, and which they give a value.
+-- What the code keeps of the records of a prefix: which indexes they declare, and of which they state a size, a value and so on.
 use Rattle.std.specs.Prelude.{ℕ, zero, suc, ◌<◌, ◌-◌, ◌^◌, ◌==◌, ◌||◌, ◌&&◌, Bool, true, false, not, List, [], ◌∷◌, ◌++◌, length, filter_map, Option}
 use Rattle.std.specs.Prelude.{Some, None, is_none, option_to_list, if◌then◌else◌}
 use Rattle.std.specs.List.{list_any, list_all}
@@ -26,7 +26,7 @@ use Rattle.mufom_read.specs.Faults.{Fault, fault_if, OpenBlock, ends_badly, is_t
 
 -- ---- what records state once
 
--- the index that has its alignment, size, base, value or weakness stated
+-- the index whose alignment, size, base, value or weakness is stated
 abbrev pub alignment_stated : Once → Option ℕ
 alignment_stated (alignment i) = Some i
 alignment_stated _ = None
@@ -47,13 +47,13 @@ abbrev pub weakness_stated : Once → Option ℕ
 weakness_stated (weakness i) = Some i
 weakness_stated _ = None
 
--- what records state once, in order
+-- what records may state only once, in order
 abbrev pub statements : List SpelledRecord → List Once
 statements records = filter_map (λ p. assigned_by p.row) records
 
 -- ---- the tables
 
--- the tables of records
+-- the tables that records fill
 abbrev pub tables_of : List SpelledRecord → Tables
 tables_of records = record {
   sections = declared section records;
@@ -91,7 +91,7 @@ with_row t _ = t
 abbrev pub has : List ℕ → ℕ → Bool
 has indexes index = list_any (λ i. i == index) indexes
 
--- the record declares an index that its table has
+-- the record declares an index that its table has already
 abbrev pub declares_again_in : Tables → Record → Bool
 declares_again_in t (r.SectionType i _ _ _ _ _ _) = has t.sections i
 declares_again_in t (r.PublicName i _) = has t.publics i
@@ -99,7 +99,7 @@ declares_again_in t (r.ReferenceName i _) = has t.references i
 declares_again_in t (r.DebugName i _) = has t.debug_names i
 declares_again_in t _ = false
 
--- the record states for an index what the tables have it state
+-- the record states something that, by the tables, was stated already
 abbrev pub states_again_in : Tables → Record → Bool
 states_again_in t (r.PublicValue i _) = has t.values i
 states_again_in t (r.WeakReference i _ _) = has t.weaknesses i
@@ -114,7 +114,7 @@ is_new t row = not (declares_again_in t row) && not (states_again_in t row)
 
 -- ---- the rules, read off the tables
 
--- the indexes of a kind
+-- the declared indexes of a kind
 abbrev pub entries_in : Tables → Kind → List ℕ
 entries_in t section = t.sections
 entries_in t public = t.publics
@@ -125,14 +125,14 @@ entries_in t debug_name = t.debug_names
 abbrev pub is_declared_in : Tables → FileIndex → Bool
 is_declared_in t index = has (entries_in t index.0) index.1
 
--- a variable that names no entry
+-- a variable whose index is not declared
 abbrev pub is_unknown : Tables → Letter × ℕ → Bool
 is_unknown t v = not (is_declared_in t (index_of_variable v))
 
 abbrev pub names_unknown_entry_in : Tables → Record → Bool
 names_unknown_entry_in t row = not (list_all (is_declared_in t) (option_to_list (named_by row)))
 
--- the record, with this expression, names an index that is not declared
+-- the record, with this expression, refers to an index that is not declared
 abbrev pub names_unknown_in : Tables → Record → Option Tree → Bool
 names_unknown_in t row tree = names_unknown_entry_in t row || (not (is_public_value row) && any_of (λ e. list_any (is_unknown t) (variables_of e)) tree)
 
@@ -147,7 +147,7 @@ counter_allowed_in t _ = None
 abbrev pub misplaces_counter_in : Tables → Record → Option Tree → Bool
 misplaces_counter_in t row tree = any_of (has_other_counter (counter_allowed_in t row)) tree
 
--- the first rule that the record, with this expression, breaks, where these blocks are open
+-- the first rule that the record, with this expression, breaks; `blocks` are the open blocks
 abbrev pub rule_broken_in : Tables → List OpenBlock → Record → Option Tree → Option Reason
 rule_broken_in t blocks row tree = if declares_again_in t row then Some why.DuplicateIndex
     else (if names_unknown_in t row tree then Some why.UnknownIndex
@@ -163,35 +163,35 @@ rule_broken_in t blocks row tree = if declares_again_in t row then Some why.Dupl
 abbrev pub lacks_value_in : Tables → Record → Bool
 lacks_value_in t row = any_of (λ i. not (has t.values i)) (public_declared row)
 
--- a public's value with a variable that names no entry
+-- the record states a public's value with a variable whose index is not declared
 abbrev pub has_unknown_value_in : Tables → SpelledRecord → Bool
 has_unknown_value_in t p = is_public_value p.row && any_of (λ e. list_any (is_unknown t) (variables_of e)) (tree_of_record p)
 
 abbrev pub external_fault_in : Tables → OffsetRecord → Option Fault
 external_fault_in t p = option_or (fault_if (has_unknown_value_in t p.1) p.0 why.UnknownIndex) (fault_if (lacks_value_in t p.1.row) p.0 why.MissingValue)
 
--- ---- the record that is judged
+-- ---- the record that is being checked
 
 abbrev pub as_record : Record → List ℕ → SpelledRecord
 as_record row bytes = record { row = row; bytes = bytes }
 
--- the record with its bytes
+-- the record that is being checked, with its bytes
 abbrev pub record_of_seen : SeenRecord → SpelledRecord
 record_of_seen s = as_record s.row.now s.bytes.now
 
--- and its offset
+-- the same with its offset
 abbrev pub placed : SeenRecord → OffsetRecord
 placed s = (s.start, record_of_seen s)
 
--- its strings, its runs and its expressions are in its bytes
+-- its strings, its literal bytes and its expressions are within its bytes
 abbrev pub HasOwnParts : SeenRecord → Type 0
 HasOwnParts s = HasParts s.bytes.now s.row.now
 
--- a refusal as a fault
+-- an error of the code as an error of the specs
 abbrev pub as_fault : ReadRefusal → Fault
 as_fault f = (f.place, f.reason)
 
--- the first number that is not 0
+-- the first of two numbers that is not 0
 abbrev pub first_or : ℕ → ℕ → ℕ
 first_or zero w = w
 first_or (suc v) w = suc v

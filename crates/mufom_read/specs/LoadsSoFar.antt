@@ -1,4 +1,4 @@
--- The loads that the records read so far give, and what still awaits items.
+-- The loads that the records read so far state, and the record that may still get items.
 use Rattle.std.specs.Prelude.{ℕ, Bool, true, false, List, [], ◌∷◌, ◌++◌, Option, Some, None, unwrap_or, option_map, if◌then◌else◌}
 use Rattle.mufom_expr.specs.Spelled.{Indexes}
 use Rattle.mufom_records.specs.declared.record.Record.{Record}
@@ -19,21 +19,21 @@ use Rattle.mufom_read.specs.Kept.{tables_of, indexes_by}
 abbrev pub loads_and : List Load → OpenLoad → Loads
 loads_and loads awaiting = record { loads = loads; awaiting = awaiting }
 
--- no loads, and nothing awaits items
+-- no loads, and no record that may get items
 abbrev pub no_loads : Loads
 no_loads = loads_and [] open_load.Nothing
 
--- what awaits items, as loads: RE its repeat, LR nothing more
+-- what the record that may get items adds to the loads once it ends: RE its repeat, LR nothing more
 abbrev pub load_of_open : OpenLoad → List Load
 load_of_open open_load.Nothing = []
 load_of_open open_load.Relocate = []
 load_of_open (open_load.Repeat count items) = Repeat count items ∷ []
 
--- all loads, where no further item comes
+-- all loads, once no further item can follow
 abbrev pub closed : Loads → List Load
 closed s = s.loads ++ load_of_open s.awaiting
 
--- An item after an LR is a load, and after an RE one more item of its repeat.
+-- An item after an LR is a load of its own; after an RE it is one more item of the repeat.
 abbrev pub with_item : List Load → OpenLoad → Item → Loads
 with_item loads open_load.Nothing item = loads_and loads open_load.Nothing
 with_item loads open_load.Relocate item = loads_and (loads ++ One item ∷ []) open_load.Relocate
@@ -45,35 +45,35 @@ is_item (r.ConstantItem run) = true
 is_item (r.FieldItem kind value size) = true
 is_item _ = false
 
--- what awaits items after a record that is no item
+-- what may get items after a record that is not itself an item
 abbrev pub opened_by : Record → OpenLoad
 opened_by r.Relocate = open_load.Relocate
 opened_by (r.RepeatRelocate count) = open_load.Repeat count []
 opened_by _ = open_load.Nothing
 
--- the loads of a record that is no item, but for its repeat, which awaits its items
+-- the loads that a record, which is not an item, states at once; a repeat of an LR is added later, once it has its items
 abbrev pub loads_at_once : Indexes → SpelledRecord → Record → List Load
 loads_at_once ix p (r.RepeatRelocate count) = []
 loads_at_once ix p row = loads_by ix p [] row
 
--- the loads after a record, which is this item or none
+-- the loads after a record, if it states this item, or no item
 abbrev pub with_made : Indexes → Loads → SpelledRecord → Option Item → Loads
 with_made ix s p None = loads_and (closed s ++ loads_at_once ix p p.row) (opened_by p.row)
 with_made ix s p (Some item) = with_item s.loads s.awaiting item
 
--- the loads after a record of the data part, with these units in an address
+-- the loads after a record of the data part; `maus` is the number of MAUs in an address
 abbrev pub with_load : Indexes → ℕ → Loads → SpelledRecord → Loads
 with_load ix maus s p = with_made ix s p (item_by ix maus p p.row)
 
--- the units of an address that these records give
+-- the number of MAUs in an address that these records state
 abbrev pub units_in : List SpelledRecord → Option ℕ
 units_in records = option_map (λ (l : Addressing). l.maus) (layout_in records)
 
--- Before a descriptor no load is read, and any units do.
+-- No load comes before a descriptor, so any number would do.
 abbrev pub units_or : Option ℕ → ℕ
 units_or o = unwrap_or o 2
 
--- the loads after a record, by the indexes and the units of those before it; a record of another part changes nothing
+-- the loads after a record, by the indexes and the MAUs that the records before it state; a record of another part changes nothing
 abbrev pub loads_after : List SpelledRecord → Loads → SpelledRecord → Loads
 loads_after before s p = if stands_in data_part p.row then with_load (indexes_by (tables_of before)) (units_or (units_in before)) s p else s
 
@@ -81,6 +81,6 @@ abbrev pub loads_from : List SpelledRecord → Loads → List SpelledRecord → 
 loads_from before s [] = s
 loads_from before s (p ∷ records) = loads_from (before ++ p ∷ []) (loads_after before s p) records
 
--- the loads that these records give
+-- the loads that these records state
 abbrev pub loads_so_far : List SpelledRecord → Loads
 loads_so_far records = loads_from [] no_loads records

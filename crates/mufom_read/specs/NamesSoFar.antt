@@ -1,4 +1,4 @@
--- The publics so far: what the records read state of them, while more may come.
+-- The publics so far: what the records read so far state of them. More may follow.
 use Rattle.std.specs.Prelude.{◌≡◌, ℕ, ◌+◌, ◌≤◌, nat_lt, List, [], ◌∷◌, map, filter_map, slice_get, Option, Some, None, unwrap_or, if◌then◌else◌}
 use Rattle.std.specs.List.{list_any}
 use Rattle.mufom_numbers.specs.declared.reason.Reason.TheVariants as why
@@ -20,7 +20,7 @@ use Rattle.mufom_read.specs.Prefixes.{OffsetRecord}
 use Rattle.mufom_read.specs.Faults.{Fault, fault_if}
 use Rattle.mufom_read.specs.Kept.{is_unknown}
 
--- the value of the public with this index, over the indexes of the file, and 0 until one is stated
+-- the value of the public with this index, over the indexes of the file; 0 until a value is stated
 abbrev pub unplaced_value : ℕ → List SpelledRecord → Tree
 unplaced_value i part = unwrap_or (slice_get (filter_map (λ p. value_for i p p.row) part) 0) (number 0)
 
@@ -36,17 +36,17 @@ unplaced_publics part = filter_map (λ p. unplaced_by part p p.row) part
 abbrev pub placed_public : Indexes → Public → Public
 placed_public ix p = record p { value = positioned ix p.value }
 
--- the offset of the value of the public with this index
+-- the offset of the record that states the value of the public with this index
 abbrev pub value_start_for : ℕ → OffsetRecord → Record → Option ℕ
 value_start_for i p (r.PublicValue j value) = for_index i j p.0
 value_start_for i p _ = None
 
--- what is kept beside a public that is declared at this offset: that of its value, where one is stated, and else the offset
+-- the mark of a public that is declared at offset `start`: the offset of its value if one is stated, otherwise `start`
 abbrev pub mark_of : ℕ → Option ℕ → PublicMark
 mark_of start None = Declared start
 mark_of start (Some valued) = Valued valued
 
--- what is kept beside the public that a record declares
+-- the mark of the public that a record declares
 abbrev pub public_mark_by : List OffsetRecord → OffsetRecord → Record → Option PublicMark
 public_mark_by all p (r.PublicName i name) = Some (mark_of p.0 (slice_get (filter_map (λ q. value_start_for i q q.1.row) all) 0))
 public_mark_by all p _ = None
@@ -54,47 +54,48 @@ public_mark_by all p _ = None
 abbrev pub public_marks : List OffsetRecord → List PublicMark
 public_marks all = filter_map (λ p. public_mark_by all p p.1.row) all
 
--- ---- the fault of each public
+-- ---- the error of each public
 
--- the fault of a public with this value: that none was stated, or that the value, at its offset, has a variable that names no
--- entry
+-- The error of a public with this value, if there is one: no value was stated, or a variable of the value has an index that is
+-- not declared.
 abbrev pub value_fault : Tables → Tree → PublicMark → Option Fault
 value_fault t value (Declared start) = Some (start, why.MissingValue)
 value_fault t value (Valued valued) = fault_if (list_any (is_unknown t) (variables_of value)) valued why.UnknownIndex
 
--- the faults of publics, by what is kept beside them
+-- the error of each public, by its mark
 abbrev pub public_faults : Tables → List PublicMark → List Public → List (Option Fault)
 public_faults t (mark ∷ marks) (p ∷ publics) = value_fault t p.value mark ∷ public_faults t marks publics
 public_faults t marks publics = []
 
--- of two faults the one with the smaller offset
+-- the error with the smaller offset
 abbrev pub earlier : Option Fault → Option Fault → Option Fault
 earlier None b = b
 earlier (Some a) None = Some a
 earlier (Some a) (Some b) = if nat_lt b.0 a.0 then Some b else Some a
 
--- of a fault and more of them the one with the smallest offset
+-- the error with the smallest offset
 abbrev pub least_from : Option Fault → List (Option Fault) → Option Fault
 least_from a [] = a
 least_from a (b ∷ bs) = least_from (earlier a b) bs
 
--- the offsets of records rise, from this one on and up to that one
+-- the offsets of the records increase; they are at least `from` and below `to`
 abbrev pub AreRising : ℕ → List OffsetRecord → ℕ → Type 0
 AreRising from [] to = from ≤ to
 AreRising from (p ∷ placed) to = (from ≤ p.0) × AreRising (p.0 + 1) placed to
 
 -- ---- the publics so far
 
--- the records of records with their offsets
+-- the records without their offsets
 abbrev pub records_in : List OffsetRecord → List SpelledRecord
 records_in all = map (λ (p : OffsetRecord). p.1) all
 
--- The code keeps the publics of these records, and what is kept beside each.
+-- The code keeps the publics of these records, and the mark of each.
 pub record ArePublicsOf (n : Publics) (all : List OffsetRecord) : Type 0 where
   pub list : n.list.items ≡ unplaced_publics (records_in all)
   pub marks : n.marks.items ≡ public_marks all
 
--- what is known of them before a record: the indexes declared so far, and that each record keeps to the rules after those before it
+-- What is known of the publics before one more record: the indexes declared so far, and that all records so far, and the new
+-- one, keep the rules.
 pub record IsBefore (n : Publics) (indexes : List ℕ) (all : List OffsetRecord) (p : SpelledRecord) : Type 0 where
   pub publics : ArePublicsOf n all
   pub table : indexes ≡ declared public (records_in all)

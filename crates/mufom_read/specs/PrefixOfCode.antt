@@ -1,4 +1,4 @@
--- What the code keeps of a prefix, and which prefix that is.
+-- What the code keeps of a prefix, and what its functions do to it.
 use Rattle.std.specs.Prelude.{◌≡◌, ◌⊎◌, ℕ, ◌+◌, ◌-◌, ◌<◌, ◌≤◌, nat_lt, nat_le, min, Bool, true, false, List, [], ◌∷◌, ◌++◌, length, take, drop, None}
 use Rattle.std.specs.Prelude.{Some, is_some, if◌then◌else◌}
 use Rattle.std.specs.List.{last_or, cons_option}
@@ -31,26 +31,26 @@ use Rattle.mufom_read.specs.NamesSoFar.{AreRising}
 use Rattle.mufom_read.specs.DebugSoFar.{HasKind}
 use Rattle.mufom_read.specs.ContentsSoFar.{AreContentsOf}
 
--- where the next byte stands
+-- a location of the code as a location of the specs
 abbrev pub as_location : code.Location → Location
 as_location (offset.Header k) = in_header k
 as_location (offset.Part e) = in_part (as_extent e)
 as_location offset.End = at_end
 
--- Where the next byte is after a step that was in this location, by the offsets and how many bytes there are then: a
--- part goes on up to its end.
+-- The location of the next byte after a step at this location. `size` is the number of bytes up to it. A part goes on up to
+-- its end.
 abbrev pub next_location : Location → List ℕ → ℕ → Location
 next_location (in_header k) offsets size = if nat_lt k 9 then in_header (k + 1) else location_by (part_among parts_in_order offsets size)
 next_location (in_part e) offsets size = if nat_lt size e.to then in_part e else location_by (part_among parts_in_order offsets size)
 next_location at_end offsets size = location_by (part_among parts_in_order offsets size)
 
--- the byte before this many is in the part in which the next one stands
+-- the last of the first `size` bytes is in the same part as the byte after it, which is at this location
 abbrev pub is_inside : Location → ℕ → Bool
 is_inside (in_header k) size = false
 is_inside (in_part e) size = nat_lt e.from size
 is_inside at_end size = false
 
--- each of the offsets that is not 0 is at least this
+-- each of the offsets that is not 0 is at least `w`
 abbrev pub AreFrom : ℕ → List ℕ → Type 0
 AreFrom w [] = Unit {0}
 AreFrom w (v ∷ offsets) = ((v ≡ 0) ⊎ (w ≤ v)) × AreFrom w offsets
@@ -60,17 +60,17 @@ abbrev pub AreOrdered : List ℕ → Type 0
 AreOrdered [] = Unit {0}
 AreOrdered (w ∷ offsets) = AreFrom w offsets × AreOrdered offsets
 
--- how many offsets are after the given number of records: those after MB and AD, at most eight
+-- the number of offsets in the first `n` records: all after MB and AD, at most eight
 abbrev pub offset_count : ℕ → ℕ
 offset_count n = min (n - 2) 8
 
--- the bytes that a prefix has of a part; none before the header is whole
+-- the bytes of a part that a prefix has; none before the header is complete
 abbrev pub bytes_so_far : Part → List Step → List ℕ
 bytes_so_far part prefix = if nat_lt (length prefix) header_count then [] else part_bytes part prefix
 
--- The code keeps this prefix: what its records state of the module, what they declare and state once, the offsets of the header,
--- the bytes of the extension and of the environment, how many bytes there are, and where the next one stands. After the header
--- the first part has begun.
+-- The code keeps this prefix: what its records state of the module, what they declare and state once, the offsets of the
+-- header, the bytes of the extension and of the environment, the length in bytes, and the location of the next byte. After
+-- the header the first part has begun.
 pub record IsPrefixOf (f : Prefix) (prefix : List Step) : Type 0 where
   pub contents : AreContentsOf f.contents (offset_records_of prefix)
   pub awaits : f.awaits_items ≡ awaits_items (last_or None (records_of prefix))
@@ -88,7 +88,7 @@ pub record IsPrefixOf (f : Prefix) (prefix : List Step) : Type 0 where
   pub follow : FollowFrom [] (records_of prefix)
   pub rising : AreRising 0 (offset_records_of prefix) (size_of prefix)
 
--- the prefix with one more record, with what all of them state of the module and the location that are after it
+-- the prefix with one more record; the contents and the location after it are those of `new`
 abbrev pub with_record : Prefix → SpelledRecord → Prefix → Prefix
 with_record f p new = record {
   contents = new.contents;
@@ -102,7 +102,7 @@ with_record f p new = record {
   location = new.location;
 }
 
--- what the record must be to be added after a prefix
+-- what must hold of a record so that it can be added to a prefix
 pub record IsAddable (prefix : List Step) (row : Record) : Type 0 where
   pub new : is_new (tables_of (records_of prefix)) row ≡ true
   pub kind : HasKind row
@@ -116,53 +116,55 @@ IsHeaderRow (r.Descriptor _ _ _) = Unit {0}
 IsHeaderRow (r.Offset _ _) = Unit {0}
 IsHeaderRow _ = ⊥
 
--- a record in its location: one of the header in it, which has an offset after the first two; a block in a part has its kind
+-- A record fits its location: in the header it is a record of the header, and states an offset unless it is one of the first
+-- two; in a part, a block has the fields of its kind.
 abbrev pub IsPlacedWell : code.Location → Record → Type 0
 IsPlacedWell (offset.Header k) row = IsHeaderRow row × (is_some (offset_in row) ≡ nat_le 2 k)
 IsPlacedWell (offset.Part e) row = HasKind row
 IsPlacedWell offset.End row = Unit {0}
 
--- what must be in a location, where these bytes stand
+-- the mode in which to read the bytes at a location
 abbrev pub mode_at : List Step → Location → List ℕ → Mode
 mode_at prefix (in_header k) rest = header_mode k
 mode_at prefix (in_part e) rest = body_mode prefix e rest
 mode_at prefix at_end rest = mode.Body
 
--- What was done with a whole record after a prefix: it has no fault and was added, or it has this fault.
+-- The result of taking a complete record after a prefix: it has no error and was added, or it has this error.
 abbrev pub HasTaken : List Step → SpelledRecord → Prefix → Next → Type 0
 HasTaken prefix p new (next.Took n) = (n ≡ length p.bytes) × (record_fault prefix (location_after prefix) (size_of prefix) p ≡ None)
     × IsPrefixOf new (prefix ++ read (size_of prefix) p ∷ [])
 HasTaken prefix p new next.More = ⊥
 HasTaken prefix p new (next.Refused f) = record_fault prefix (location_after prefix) (size_of prefix) p ≡ Some (as_fault f)
 
--- what is in the location is read
+-- the bytes at the location are read as records
 abbrev pub IsRead : Bool → code.Location → Type 0
 IsRead reads_debug (offset.Header k) = Unit {0}
 IsRead reads_debug (offset.Part e) = is_raw reads_debug (as_part e.part) ≡ false
 IsRead reads_debug offset.End = Unit {0}
 
--- the location is in this part, whose bytes are not read
+-- the location is in this part, whose bytes are not read as records
 abbrev pub IsRawPart : Bool → code.Location → extents.Extent → Type 0
 IsRawPart reads_debug at e = (at ≡ offset.Part e) × (is_raw reads_debug (as_part e.part) ≡ true)
 
--- What was done with what is after a prefix: a step without a fault was taken; or more bytes are wanted; or there is this fault.
+-- The result of reading after a prefix: a step without an error was taken, more bytes are needed, or there is this error.
 abbrev pub HasJudged : List Step → Taken Step → List ℕ → Prefix → Next → Type 0
 HasJudged prefix stands rest new (next.Took n) = (step : Step) × (stands ≡ Got step n) × (length (step_bytes step) ≡ n) × (step_fault prefix stands ≡ None)
     × (0 < n) × (n ≤ length rest) × IsPrefixOf new (prefix ++ step ∷ [])
 HasJudged prefix stands rest new next.More = IsPrefixOf new prefix × (stands ≡ More)
 HasJudged prefix stands rest new (next.Refused f) = step_fault prefix stands ≡ Some (as_fault f)
 
--- of the bytes of a part, those that are of the extension
+-- the bytes, if the part is the extension
 abbrev pub extension_in : codes.Part → List ℕ → List ℕ
 extension_in part_of_code.Extension bytes = bytes
 extension_in _ bytes = []
 
--- and those that are of the environment
+-- the bytes, if the part is the environment
 abbrev pub environment_in : codes.Part → List ℕ → List ℕ
 environment_in part_of_code.Environment bytes = bytes
 environment_in _ bytes = []
 
--- The prefix has these bytes of a part more, which are not read: those of the extension and of the environment are kept.
+-- These bytes of a part, which are not read as records, were added to the prefix. Those of the extension and of the
+-- environment are kept.
 pub record HasRaw (old : Prefix) (part : codes.Part) (bytes : List ℕ) (new : Prefix) : Type 0 where
   pub contents : new.contents ≡ old.contents
   pub tables : new.tables ≡ old.tables
@@ -174,21 +176,21 @@ pub record HasRaw (old : Prefix) (part : codes.Part) (bytes : List ℕ) (new : P
   pub size : new.size ≡ old.size + length bytes
   pub location : as_location new.location ≡ next_location (as_location old.location) old.offsets (old.size + length bytes)
 
--- bytes that are not read were taken of a part, as many as there are of those up to the part's end
+-- Bytes of a part that are not read as records were taken: up to the part's end, or all that are there.
 abbrev pub HasSkipped : Prefix → codes.Part → ℕ → List ℕ → Prefix → Next → Type 0
 HasSkipped old part most rest new (next.Took n) = (n ≡ min most (length rest)) × (0 < n) × HasRaw old part (take n rest) new
 HasSkipped old part most rest new next.More = (rest ≡ []) × (new ≡ old)
 HasSkipped old part most rest new (next.Refused f) = ⊥
 
--- What was done with the next step after a prefix: steps without a fault were taken; or more bytes are wanted; or there is this fault.
+-- The result of the next step after a prefix: steps without an error were taken, more bytes are needed, or there is this error.
 abbrev pub IsStepTaken : Bool → List Step → List ℕ → Prefix → Next → Type 0
 IsStepTaken reads_debug prefix rest new (next.Took n) = (steps : List Step) × IsPrefixOf new (prefix ++ steps) × IsSoundFrom reads_debug prefix steps rest
     × (size_of steps ≡ n) × (0 < n) × (n ≤ length rest)
 IsStepTaken reads_debug prefix rest new next.More = IsPrefixOf new prefix × (next_step reads_debug prefix rest ≡ More)
 IsStepTaken reads_debug prefix rest new (next.Refused f) = step_fault prefix (next_step reads_debug prefix rest) ≡ Some (as_fault f)
 
--- What a step has done after a prefix where these bytes stand: it took steps without a fault; or it found that more bytes
--- are wanted; or it found a fault, maybe after steps without one.
+-- The result of advancing from a prefix over these bytes: steps without an error were taken, more bytes are needed, or there
+-- is an error, maybe after steps without one.
 abbrev pub HasAdvanced : Bool → List Step → List ℕ → Prefix → Next → Type 0
 HasAdvanced reads_debug prefix rest new (next.Took n) = (steps : List Step) × IsPrefixOf new (prefix ++ steps) × IsSoundFrom reads_debug prefix steps rest
     × (size_of steps ≡ n) × (0 < n) × (n ≤ length rest) × (is_ended (prefix ++ steps) ≡ false → ended_part_fault (prefix ++ steps) ≡ None)

@@ -1,5 +1,5 @@
--- Prefixes of a stream: the bytes of parts that are not read and the records with which it begins, where the next byte
--- stands, and what is there (IEEE Std 695, module structure).
+-- Prefixes of a stream: the records with which it begins, and the bytes of parts that are not read as records; the location of
+-- the next byte; and how the stream is read on from there (IEEE Std 695, module structure).
 use Rattle.std.specs.Prelude.{ℕ, zero, suc, ◌==◌, ◌&&◌, nat_lt, nat_le, Bool, true, false, not, List, [], ◌∷◌, length, map, take, filter_map, Option}
 use Rattle.std.specs.Prelude.{Some, None, if◌then◌else◌}
 use Rattle.std.specs.List.{last_or}
@@ -16,7 +16,7 @@ use Rattle.mufom_module.specs.RecordParts.{Part, extension_part, environment_par
 use Rattle.mufom_module.specs.RecordParts.{opens_items, begins_item}
 use Rattle.mufom_module.specs.Grammar.{offsets_in}
 
--- a byte of a part that is not read, or a record with the offset at which it begins
+-- a byte of a part that is not read as records, or a record with the offset of its first byte
 pub data Step : Type 0 where
   raw : ℕ → Step
   read : ℕ → SpelledRecord → Step
@@ -37,7 +37,7 @@ abbrev pub record_of : Step → Option SpelledRecord
 record_of (raw b) = None
 record_of (read start p) = Some p
 
--- its records
+-- the records of a prefix
 abbrev pub records_of : List Step → List SpelledRecord
 records_of prefix = filter_map record_of prefix
 
@@ -49,23 +49,23 @@ abbrev pub offset_record : Step → Option OffsetRecord
 offset_record (raw b) = None
 offset_record (read start p) = Some (start, p)
 
--- its records with their offsets
+-- the records of a prefix with their offsets
 abbrev pub offset_records_of : List Step → List OffsetRecord
 offset_records_of prefix = filter_map offset_record prefix
 
--- W0 to W7, as far as they stand
+-- the offsets W0 to W7, as far as they were read
 abbrev pub offsets_of : List Step → List ℕ
 offsets_of prefix = offsets_in (records_of prefix)
 
--- ---- where the next byte stands
+-- ---- the location of the next byte
 
--- a part of a file, where it begins and where it ends
+-- a part of a file, the offset of its first byte, and the offset of the byte after it
 pub record Extent : Type 0 where
   pub part : Part
   pub from : ℕ
   pub to : ℕ
 
--- in the header, after the given number of records of it; in a part; or where the end of the module must be
+-- in the header, after this number of its records; in a part; or where ME, the end of the module, must be
 pub data Location : Type 0 where
   in_header : ℕ → Location
   in_part : Extent → Location
@@ -75,19 +75,19 @@ pub data Location : Type 0 where
 abbrev pub parts_in_order : List Part
 parts_in_order = extension_part ∷ environment_part ∷ section_part ∷ external_part ∷ debug_part ∷ data_part ∷ trailer_part ∷ []
 
--- the first offset that is not 0
+-- the first offset that is not 0, or 0 if all are
 abbrev pub first_present : List ℕ → ℕ
 first_present [] = 0
 first_present (zero ∷ offsets) = first_present offsets
 first_present (suc w ∷ offsets) = suc w
 
--- the part in which the byte at an offset stands, of these parts with their offsets and those after them
+-- the part that contains the byte at an offset, among these parts with their offsets
 abbrev pub part_among : List Part → List ℕ → ℕ → Option Extent
 part_among (part ∷ parts) (w ∷ offsets) at = if not (w == 0) && (nat_le w at && nat_lt at (first_present offsets))
     then Some (record { part = part; from = w; to = first_present offsets }) else part_among parts offsets at
 part_among parts offsets at = None
 
--- the part in which the byte at an offset stands, by the offsets of the header
+-- the part that contains the byte at an offset, by the offsets of the header
 abbrev pub part_at : List Step → ℕ → Option Extent
 part_at prefix at = part_among parts_in_order (offsets_of prefix) at
 
@@ -99,58 +99,58 @@ location_by (Some extent) = in_part extent
 abbrev pub header_count : ℕ
 header_count = 10
 
--- where the byte after a prefix stands
+-- the location of the byte after a prefix
 abbrev pub location_after : List Step → Location
 location_after prefix = if nat_lt (length prefix) header_count then in_header (length prefix) else location_by (part_at prefix (size_of prefix))
 
 -- ---- what is next
 
--- the record that must be in the header after the given number
+-- the record that the header must have after this number of records
 abbrev pub header_mode : ℕ → Mode
 header_mode zero = mode.Begin
 header_mode (suc zero) = mode.Descriptor
 header_mode (suc (suc k)) = mode.Offset k
 
--- the extension, the environment, and a debug part that is passed over
+-- the part is not read as records: the extension, the environment, and a debug part that is skipped
 abbrev pub is_raw : Bool → Part → Bool
 is_raw reads_debug extension_part = true
 is_raw reads_debug environment_part = true
 is_raw reads_debug debug_part = not reads_debug
 is_raw reads_debug _ = false
 
--- a record after which items may stand
+-- items may follow this last record
 abbrev pub awaits_items : Option SpelledRecord → Bool
 awaits_items None = false
 awaits_items (Some p) = opens_items p.row
 
--- Items are after an LR and after one another, and never first in a part.
+-- Items follow an LR or another item, and are never first in a part.
 abbrev pub body_mode : List Step → Extent → List ℕ → Mode
 body_mode prefix extent rest = if not (size_of prefix == extent.from) && (awaits_items (last_or None (records_of prefix)) && begins_item rest)
     then mode.Items else mode.Body
 
--- what a record makes of the next step
+-- the step of a record that was read
 abbrev pub as_step : ℕ → List ℕ → Taken Record → Taken Step
 as_step at rest (Got row used) = Got (read at (record { row = row; bytes = take used rest })) used
 as_step at rest More = More
 as_step at rest (Bad offset reason) = Bad offset reason
 
--- a byte that is not read
+-- the step of a byte that is not read as a record
 abbrev pub raw_step : List ℕ → Taken Step
 raw_step [] = More
 raw_step (b ∷ _) = Got (raw b) 1
 
--- the step in a part
+-- the next step after a prefix, in a part
 abbrev pub step_in : Bool → List Step → Extent → List ℕ → Taken Step
 step_in reads_debug prefix extent rest = if is_raw reads_debug extent.part then raw_step rest
     else as_step (size_of prefix) rest (record_at (body_mode prefix extent rest) rest)
 
--- the step in a location after a prefix
+-- the next step after a prefix, at a location
 abbrev pub step_at : Bool → List Step → Location → List ℕ → Taken Step
 step_at reads_debug prefix (in_header k) rest = as_step (size_of prefix) rest (record_at (header_mode k) rest)
 step_at reads_debug prefix (in_part extent) rest = step_in reads_debug prefix extent rest
 step_at reads_debug prefix at_end rest = as_step (size_of prefix) rest (record_at mode.Body rest)
 
--- The step with which the rest of the stream goes on after a prefix; that more bytes are wanted; or a fault of a field.
+-- The step that follows a prefix at the start of the rest of the stream; or that more bytes are needed; or an error of a field.
 abbrev pub next_step : Bool → List Step → List ℕ → Taken Step
 next_step reads_debug prefix rest = step_at reads_debug prefix (location_after prefix) rest
 

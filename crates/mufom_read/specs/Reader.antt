@@ -1,4 +1,4 @@
--- What a reader has read: the streams of which its state shows the longest sound prefix, or the refusal.
+-- What it means that a reader has read a stream: its state has the longest sound prefix of the stream, or its error.
 use Rattle.std.specs.Prelude.{◌≡◌, ◌≢◌, ◌⊎◌, ℕ, ◌+◌, ◌≤◌, Bool, true, false, List, [], ◌++◌, length, drop, Option, Some, None, Result, Ok, Err}
 use Rattle.mufom_numbers.specs.declared.taken.Taken.TheVariants.{More}
 use Rattle.mufom_numbers.specs.declared.reason.Reason.TheVariants as why
@@ -14,14 +14,14 @@ use Rattle.mufom_read.specs.Judging.{IsSoundFrom, IsSoundPrefix, IsRefusedAt}
 use Rattle.mufom_read.specs.Kept.{as_fault}
 use Rattle.mufom_read.specs.PrefixOfCode.{IsPrefixOf}
 
--- more bytes are wanted after a prefix, where these stand
+-- `rest` follows a prefix, and more bytes are needed
 pub record IsIncomplete (reads_debug : Bool) (prefix : List Step) (rest : List ℕ) : Type 0 where
   pub unended : is_ended prefix ≡ false
   pub faultless : fault_after reads_debug prefix rest ≡ None
   pub wanting : next_step reads_debug prefix rest ≡ More
 
--- What all that the bytes after a prefix have was taken is: a prefix without a fault, after which the module has ended or more
--- bytes are wanted; or a fault after one.
+-- The result of taking all complete steps of the bytes after a prefix: a prefix without an error, after which the module has
+-- ended or more bytes are needed; or an error after such a prefix.
 abbrev pub HasTakenAll : Bool → List Step → List ℕ → Prefix → Result ℕ ReadStop → Type 0
 HasTakenAll reads_debug before rest new (Ok n) = (steps : List Step) × IsPrefixOf new (before ++ steps) × IsSoundFrom reads_debug before steps rest
     × (size_of steps ≡ n) × (n ≤ length rest)
@@ -31,7 +31,7 @@ HasTakenAll reads_debug before rest new (Err (stop.Refused f)) = (steps : List S
     × (fault_after reads_debug (before ++ steps) (drop (size_of steps) rest) ≡ Some (as_fault f))
 HasTakenAll reads_debug before rest new (Err stop.NoMemory) = Unit {0}
 
--- the given number of bytes after a prefix were taken, without a fault
+-- this number of bytes after a prefix was taken, without an error
 pub record HasGoneOn (reads_debug : Bool) (before : List Step) (rest : List ℕ) (now : Prefix) (taken : ℕ) : Type 0 where
   pub steps : List Step
   pub is : IsPrefixOf now (before ++ steps)
@@ -40,27 +40,27 @@ pub record HasGoneOn (reads_debug : Bool) (before : List Step) (rest : List ℕ)
   pub within : taken ≤ length rest
   pub whole : is_ended (before ++ steps) ≡ false → ended_part_fault (before ++ steps) ≡ None
 
--- No step is left after a prefix: the module ends with it and no bytes are after it; or more bytes than these are wanted.
+-- No step is left after a prefix: the module has ended and no bytes follow it, or more bytes than these are needed.
 abbrev pub HasNoStep : Bool → List Step → List ℕ → Type 0
 HasNoStep reads_debug prefix rest = ((is_ended prefix ≡ true) × (rest ≡ [])) ⊎ IsIncomplete reads_debug prefix rest
 
--- What was done with the bytes of a chunk, where these are pending before them: all are pending with them, and still more are
--- wanted; or a step was taken of all that was pending and as many of them as are returned, and none are pending; or there is
--- a fault.
+-- The result of completing a pending record from a chunk. Either the whole chunk became pending too, and still more bytes are
+-- needed; or a step was taken that uses the pending bytes and the returned number of bytes of the chunk, and none are pending;
+-- or there is an error.
 abbrev pub HasCompleted : Bool → List Step → List ℕ → List ℕ → State → Result ℕ ReadStop → Type 0
 HasCompleted reads_debug before pending chunk new (Ok n) = (IsPrefixOf new.prefix before × (new.rest.items ≡ pending ++ chunk)
     × IsIncomplete reads_debug before (pending ++ chunk))
     ⊎ ((new.rest.items ≡ []) × HasGoneOn reads_debug before (pending ++ chunk) new.prefix (length pending + n))
 HasCompleted reads_debug before pending chunk new (Err s) = HasTakenAll reads_debug before (pending ++ chunk) new.prefix (Err s)
 
--- All that the bytes after a prefix have was taken, and those after it are pending; or there is a fault.
+-- All complete steps of the bytes after a prefix were taken, and the bytes after those are pending; or there is an error.
 abbrev pub HasTakenChunk : Bool → List Step → List ℕ → State → Result (Unit {0}) ReadStop → Type 0
 HasTakenChunk reads_debug before rest new (Ok done) = (n : ℕ) × HasTakenAll reads_debug before rest new.prefix (Ok n) × (new.rest.items ≡ drop n rest)
 HasTakenChunk reads_debug before rest new (Err s) = HasTakenAll reads_debug before rest new.prefix (Err s)
 
--- What is stated after a chunk whose steps were taken, where this is whether the module has ended, how many bytes the prefix
--- has, whether the stream has more than may be read, and what is after the prefix: nothing; or that a byte is after
--- the end; or that the stream is too long.
+-- The stop after a chunk whose steps were taken: none, or that a byte follows the end of the module, or that the stream is too
+-- long. `ended` is whether the module has ended, `size` the length of the prefix in bytes, `longer` whether the stream has
+-- more bytes than a file may have, and `rest` the bytes after the prefix.
 abbrev pub HasEndedChunk : Bool → ℕ → Bool → List ℕ → State → Option ReadStop → Type 0
 HasEndedChunk ended size longer rest new None = (new.rest.items ≡ rest) × (longer ≡ false) × (ended ≡ true → rest ≡ [])
 HasEndedChunk ended size longer rest new (Some (stop.Refused f)) = ((ended ≡ true) × (as_fault f ≡ (size, why.AfterEnd)) × ((longer ≡ true) ⊎ (rest ≢ [])))
@@ -77,7 +77,7 @@ pub record IsReading (reader : State) (stream : List ℕ) : Type 0 where
   pub rest : reader.rest.items ≡ drop (size_of prefix) stream
   pub waits : ((is_ended prefix ≡ true) × (size_of prefix ≡ length stream)) ⊎ IsIncomplete reader.reads_debug prefix reader.rest.items
 
--- what a reader with this stop knows of a stream; where memory ran out, nothing
+-- what a reader with this stop knows of a stream; nothing if memory ran out
 abbrev pub Knows : State → List ℕ → Option ReadStop → Type 0
 Knows reader stream None = IsReading reader stream
 Knows reader stream (Some (stop.Refused f)) = IsRefusedAt reader.reads_debug stream f.place f.reason
@@ -87,7 +87,7 @@ Knows reader stream (Some stop.NoMemory) = Unit {0}
 abbrev pub HasRead : State → List ℕ → Type 0
 HasRead reader stream = AreBytes stream × Knows reader stream reader.stop
 
--- why a reader reads no further, if it does not
+-- the error because of which a reader reads no further, if there is one
 abbrev pub reader_stop : State → Option ReadStop
 reader_stop reader = reader.stop
 
@@ -95,7 +95,7 @@ reader_stop reader = reader.stop
 abbrev pub reads_debug_of : State → Bool
 reads_debug_of reader = reader.reads_debug
 
--- what a reader returns, by its stop
+-- what a reader with this stop returns
 abbrev pub answer_of : Option ReadStop → Result (Unit {0}) ReadStop
 answer_of None = Ok tt
 answer_of (Some s) = Err s

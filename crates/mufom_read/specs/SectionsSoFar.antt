@@ -1,4 +1,4 @@
--- The sections so far: what the records read state of them, while more may come.
+-- The sections so far: what the records read so far state of them. More may follow.
 use Rattle.std.specs.Prelude.{◌≡◌, ℕ, ◌&&◌, Bool, List, [], ◌∷◌, filter_map, Option, Some, None, is_none}
 use Rattle.std.specs.Option.{option_or}
 use Rattle.mufom_numbers.specs.declared.reason.Reason.TheVariants as why
@@ -13,7 +13,7 @@ use Rattle.mufom_read.specs.Prefixes.{OffsetRecord}
 use Rattle.mufom_read.specs.Faults.{Fault, fault_if}
 use Rattle.mufom_read.specs.NamesSoFar.{records_in}
 
--- the offset of the record, where it declares a section
+-- the offset of the record, if it declares a section
 abbrev pub section_start_by : OffsetRecord → Record → Option ℕ
 section_start_by p (r.SectionType _ _ _ _ _ _ _) = Some p.0
 section_start_by p _ = None
@@ -22,25 +22,26 @@ section_start_by p _ = None
 abbrev pub section_starts : List OffsetRecord → List ℕ
 section_starts all = filter_map (λ p. section_start_by p p.1.row) all
 
--- The code keeps the sections of these records, and beside each the offset of its declaration.
+-- The code keeps the sections of these records, and the offset of the declaration of each.
 pub record AreSectionsOf (s : Sections) (all : List OffsetRecord) : Type 0 where
   pub list : s.list.items ≡ sections_of (records_in all)
   pub starts : s.starts.items ≡ section_starts all
 
--- what is known of them before a record: the indexes declared so far, and that each record keeps to the rules after those before it
+-- What is known of the sections before one more record: the indexes declared so far, and that all records so far, and the new
+-- one, keep the rules.
 pub record AreSectionsBefore (s : Sections) (indexes : List ℕ) (all : List OffsetRecord) (p : SpelledRecord) : Type 0 where
   pub sections : AreSectionsOf s all
   pub table : indexes ≡ declared section (records_in all)
   pub follow : FollowFrom [] (records_in all)
   pub next : Follows (records_in all) p
 
--- ---- the fault of the sections
+-- ---- the error of the sections
 
 -- an absolute section without a base
 abbrev pub is_unbased : Section → Bool
 is_unbased s = s.absolute && is_none s.base
 
--- the fault of the first such section, at the offset of its declaration
+-- the error of the first such section, at the offset of its declaration
 abbrev pub first_unbased : List ℕ → List Section → Option Fault
 first_unbased (start ∷ starts) (s ∷ sections) = option_or (fault_if (is_unbased s) start why.MissingBase) (first_unbased starts sections)
 first_unbased starts sections = None

@@ -9,7 +9,7 @@ use Rattle.mufom_module.specs.Gathered.{sections_of, publics_of, references_of, 
 use Rattle.mufom_module.specs.Grammar.{NamesModule, Describes}
 use Rattle.mufom_read.specs.Prefixes.{Step, prefix_bytes, records_of, offsets_of, first_present}
 
--- the index lists that records give
+-- the index lists that records declare
 abbrev pub indexes_in : List SpelledRecord → Indexes
 indexes_in records = record {
   sections = declared section records;
@@ -18,7 +18,7 @@ indexes_in records = record {
   debug_names = declared debug_name records;
 }
 
--- of these bytes, those from the first offset to the next that is not 0; none where the first is 0
+-- the bytes from the first offset up to the next one that is not 0; none if the first is 0
 abbrev pub bytes_between : List ℕ → List ℕ → List ℕ
 bytes_between [] bytes = []
 bytes_between (zero ∷ offsets) bytes = []
@@ -28,7 +28,7 @@ bytes_between (suc w ∷ offsets) bytes = slice_range bytes (suc w) (first_prese
 abbrev pub part_bytes : Part → List Step → List ℕ
 part_bytes part prefix = bytes_between (drop (number_of part) (offsets_of prefix)) (prefix_bytes prefix)
 
--- What the records and the bytes that are not read state is what the module has.
+-- The module is what the records, and the bytes that are not read as records, state.
 pub record IsStatedBy (prefix : List Step) (m : Parts) : Type 0 where
   pub begin : SpelledRecord
   pub descriptor : SpelledRecord

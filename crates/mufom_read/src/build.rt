@@ -1,4 +1,4 @@
-//! The module that a whole prefix states.
+//! Builds the module from what was kept of a complete stream.
 
 ghost use Rattle.std.specs.Prelude.{◌≡◌, ℕ, Bool, List, Some, IfOk};
 ghost use Rattle.mufom_module.specs.declared.module.Parts as module_parts;
@@ -16,7 +16,7 @@ use mufom_module::{Module, Parts};
 use mufom_names::NameTable;
 use mufom_numbers::{Bytes, List, NoMemory};
 
-// What the header states, which was read as a whole.
+// The names and the layout of a header that was read to its end.
 fn whole_header(header: Header) -> (Names, Addressing)
     requires { (names : its_names.Names) × (layout : its_layout.Addressing) × (header ≡ header_with (Some names) (Some layout)) }
     ensures { header ≡ header_with (Some result.0) (Some result.1) }
@@ -27,7 +27,7 @@ fn whole_header(header: Header) -> (Names, Addressing)
     (names, layout)
 }
 
-// The parts of the module that the prefix states.
+// The parts of the module, from what was kept.
 fn parts_of(prefix: Prefix) -> Result<Parts, NoMemory>
     requires { (m : module_parts.Parts) × IsStatedByKept prefix m }
     ensures { IfOk result (λ parts. (m : module_parts.Parts) → IsStatedByKept prefix m → parts ≡ m) }
@@ -72,7 +72,7 @@ fn parts_of(prefix: Prefix) -> Result<Parts, NoMemory>
     })
 }
 
-/// The module that a prefix states, which is sound, has ended, and is the whole stream.
+/// Builds the module of a prefix that contains no error, has ended, and is the whole stream.
 pub(crate) fn module_of(prefix: Prefix) -> Result<Module, NoMemory>
     requires { (reads_debug : Bool) × (steps : List Step) × (bytes : List ℕ) × IsWhole reads_debug prefix steps bytes }
     ensures { IfOk result (λ m. (reads_debug : Bool) (steps : List Step) (bytes : List ℕ) → IsWhole reads_debug prefix steps bytes

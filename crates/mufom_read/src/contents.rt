@@ -1,4 +1,4 @@
-//! What the records of a prefix state of the module, part by part.
+//! The parts of the module, as far as the records read so far state them.
 
 ghost use Rattle.std.specs.Prelude.{◌≡◌, ◌<◌, ◌^◌, ◌++◌, ◌∷◌, [], false, List, OnOk};
 ghost use Rattle.mufom_module.specs.SpelledRecords as records;
@@ -23,7 +23,7 @@ use mufom_names::Reference;
 use mufom_numbers::NoMemory;
 use std::alloc::Global;
 
-/// What the records of each part state of the module.
+/// The parts of the module so far, each from the records of one part of the file.
 #[derive(Debug, Drop)]
 pub(crate) struct Contents {
     pub header: Header,
@@ -37,7 +37,7 @@ pub(crate) struct Contents {
 }
 
 impl Contents {
-    /// The contents of no records. Does not allocate.
+    /// Empty contents, before any record. Does not allocate.
     pub(crate) fn new(alloc: Global) -> Contents
         ensures { AreContentsOf result [] }
     {
@@ -52,7 +52,8 @@ impl Contents {
         }
     }
 
-    /// Takes what a record states, by its part, with its expression and what those before it declare. The other parts stay.
+    /// Adds what a record states to the part that the record belongs to. `tables` is what the records before it declare, and
+    /// `tree` is its expression. The other parts do not change.
     pub(crate) fn take(
         &mut self,
         alloc: Global,

@@ -1,4 +1,4 @@
-//! The debug items so far, and the blocks that are open.
+//! The debug items read so far, and the blocks that are still open.
 
 ghost use Rattle.std.specs.Prelude.{◌≡◌, ◌≢◌, ◌==◌, ◌||◌, ◌++◌, ◌∷◌, [], true, false, if◌then◌else◌, drop, option_map, IfOk, OnOk};
 ghost use Rattle.std.specs.List.{cons_option};
@@ -24,27 +24,27 @@ use mufom_records::{BlockTail, Record};
 use std::alloc::Global;
 use std::mem;
 
-// How many blocks may be open at once.
+// The largest number of blocks that may be open at once.
 const MOST_OPEN: usize = 32;
 
-// The kind of a block that is a global function.
+// The kind number of a block for a global function.
 const GLOBAL_KIND: u64 = 4;
 
-/// A block that is begun and not ended.
+/// A block whose end was not read yet.
 #[derive(Debug, Drop)]
 pub(crate) struct OpenBlock {
-    /// The offset of its begin.
+    /// The offset of its BB record in the file.
     pub start: u64,
     pub head: BlockHead,
     pub name: Bytes,
-    /// The items before it at its level.
+    /// The items before it at the same level.
     pub before: List<DebugItem>,
 }
 
-/// The debug items so far.
+/// The debug items read so far.
 #[derive(Debug, Drop)]
 pub(crate) struct Debugs {
-    /// Those of the innermost open block, or of the part where none is open.
+    /// The items of the innermost open block, or of the debug part itself if no block is open.
     pub items: List<DebugItem>,
     /// The open blocks, the innermost last.
     pub blocks: List<OpenBlock>,
@@ -88,7 +88,7 @@ fn block_item(
     Ok(DebugItem::Block(Boxed::new(alloc, block)?))
 }
 
-// The head of a global function, of the kind 4, or else of a local one.
+// The head of a global function if the kind is 4, otherwise of a local one.
 fn scope_head(kind: u64, stack: u64, type_index: u64, offset: Postfix) -> BlockHead
     ensures { result ≡ (if kind == 4 then heads.Global stack type_index offset else heads.Local stack type_index offset) }
 {
@@ -107,7 +107,7 @@ fn scope_head(kind: u64, stack: u64, type_index: u64, offset: Postfix) -> BlockH
     }
 }
 
-// The head of a block of this kind, with its expression where the kind has one.
+// The head of a block of this kind. `offset` is its expression, if the kind has one.
 fn head_of(
     tables: &Tables,
     kind: u64,
@@ -157,7 +157,7 @@ fn ends_plainly(head: &BlockHead) -> bool
     }
 }
 
-/// Whether the record ends no open block of these, or one that has no expression at its end with one.
+/// Whether the record is a BE with no open block, or a BE with an expression for a block whose kind allows none.
 pub(crate) fn ends_badly(blocks: &[OpenBlock], record: &Record) -> bool
     ensures { result ≡ faults.ends_badly (stacked [] blocks.now) «record».now }
 {
@@ -170,7 +170,7 @@ pub(crate) fn ends_badly(blocks: &[OpenBlock], record: &Record) -> bool
     }
 }
 
-/// Whether the record begins a block where as many are open as may be.
+/// Whether the record begins a block although 32 are open already.
 pub(crate) fn is_too_deep(blocks: &[OpenBlock], record: &Record) -> bool
     ensures { result ≡ faults.is_too_deep (stacked [] blocks.now) «record».now }
 {
@@ -180,7 +180,7 @@ pub(crate) fn is_too_deep(blocks: &[OpenBlock], record: &Record) -> bool
     }
 }
 
-/// The fault of a block that is left open, the innermost.
+/// The error for a block that is left open, at the start of the innermost one.
 pub(crate) fn open_fault(blocks: &[OpenBlock]) -> Option<ReadRefusal>
     ensures { option_map as_fault result ≡ faults.open_fault (stacked [] blocks.now) }
 {
@@ -205,7 +205,7 @@ impl Debugs {
         }
     }
 
-    /// The items of the part, where no block is open. Does not allocate.
+    /// The items of the debug part, if no block is open. Does not allocate.
     pub(crate) fn into_items(self) -> List<DebugItem>
         ensures { result ≡ self.items }
     {
@@ -213,7 +213,7 @@ impl Debugs {
         items
     }
 
-    // Adds an item to the innermost open block.
+    // Adds an item to the innermost open block, or to the debug part if no block is open.
     fn add(&mut self, item: DebugItem) -> Result<(), NoMemory>
         ensures marks { OnOk result (marks_kept self.new ≡ marks_kept self.old ++ marks_of_item item) }
         ensures blocks { opened self.new ≡ opened self.old }
@@ -221,7 +221,7 @@ impl Debugs {
         self.items.push(item)
     }
 
-    // Begins a block, whose record begins at an offset.
+    // Begins a block. `start` is the offset of its record.
     fn begin(
         &mut self,
         alloc: Global,
@@ -262,7 +262,7 @@ impl Debugs {
         }
     }
 
-    /// Takes what a record, with its expression where it is of the debug part, gives of the debug items.
+    /// Adds what a record states of the debug items. If the record is of the debug part, `tree` is its expression.
     pub(crate) fn take(
         &mut self,
         alloc: Global,

@@ -1,4 +1,4 @@
-//! What the records of the header state, and their faults.
+//! What the records of the header state, and their errors.
 
 ghost use Rattle.std.specs.Prelude.{◌≡◌, ◌++◌, ◌∷◌, [], Some, None, option_map, nat_lt, OnOk};
 ghost use Rattle.std.specs.List.{list_any};
@@ -17,35 +17,35 @@ use mufom_numbers::{Bytes, NoMemory, Reason, Span, codes};
 use mufom_records::Record;
 use std::alloc::Global;
 
-// The most units that an address has.
+// The largest number of addressable units (MAUs) in an address.
 const MOST_UNITS: u64 = 8;
 
-// The units of an address before a descriptor was read, where no load is.
+// The MAUs of an address until a descriptor is read. No load comes before it, so any value would do.
 const ANY_UNITS: u8 = 2;
 
-/// The names that the first record gives.
+/// The names in the module's first record.
 #[derive(Debug, Drop)]
 pub(crate) struct Names {
     pub processor: Bytes,
     pub name: Bytes,
 }
 
-/// What the descriptor states of addresses.
+/// What the address descriptor states.
 #[derive(Clone, Copy, Debug, PartialEq, Eq)]
 pub(crate) struct Addressing {
-    /// The units of an address.
+    /// The number of MAUs in an address.
     pub maus: u8,
     pub order: Order,
 }
 
-/// What the header states, as far as it was read.
+/// What the header states, as far as it was read so far.
 #[derive(Debug, Drop)]
 pub(crate) struct Header {
     pub names: Option<Names>,
     pub layout: Option<Addressing>,
 }
 
-// The order of bytes that a letter gives.
+// The byte order that a letter selects: the most significant byte first if there is no letter.
 fn order_of(letter: Option<u8>) -> Order
     ensures { result ≡ order_of letter }
 {
@@ -61,7 +61,7 @@ fn order_of(letter: Option<u8>) -> Order
     }
 }
 
-// The units of an address, of which there are no more than 8, and the order of bytes.
+// The MAUs of an address, capped at 8, and the byte order.
 fn layout_of(maus: u64, letter: Option<u8>) -> Addressing
     ensures { result ≡ layout_from maus letter }
 {
@@ -72,7 +72,7 @@ fn layout_of(maus: u64, letter: Option<u8>) -> Addressing
 }
 
 impl Header {
-    /// The header of which nothing was read.
+    /// A header of which nothing was read yet.
     pub(crate) fn new() -> Header
         ensures { result ≡ header_with None None }
     {
@@ -82,7 +82,7 @@ impl Header {
         }
     }
 
-    /// The units of an address.
+    /// The number of MAUs in an address.
     pub(crate) fn maus(&self) -> u8
         ensures { result ≡ units_or (option_map (λ l. l.maus) self.now.layout) }
     {
@@ -92,7 +92,7 @@ impl Header {
         }
     }
 
-    // Keeps the names, unless there are some.
+    // Keeps the names, unless there are some already.
     fn keep_names(
         &mut self,
         alloc: Global,
@@ -114,7 +114,7 @@ impl Header {
         Ok(())
     }
 
-    // Keeps the layout, unless there is one.
+    // Keeps the layout, unless there is one already.
     fn keep_layout(&mut self, layout: Addressing)
         ensures { self.new ≡ header_with self.old.names (option_or self.old.layout (Some layout)) }
     {
@@ -123,7 +123,7 @@ impl Header {
         }
     }
 
-    /// Takes what a record states of the header. What an earlier one states stays.
+    /// Adds what a record states of the header. The first statement counts: a later record never changes it.
     pub(crate) fn take(&mut self, alloc: Global, seen: &SeenRecord) -> Result<(), NoMemory>
         requires { HasOwnParts seen.now }
         ensures { OnOk result (self.new ≡ header_after self.old (record_of_seen seen.now)) }
@@ -139,7 +139,7 @@ impl Header {
     }
 }
 
-// ---- faults
+// ---- errors
 
 fn is_below_any(earlier: &[u64], offset: u64) -> bool
     ensures { result ≡ list_any (λ e. nat_lt offset e) earlier.now }
@@ -147,14 +147,14 @@ fn is_below_any(earlier: &[u64], offset: u64) -> bool
     earlier.iter().any(|other| offset < *other)
 }
 
-// Whether the offset is below an earlier one that is not 0, or 0 as that of the end.
+// Whether the offset is not 0 and below an earlier one, or is the eighth one (that of the module's end) and 0.
 fn is_out_of_order(earlier: &[u64], offset: u64) -> bool
     ensures { result ≡ faults.is_out_of_order earlier.now offset }
 {
     offset != 0 && is_below_any(earlier, offset) || earlier.len() == 7 && offset == 0
 }
 
-// The first of the two that is not 0.
+// The first of the two numbers that is not 0.
 fn first_or(first: u64, second: u64) -> u64
     ensures { result ≡ first_or first second }
 {
@@ -164,14 +164,14 @@ fn first_or(first: u64, second: u64) -> u64
     }
 }
 
-// Whether the eight offsets are there, and the first that is not 0 is not that of the byte after them.
+// Whether this is the eighth offset, and the first of the eight that is not 0 differs from `end`, the offset after the header.
 fn leaves_gap(earlier: &[u64], offset: u64, end: u64) -> bool
     ensures { result ≡ faults.leaves_gap (earlier.now ++ offset ∷ []) end }
 {
     earlier.len() == 7 && first_or(first_present(earlier), offset) != end
 }
 
-// The fault of an offset after earlier ones, in the record between these two offsets of the file.
+// The error of a part's offset after the earlier ones, if there is one. Its record is at `start..end` in the file.
 fn offset_fault(earlier: &[u64], offset: u64, start: u64, end: u64) -> Option<ReadRefusal>
     ensures { option_map as_fault result ≡ faults.offset_fault earlier.now offset start end }
 {
@@ -189,7 +189,7 @@ fn offset_fault(earlier: &[u64], offset: u64, start: u64, end: u64) -> Option<Re
     None
 }
 
-// Whether the bits of an addressable unit are not 8, or the units of an address not 1 to 8.
+// Whether an addressable unit has other than 8 bits, or an address other than 1 to 8 units.
 fn is_bad_descriptor(record: &Record) -> bool
     ensures { result ≡ faults.is_bad_descriptor «record».now }
 {
@@ -199,7 +199,7 @@ fn is_bad_descriptor(record: &Record) -> bool
     }
 }
 
-/// The fault of a record of the header, between these two offsets of the file.
+/// The error of a record of the header, if there is one. The record is at `start..end` in the file.
 pub(crate) fn header_fault(
     earlier: &[u64],
     record: &Record,

@@ -1,11 +1,12 @@
-//! What the bytes of a file are: a module, a refusal at an offset, or the prefix of a module's file; and
-//! the reader that returns so.
+//! Reads module files. The bytes of a file are a module, or contain an error at an offset, or are only
+//! the start of a module's file.
 //!
-//! A stream is judged record by record, by what is before each. A [`Reader`] takes it in chunks: it
-//! makes the parts of the module of the records without a fault as they come, and keeps what these declare
-//! and state once, and the bytes after them, but no record. The crate depends on `mufom_module` for the file of a
-//! module and on `mufom_records`. Its main clause is that of [`Reader::feed`]: a refusal is returned
-//! exactly where the stream so far is refused, however it was cut; its main law is [`has_one_judgment`].
+//! A stream is checked record by record, each one against those before it. A [`Reader`] takes the stream in
+//! chunks. It builds the parts of the module as records arrive. It keeps the indexes that they declare and
+//! what they may state only once, and the bytes of an unfinished record, but not the records themselves.
+//! The crate depends on `mufom_module` for the file of a module, and on `mufom_records`. Its main clause is
+//! that of [`Reader::feed`]: an error is returned exactly if the stream so far has one, however it was cut
+//! into chunks. Its main law is [`has_one_judgment`].
 #![tactic(auto)]
 
 mod build;

@@ -1,4 +1,4 @@
-//! The loads so far, and what awaits items.
+//! The loads read so far, and the record that may still get items.
 
 ghost use Rattle.std.specs.Prelude.{◌≡◌, [], ◌∷◌, ◌++◌, IfOk, OnOk, option_map, Some, true, false};
 ghost use Rattle.mufom_expr.specs.Tree.{Tree};
@@ -20,17 +20,17 @@ use mufom_records::Record;
 use std::alloc::Global;
 use std::mem;
 
-/// The record after which items may stand.
+/// The record that further items would belong to.
 #[derive(Debug, Drop)]
 pub(crate) enum OpenLoad {
     Nothing,
-    /// LR: each item is a load.
+    /// LR: each item is a load of its own.
     Relocate,
-    /// RE with LR, and its items so far.
+    /// RE with LR: the repeat count, and its items so far.
     Repeat { count: u64, items: List<Item> },
 }
 
-/// The loads so far, and what awaits items.
+/// The loads read so far, and the record that may still get items.
 #[derive(Debug, Drop)]
 pub(crate) struct Loads {
     pub loads: List<Load>,
@@ -48,7 +48,7 @@ fn is_item(record: &Record) -> bool
     }
 }
 
-// The item that the record is, with this value. A field without a size has the size of an address.
+// The item that the record states, with this value. A field without a size has the size of an address.
 fn item_of(
     alloc: Global,
     maus: u8,
@@ -80,7 +80,7 @@ fn item_of(
     }
 }
 
-// The load that sets the program counter of the section to this value.
+// The load that sets the program counter of the section with this index to a value.
 fn set_pc(tables: &Tables, index: u32, value: Option<Postfix>) -> Load
     requires { (tree : Tree) × (value ≡ Some tree) }
     ensures { (tree : Tree) → value ≡ Some tree → result ≡ Load.SetPc (records.position_in tables.now.sections index) tree }
@@ -92,7 +92,8 @@ fn set_pc(tables: &Tables, index: u32, value: Option<Postfix>) -> Load
     }
 }
 
-// Adds the loads of a record that is no item, with this value, but for those that await items.
+// Adds the loads that a record states at once. The record is not an item. An LR, alone or after RE, adds none here: its
+// items follow.
 fn add_loads(
     alloc: Global,
     tables: &Tables,
@@ -138,7 +139,7 @@ impl Loads {
         }
     }
 
-    /// All loads, where no further item comes.
+    /// All loads, once no further item can follow.
     pub(crate) fn into_closed(mut self) -> Result<List<Load>, NoMemory>
         ensures { IfOk result (λ loads. loads ≡ closed self) }
     {
@@ -147,7 +148,7 @@ impl Loads {
         Ok(loads)
     }
 
-    // Ends what awaits items: no further one comes.
+    // Ends the record that could get items: no further item follows.
     fn close(&mut self) -> Result<(), NoMemory>
         ensures { OnOk result (self.new ≡ loads_and (closed self.old) open_load.Nothing) }
     {
@@ -161,7 +162,7 @@ impl Loads {
         }
     }
 
-    // The same where a repeat may await items.
+    // The same, if the record may be a repeat.
     #[inline(never)]
     fn close_repeat(&mut self) -> Result<(), NoMemory>
         ensures { OnOk result (self.new ≡ loads_and (closed self.old) open_load.Nothing) }
@@ -173,7 +174,7 @@ impl Loads {
         }
     }
 
-    // Lets what the record opens await items, where nothing does.
+    // If the record is an LR, alone or after RE, items may follow from now on.
     fn open(&mut self, alloc: Global, record: &Record)
         requires { self.old.awaiting ≡ open_load.Nothing }
         ensures { self.new ≡ loads_and self.old.loads (opened_by «record».now) }
@@ -190,7 +191,7 @@ impl Loads {
         }
     }
 
-    // Adds an item to what awaits it.
+    // Adds an item to the record that it belongs to.
     fn add_item(&mut self, item: Item) -> Result<(), NoMemory>
         ensures { OnOk result (self.new ≡ with_item self.old.loads self.old.awaiting item) }
     {
@@ -201,7 +202,7 @@ impl Loads {
         }
     }
 
-    // Takes a record that is no item, with this value.
+    // Takes a record that is not an item, with this value.
     fn take_other(
         &mut self,
         alloc: Global,
@@ -221,8 +222,8 @@ impl Loads {
         add_loads(alloc, tables, &mut self.loads, record, value)
     }
 
-    /// Takes the next record, with its expression over the indexes of the file where it is of the data part, by the indexes
-    /// that those before it declare and with these units in an address.
+    /// Adds what a record states of the loads. `tables` has the indexes that the records before it declare, and `maus` is the
+    /// number of MAUs in an address. If the record is of the data part, `tree` is its expression, over the indexes of the file.
     pub(crate) fn take(
         &mut self,
         alloc: Global,

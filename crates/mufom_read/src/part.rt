@@ -1,4 +1,4 @@
-//! The parts of a file, and the one that a byte is in.
+//! The parts of a file, and which of them a byte is in.
 
 ghost use Rattle.std.specs.Prelude.{◌≡◌, option_map};
 ghost use Rattle.mufom_read.specs.Prefixes.{first_present, part_among, parts_in_order, is_raw};
@@ -7,7 +7,7 @@ ghost use Rattle.mufom_read.specs.PartsOfCode.{as_part, as_parts, as_extent};
 
 use mufom_records::Record;
 
-/// The parts of a file in their order, and the record at its end.
+/// The parts of a file in order, and the record that ends it.
 #[derive(Clone, Copy, Debug, PartialEq, Eq)]
 pub(crate) enum Part {
     Extension,
@@ -20,7 +20,7 @@ pub(crate) enum Part {
     End,
 }
 
-/// A part, the offset of its first byte, and that of the byte after it.
+/// A part, the offset of its first byte, and the offset of the byte after it.
 #[derive(Clone, Copy, Debug, PartialEq, Eq)]
 pub(crate) struct Extent {
     pub part: Part,
@@ -38,7 +38,7 @@ const PARTS: [Part; 7] = [
     Part::Trailer,
 ];
 
-/// The first offset that is not 0, and 0 where each is.
+/// The first offset that is not 0, or 0 if all are.
 pub(crate) fn first_present(offsets: &[u64]) -> u64
     ensures { result ≡ first_present offsets.now }
 {
@@ -49,7 +49,7 @@ pub(crate) fn first_present(offsets: &[u64]) -> u64
     }
 }
 
-// The part in which the byte stands, of these with their offsets.
+// The part that contains the byte at `at`, among these parts with their offsets.
 fn part_among(parts: &[Part], offsets: &[u64], at: u64) -> Option<Extent>
     ensures { option_map as_extent result ≡ part_among (as_parts parts.now) offsets.now at }
 {
@@ -73,15 +73,15 @@ fn part_among(parts: &[Part], offsets: &[u64], at: u64) -> Option<Extent>
     }
 }
 
-/// The part in which the byte at an offset stands, by the offsets of the header.
+/// The part that contains the byte at offset `at`, by the offsets of the header.
 pub(crate) fn part_at(offsets: &[u64], at: u64) -> Option<Extent>
     ensures { option_map as_extent result ≡ part_among parts_in_order offsets.now at }
 {
     part_among(&PARTS, offsets, at)
 }
 
-/// Whether the part's bytes are not read: the extension, the environment, and a debug part that is
-/// passed over.
+/// Whether the part's bytes are not read as records: the extension, the environment, and a debug part that
+/// is skipped.
 pub(crate) fn is_raw(reads_debug: bool, part: Part) -> bool
     ensures { result ≡ is_raw reads_debug (as_part part) }
 {
@@ -97,7 +97,7 @@ pub(crate) fn is_raw(reads_debug: bool, part: Part) -> bool
     }
 }
 
-/// The part that a record is in; those of the header are in none.
+/// The part that a record belongs to. Records of the header belong to none.
 pub(crate) fn part_of(record: &Record) -> Option<Part>
     ensures { option_map as_part result ≡ parts.part_of «record».now }
 {
@@ -133,7 +133,7 @@ pub(crate) fn part_of(record: &Record) -> Option<Part>
     }
 }
 
-/// Whether the record may be in the part.
+/// Whether the record belongs to the part.
 pub(crate) fn stands_in(part: Part, record: &Record) -> bool
     ensures { result ≡ parts.stands_in (as_part part) «record».now }
 {

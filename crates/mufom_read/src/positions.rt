@@ -1,4 +1,4 @@
-//! The positions of entries, by the indexes of the file.
+//! Replaces the indexes of the file by positions of entries, counted from 0.
 
 ghost use Rattle.std.specs.Prelude.{◌≡◌, option_map};
 ghost use Rattle.mufom_expr.specs.Spelled.{list_of};
@@ -9,14 +9,14 @@ use crate::tables::Tables;
 use mufom_expr::{Letter, Postfix, VarMap};
 use mufom_sections::IndexTable;
 
-/// The position of an index that the table has.
+/// The position of an index in the table, or 0 if the table does not have it.
 pub(crate) fn position_in(table: &IndexTable, index: u32) -> u32
     ensures { result ≡ records.position_in table.now index }
 {
     table.position(index).unwrap_or(0)
 }
 
-// The entries that a variable's letter names.
+// The table of the entries that a variable with this letter refers to.
 fn entries(tables: &Tables, letter: Letter) -> &IndexTable
     ensures { result.now ≡ list_of (indexes_by tables.now) letter }
 {
@@ -30,7 +30,7 @@ fn entries(tables: &Tables, letter: Letter) -> &IndexTable
     }
 }
 
-/// What puts the position of the entry in the place of its index.
+/// Replaces each index in an expression by the position of its entry.
 #[derive(Clone, Copy)]
 pub(crate) struct Positions<'a> {
     pub tables: &'a Tables,
@@ -44,7 +44,7 @@ impl VarMap for Positions<'_> {
     }
 }
 
-/// The expression itself with positions in place of the indexes of the file, where there is one. Does not allocate.
+/// The same expression, if there is one, with positions in place of the indexes of the file. Does not allocate.
 pub(crate) fn renamed(tables: &Tables, tree: Option<Postfix>) -> Option<Postfix>
     ensures { result ≡ option_map (records.positioned (indexes_by tables.now)) tree }
 {

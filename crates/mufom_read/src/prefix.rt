@@ -31,30 +31,30 @@ use mufom_numbers::{List, NoMemory, Reason, codes};
 use mufom_records::{Mode, Record, Stop, read_record};
 use std::alloc::Global;
 
-// The record of the header after which no further one comes.
+// The position, from 0, of the last record of the header.
 const LAST_OF_HEADER: u8 = 9;
 
-/// What was judged of a stream so far, and has no fault.
+/// What is kept of the records and bytes of a stream that were read so far and contain no error.
 #[derive(Debug, Drop)]
 pub(crate) struct Prefix {
     /// What the records state of the module.
     pub contents: Contents,
     pub tables: Tables,
-    /// Whether items may come after the last record.
+    /// Whether items may follow the last record.
     pub awaits_items: bool,
     /// Whether the end of the module was read.
     pub ended: bool,
-    /// The offsets of the header, as far as they stand.
+    /// The offsets in the header, as far as they were read.
     pub offsets: List<u64>,
     pub extension: Vec<u8>,
     pub environment: Vec<u8>,
-    /// How many bytes there are.
+    /// The length in bytes.
     pub size: u64,
-    /// Where the next byte stands.
+    /// The location of the next byte.
     pub location: Location,
 }
 
-/// Where the next byte stands.
+/// The location of the next byte.
 #[derive(Clone, Copy, Debug, PartialEq, Eq)]
 pub(crate) enum Location {
     /// In the header, after the given number of records.
@@ -64,17 +64,17 @@ pub(crate) enum Location {
     End,
 }
 
-/// What is after a prefix.
+/// What reading on from a prefix results in.
 #[derive(Clone, Copy, Debug, PartialEq, Eq)]
 pub(crate) enum Next {
-    /// The given number of bytes, which the prefix now has too.
+    /// This number of bytes was added to the prefix.
     Took(usize),
-    /// More bytes are wanted.
+    /// More bytes are needed.
     More,
     Refused(ReadRefusal),
 }
 
-// The first bytes of these, as counted.
+// The first `count` bytes.
 fn prefix_of(bytes: &[u8], count: usize) -> &[u8]
     requires { count ≤ length bytes.now }
     ensures { result.now ≡ take count bytes.now }
@@ -82,7 +82,7 @@ fn prefix_of(bytes: &[u8], count: usize) -> &[u8]
     &bytes[..count]
 }
 
-// Whether a number or an opening bracket begins the bytes, as an item of LR begins.
+// Whether the bytes begin with a number or an opening bracket, as an item of an LR does.
 fn begins_item(rest: &[u8]) -> bool
     ensures { result ≡ parts.begins_item rest.now }
 {
@@ -97,7 +97,7 @@ fn begins_item(rest: &[u8]) -> bool
     }
 }
 
-// Whether items may come after the record.
+// Whether items may follow the record.
 fn opens_items(record: &Record) -> bool
     ensures { result ≡ parts.opens_items «record».now }
 {
@@ -110,7 +110,7 @@ fn opens_items(record: &Record) -> bool
     }
 }
 
-// The record that must be in the header after the given number.
+// The record that the header must have after `count` records.
 fn header_mode(count: u8) -> Mode
     ensures { result ≡ prefixes.header_mode count }
 {
@@ -121,7 +121,7 @@ fn header_mode(count: u8) -> Mode
     }
 }
 
-// Adds the offset that a record of the header gives, if it gives one.
+// Adds the offset that a record states, if it states one.
 fn add_offset(offsets: &mut List<u64>, record: &Record) -> Result<(), NoMemory>
     ensures { OnOk result (offsets.new ≡ offsets.old ++ cons_option (offset_in «record».now) []) }
 {
@@ -131,7 +131,7 @@ fn add_offset(offsets: &mut List<u64>, record: &Record) -> Result<(), NoMemory>
     }
 }
 
-// The part in which the location is, where its bytes are not read.
+// The part of the location, if the part's bytes are not read as records.
 fn raw_part(reads_debug: bool, place: Location) -> Option<Extent>
     ensures { MatchOption result (IsRead reads_debug place) (IsRawPart reads_debug place) }
 {
@@ -154,7 +154,7 @@ fn body_mode(items: bool) -> Mode
     if items { Mode::Items } else { Mode::Body }
 }
 
-// The first bytes of these, at most as counted.
+// The first `count` bytes, or all if there are fewer.
 fn at_most(bytes: &[u8], count: u64) -> &[u8]
     ensures { result.now ≡ take count bytes.now }
 {
@@ -172,7 +172,7 @@ fn is_module_end(record: &Record) -> bool
 }
 
 impl Prefix {
-    /// The prefix of no bytes. Does not allocate.
+    /// The empty prefix. Does not allocate.
     pub(crate) fn new(alloc: Global) -> Prefix
         ensures { IsPrefixOf result [] }
     {
@@ -189,7 +189,7 @@ impl Prefix {
         }
     }
 
-    // Where the byte after the prefix stands, after the header: found by the offsets.
+    // The location of the byte after the prefix, found by the offsets. Used after the header only.
     fn find_location(&self) -> Location
         ensures { as_location result ≡ prefixes.location_by (prefixes.part_among prefixes.parts_in_order self.now.offsets self.now.size) }
     {
@@ -199,7 +199,7 @@ impl Prefix {
         }
     }
 
-    // Whether the byte after the prefix is in the part that is kept as the location of the last step.
+    // Whether the byte after the prefix is still in the part that is kept as the location.
     fn stays_in_part(&self) -> bool
         ensures { IsTrue result → next_location (as_location self.now.location) self.now.offsets self.now.size
             ≡ as_location self.now.location }
@@ -211,8 +211,8 @@ impl Prefix {
         }
     }
 
-    // Where the byte after the prefix stands, whose last step was in the location that is kept. It is found anew only where
-    // a part ends.
+    // The location of the byte after the prefix, if the last step was in the location that is kept. Within the header and
+    // within a part the offsets need not be searched.
     #[inline(never)]
     fn next_location(&self) -> Location
         ensures { as_location result ≡ next_location (as_location self.now.location) self.now.offsets self.now.size }
@@ -236,7 +236,7 @@ impl Prefix {
         }
     }
 
-    // Whether the last byte is in the part that the next one is in.
+    // Whether the last byte of the prefix and the next byte are in the same part.
     fn is_inside(&self) -> bool
         ensures { result ≡ is_inside (as_location self.now.location) self.now.size }
     {
@@ -256,14 +256,14 @@ impl Prefix {
         self.ended
     }
 
-    // Whether an item may come after the prefix in this part, and one does.
+    // Whether an item may follow the prefix in this part, and the next byte begins one.
     fn may_go_on(&self, extent: Extent, rest: &[u8]) -> bool
         ensures { result ≡ (not (self.now.size == extent.from) && (self.now.awaits_items && parts.begins_item rest.now)) }
     {
         self.size != extent.from && self.awaits_items && begins_item(rest)
     }
 
-    // What must be in a location, where these bytes stand.
+    // The mode in which to read the bytes at a location.
     fn mode(&self, place: Location, rest: &[u8]) -> Mode
         ensures { (prefix : List prefixes.Step) → IsPrefixOf self.now prefix
             → result ≡ mode_at prefix (as_location place) rest.now }
@@ -275,7 +275,7 @@ impl Prefix {
         }
     }
 
-    // The refusal of a record that begins after the prefix.
+    // An error of the record after the prefix, reported at its first byte.
     fn refused(&self, reason: Reason) -> Option<ReadRefusal>
         ensures { option_map as_fault result ≡ Some (self.now.size, reason) }
     {
@@ -285,7 +285,7 @@ impl Prefix {
         })
     }
 
-    // The fault of a whole record in its part, with this expression, by the rules.
+    // The error of a record that breaks a rule, if it does. `tree` is its expression.
     fn rule_fault(&self, record: &Record, tree: Option<&Postfix>) -> Option<ReadRefusal>
         ensures { (prefix : List prefixes.Step) (p : records.SpelledRecord) → IsPrefixOf self.now prefix
             → p.row ≡ «record».now → records.tree_of_record p ≡ option_map (λ t. t.now) tree.entry
@@ -302,7 +302,7 @@ impl Prefix {
         }
     }
 
-    // The fault of a whole record in a part, with this expression.
+    // The error of a complete record in a part, if there is one. `tree` is its expression.
     fn part_fault(
         &self,
         extent: Extent,
@@ -324,7 +324,7 @@ impl Prefix {
         self.rule_fault(next.row, tree)
     }
 
-    // The fault of a whole record in its location, with this expression.
+    // The error of a complete record at its location, if there is one. `tree` is its expression.
     fn record_fault(
         &self,
         place: Location,
@@ -355,7 +355,7 @@ impl Prefix {
         }
     }
 
-    // Adds a record without a fault, with its expression.
+    // Adds a record that has no error. `tree` is its expression.
     fn add(
         &mut self,
         alloc: Global,
@@ -391,7 +391,7 @@ impl Prefix {
         Ok(())
     }
 
-    // Judges the record that begins after the prefix, and adds it.
+    // Checks the record after the prefix, and adds it if it has no error.
     #[inline(always)]
     fn take(&mut self, alloc: Global, place: Location, next: &SeenRecord) -> Result<Next, NoMemory>
         requires known { (prefix : List prefixes.Step) × IsPrefixOf self.old prefix
@@ -415,7 +415,7 @@ impl Prefix {
         }
     }
 
-    // Takes the record at the start of the rest.
+    // Reads the record at the start of `rest`, checks it and adds it.
     #[inline(always)]
     fn read(&mut self, alloc: Global, place: Location, rest: &[u8]) -> Result<Next, NoMemory>
         requires known { (prefix : List prefixes.Step) × IsPrefixOf self.old prefix
@@ -444,7 +444,7 @@ impl Prefix {
         }
     }
 
-    // Adds bytes that are not read, of this part.
+    // Adds bytes of a part that is not read as records.
     fn add_raw(&mut self, part: Part, bytes: &[u8]) -> Result<(), NoMemory>
         requires fits { self.old.size + length bytes.now ≤ file_limit }
         ensures { OnOk result (HasRaw self.old part bytes.now self.new) }
@@ -461,7 +461,7 @@ impl Prefix {
         Ok(())
     }
 
-    // Takes bytes that are not read, as many of the part's as there are.
+    // Takes bytes of a part that is not read as records: up to the part's end, or all that are there.
     fn skip(&mut self, extent: Extent, rest: &[u8]) -> Result<Next, NoMemory>
         requires fits { self.old.size + length rest.now ≤ file_limit }
         requires within { self.old.size < extent.to }
@@ -475,7 +475,7 @@ impl Prefix {
         Ok(Next::Took(bytes.len()))
     }
 
-    /// The fault of the part that ends where the prefix does, as a whole, if one ends there.
+    /// If a part ends where the prefix does: the error of that part as a whole.
     fn ended_fault(&self) -> Option<ReadRefusal>
         requires { AreMarked self.now.contents }
         ensures { (prefix : List prefixes.Step) → IsPrefixOf self.now prefix
@@ -496,7 +496,7 @@ impl Prefix {
         }
     }
 
-    // Takes what is after the prefix.
+    // Takes the next record, or bytes that are not read as records.
     #[inline(always)]
     fn step(&mut self, alloc: Global, reads_debug: bool, rest: &[u8]) -> Result<Next, NoMemory>
         requires known { (prefix : List prefixes.Step) × IsPrefixOf self.old prefix }
@@ -512,7 +512,7 @@ impl Prefix {
         }
     }
 
-    /// Takes the next record, or bytes that are not read, and judges the part that ends after them.
+    /// Takes the next record, or bytes that are not read as records. If a part ends after them, checks the part as a whole.
     pub(crate) fn advance(
         &mut self,
         alloc: Global,
@@ -533,7 +533,7 @@ impl Prefix {
         }
     }
 
-    // Judges the part that ends after the bytes that were taken, by their number, unless the module has ended.
+    // Checks the part that ends after the `count` bytes that were taken, if one does, unless the module has ended.
     fn judge_part(&self, count: usize) -> Next
         requires { AreMarked self.now.contents }
         ensures { (reads_debug : Bool) (prefix : List prefixes.Step) (rest : List ℕ)

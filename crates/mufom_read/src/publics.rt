@@ -1,4 +1,4 @@
-//! The publics so far, with what was stated of each.
+//! The publics read so far, with what was stated of each.
 
 ghost use Rattle.std.specs.Prelude.{◌≡◌, ◌<◌, ◌^◌, ◌==◌, ◌++◌, ◌∷◌, [], true, List, nat_eq, length, map, slice_get, slice_set, None, Some, IfOk};
 ghost use Rattle.std.specs.Prelude.{OnOk, option_map};
@@ -26,16 +26,17 @@ use mufom_sections::IndexTable;
 use std::alloc::Global;
 use std::mem;
 
-/// What is kept beside a public, by which a fault of it is placed. Offsets are in bytes from the file's start.
+/// Where an error in a public is reported. Offsets are in bytes from the start of the file.
 #[derive(Clone, Copy, Debug, PartialEq, Eq)]
 pub(crate) enum PublicMark {
-    /// No value is stated yet: the offset of the declaration.
+    /// No value is stated yet: at the offset of the declaration.
     Declared(u32),
-    /// The offset of the record that states its value.
+    /// A value is stated: at the offset of the record that states it.
     Valued(u32),
 }
 
-/// The publics so far, whose values have the indexes of the file, and what is kept beside each.
+/// The publics read so far, and the mark of each at the same position. Variables in values still have the indexes of the
+/// file.
 #[derive(Debug, Drop)]
 pub(crate) struct Publics {
     pub list: Vec<Public>,
@@ -62,7 +63,7 @@ fn push_note(publics: &mut Vec<Public>, position: usize, note: Note) -> Result<(
     publics[position].notes.push(note)
 }
 
-// Keeps the offset of the value of the public at a position.
+// Keeps the offset of the record that states the value of the public at a position.
 fn set_valued(marks: &mut Vec<PublicMark>, position: usize, start: u32)
     requires { position < length marks.old.items }
     ensures { marks.new.items ≡ slice_set marks.old.items position (Valued start) }
@@ -96,7 +97,7 @@ impl Publics {
         }
     }
 
-    // Adds a public of which nothing was stated, whose declaration begins at an offset.
+    // Adds a public of which nothing was stated yet. `start` is the offset of its declaration.
     fn add(&mut self, alloc: Global, name: Bytes, start: u32) -> Result<(), NoMemory>
         ensures list { OnOk result (self.new.list.items ≡ self.old.list.items ++ record { name = name; value = number 0; notes = [] } ∷ []) }
         ensures marks { OnOk result (self.new.marks.items ≡ self.old.marks.items ++ Declared start ∷ []) }
@@ -110,7 +111,7 @@ impl Publics {
         Ok(())
     }
 
-    // Gives the public at a position its value, which begins at an offset.
+    // Gives the public at a position its value. `start` is the offset of the record that states it.
     fn give(&mut self, position: usize, start: u32, value: Postfix)
         requires list { position < length self.old.list.items }
         requires marks { position < length self.old.marks.items }
@@ -122,7 +123,7 @@ impl Publics {
         set_valued(&mut self.marks, position, start);
     }
 
-    /// Takes what a record, with its expression where it is the value of a public, states of the publics.
+    /// Adds what a record states of the publics. If the record states the value of a public, `value` is that expression.
     pub(crate) fn take(
         &mut self,
         alloc: Global,
@@ -163,7 +164,8 @@ impl Publics {
         List::from_vec(place_all(&tables, self.list))
     }
 
-    /// The fault of the publics with the smallest offset: none that has no value, or a value with a variable that names no entry.
+    /// The error in the publics with the smallest offset, if there is one: a public without a value, or a value with a
+    /// variable whose index is not declared.
     pub(crate) fn fault(&self, tables: &Tables) -> Option<ReadRefusal>
         requires { length self.now.list.items ≡ length self.now.marks.items }
         ensures { option_map as_fault result ≡ least_from None (public_faults tables.now self.now.marks.items self.now.list.items) }
@@ -179,7 +181,7 @@ impl Publics {
     }
 }
 
-// Puts positions in the place of the indexes of the file, in the value of the public.
+// Replaces the indexes of the file by positions in the value of a public.
 fn place(public: &mut Public, tables: &Tables)
     ensures { public.new ≡ placed_public (indexes_by tables.now) public.old }
 {
@@ -187,7 +189,7 @@ fn place(public: &mut Public, tables: &Tables)
     public.value = value.renamed(&Positions { tables });
 }
 
-// And in the values of all publics.
+// Replaces the indexes of the file by positions in the values of all publics.
 fn place_all(tables: &Tables, mut publics: Vec<Public>) -> Vec<Public>
     ensures { result.items ≡ map (placed_public (indexes_by tables.now)) publics.items }
 {
@@ -206,7 +208,7 @@ fn refusal(place: u32, reason: Reason) -> ReadRefusal
     }
 }
 
-// The fault of a public, by what is kept beside it and its value.
+// The error of a public with this mark and value, if there is one.
 fn public_fault(tables: &Tables, mark: PublicMark, value: &Postfix) -> Option<ReadRefusal>
     ensures { option_map as_fault result ≡ value_fault tables.now value.now mark }
 {
@@ -222,7 +224,7 @@ fn public_fault(tables: &Tables, mark: PublicMark, value: &Postfix) -> Option<Re
     }
 }
 
-// Of two faults the one with the smaller offset.
+// The error with the smaller offset.
 fn earlier(first: Option<ReadRefusal>, second: Option<ReadRefusal>) -> Option<ReadRefusal>
     ensures { option_map as_fault result ≡ earlier (option_map as_fault first) (option_map as_fault second) }
 {
@@ -235,7 +237,7 @@ fn earlier(first: Option<ReadRefusal>, second: Option<ReadRefusal>) -> Option<Re
     }
 }
 
-/// The position of an index that the table has.
+/// The position of an index in the table, which must have it.
 pub(crate) fn declared_position(table: &IndexTable, index: u32) -> usize
     requires { list_any (λ i. i == index) table.now ≡ true }
     ensures there { slice_get table.now result ≡ Some index }
@@ -248,7 +250,7 @@ pub(crate) fn declared_position(table: &IndexTable, index: u32) -> usize
     }
 }
 
-/// The expression, which is there.
+/// The expression, which must be present.
 pub(crate) fn stated(value: Option<Postfix>) -> Postfix
     requires { (tree : Tree) × (value ≡ Some tree) }
     ensures { value ≡ Some result }

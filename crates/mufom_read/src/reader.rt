@@ -1,4 +1,4 @@
-//! The reader of a stream that comes in chunks.
+//! Reads a module from a stream that arrives in chunks.
 
 ghost use Rattle.std.specs.Prelude.{◌≡◌, ◌≢◌, ◌↔◌, ◌<◌, ◌≤◌, ◌*◌, ℕ, List, [], ◌++◌, length, Some, None, Ok, Err, IsSome, IfSome, IfOk};
 ghost use Rattle.mufom_numbers.specs.declared.reason.Reason.{Reason};
@@ -16,8 +16,8 @@ use mufom_numbers::{NoMemory, Reason};
 use std::alloc::Global;
 use std::marker::Model;
 
-/// A reader of the bytes of a module, which come in chunks. How they are cut makes no difference.
-/// Contracts see it as what it keeps of the stream.
+/// Reads a module from bytes that arrive in chunks. How the bytes are cut into chunks makes no difference.
+/// In contracts its value is the state that it keeps.
 #[derive(Debug)]
 pub struct Reader {
     state: State,
@@ -38,11 +38,11 @@ impl Model for Reader {
 
     ghost view = { λ r. r.state };
 
-    // It has read a stream.
+    // There is a stream that it has read.
     ghost invariant = { λ r. (stream : List ℕ) × HasRead r.state stream };
 }
 
-// Written out so that whoever drops one makes one call: see "Drops" in docs/ARCHITECTURE.md.
+// Written out so that the code that drops a reader makes a single call: see "Drops" in docs/ARCHITECTURE.md.
 impl Drop for Reader {
     fn drop(self) {
         let Reader { state: _ } = self;
@@ -50,7 +50,7 @@ impl Drop for Reader {
 }
 
 impl Reader {
-    /// A reader that has read nothing. It reads the debug part, or passes it over.
+    /// A reader that has read nothing yet. `reads_debug` selects whether it reads the debug part or skips it.
     pub fn new(alloc: Global, reads_debug: bool) -> Result<Reader, NoMemory>
         ensures read { IfOk result (λ reader. HasRead reader []) }
         ensures reads_debug { IfOk result (λ reader. reads_debug_of reader ≡ reads_debug) }
@@ -67,10 +67,10 @@ impl Reader {
         })
     }
 
-    /// Reads the next chunk of the stream. `Refused` comes exactly where the stream so far is refused.
-    /// After a stop each further call returns the same.
+    /// Reads the next chunk of the stream. Returns `Refused` exactly if the stream so far contains an error.
+    /// After an error every further call returns the same error.
     pub fn feed(&mut self, chunk: &[u8]) -> Result<(), ReadStop>
-        // The reader has read the stream so far.
+        // The reader has then read this chunk too.
         ensures read { (stream : List ℕ) → HasRead self.old stream → HasRead self.new (stream ++ chunk.now) }
         ensures answer { result ≡ answer_of (reader_stop self.new) }
         ensures stays { IsSome (reader_stop self.old) → self.new ≡ self.old }
@@ -85,13 +85,13 @@ impl Reader {
         }
     }
 
-    /// The module of the whole stream, or why there is none: `Truncated` where it ends too early.
+    /// The module of the whole stream, or why there is none: `Truncated` if the stream ends too early.
     pub fn finish(self) -> Result<Module, ReadStop>
         ensures stopped { IfSome (reader_stop self) (λ stop. result ≡ Err stop) }
         ensures ok { (stream : List ℕ) → HasRead self stream → IfOk result (λ m. IsModule (reads_debug_of self) stream m) }
-        // It weighs at most ten times the stream.
+        // The module's weight is at most ten times the length of the stream.
         ensures weighs { (stream : List ℕ) → HasRead self stream → IfOk result (λ m. weight m ≤ 10 * length stream) }
-        // A module's file is read, unless memory runs out.
+        // The file of a module is read successfully, unless memory runs out.
         ensures module { (stream : List ℕ) (m : Parts) → HasRead self stream → IsModule (reads_debug_of self) stream m
             → result ≢ Err ReadStop.NoMemory → result ≡ Ok m }
         ensures refused { (place : ℕ) (reason : Reason) (stream : List ℕ) → HasRead self stream → result ≢ Err ReadStop.NoMemory
@@ -111,11 +111,11 @@ impl Reader {
         }
     }
 
-    /// How many bytes are after the whole records and the bytes that are not read. Does not allocate.
+    /// The number of bytes that wait for the rest of their record. Does not allocate.
     pub fn pending(&self) -> usize
         ensures exact { (stream : List ℕ) → HasRead self.now stream → reader_stop self.now ≡ None
             → IsPending (reads_debug_of self.now) stream result }
-        // Fewer than the longest record has, which is MB with two strings of 65,535 bytes.
+        // Fewer than the longest record has: an MB with two strings of 65,535 bytes.
         ensures small { reader_stop self.now ≡ None → result < 131077 }
     {
         self.state.rest.as_slice().len()

@@ -1,4 +1,4 @@
-//! The rules for a whole record in its part, after the records before it.
+//! The rules that a complete record must keep, given the records before it.
 
 ghost use Rattle.std.specs.Prelude.{◌≡◌, ◌∷◌, [], ◌&&◌, not, option_map, option_to_list, List, None, Some, if◌then◌else◌};
 ghost use Rattle.std.specs.List.{list_any, list_all};
@@ -25,7 +25,7 @@ use mufom_sections::IndexTable;
 
 // ---- indexes
 
-// The entries that a variable's letter names.
+// The table of the entries that a variable with this letter refers to.
 fn entries(tables: &Tables, letter: Letter) -> &IndexTable
     ensures { result.now ≡ entries_in tables.now (records.kind_of_letter letter) }
 {
@@ -39,7 +39,7 @@ fn entries(tables: &Tables, letter: Letter) -> &IndexTable
     }
 }
 
-// Whether the record declares an index that its kind has.
+// Whether the record declares an index that is already declared for its kind of entry.
 fn declares_again(tables: &Tables, record: &Record) -> bool
     ensures { result ≡ declares_again_in tables.now «record».now }
 {
@@ -52,7 +52,7 @@ fn declares_again(tables: &Tables, record: &Record) -> bool
     }
 }
 
-// Whether the section of a block of kind 11 is not declared.
+// Whether the block is of kind 11 and its section is not declared.
 fn names_unknown_section(tables: &Tables, block: &BlockTail) -> bool
     ensures { result ≡ not (list_all (is_declared_in tables.now) (option_to_list (records.section_of_block block.now))) }
 {
@@ -62,7 +62,7 @@ fn names_unknown_section(tables: &Tables, block: &BlockTail) -> bool
     }
 }
 
-// Whether the index that the record speaks of, and does not declare, is not declared.
+// Whether the record refers to an index, other than in its expression, that is not declared.
 fn names_unknown_entry(tables: &Tables, record: &Record) -> bool
     ensures { result ≡ names_unknown_entry_in tables.now «record».now }
 {
@@ -83,7 +83,7 @@ fn names_unknown_entry(tables: &Tables, record: &Record) -> bool
     }
 }
 
-// Whether the token is a variable that names no entry.
+// Whether the token is a variable whose index is not declared.
 fn token_is_unknown(tables: &Tables, token: Token) -> bool
     ensures { result ≡ list_any (is_unknown tables.now) (variables_in (token ∷ [])) }
 {
@@ -94,28 +94,28 @@ fn token_is_unknown(tables: &Tables, token: Token) -> bool
     }
 }
 
-// Whether a token is such a variable.
+// Whether any of the tokens is such a variable.
 fn tokens_are_unknown(tables: &Tables, tokens: &[Token]) -> bool
     ensures { result ≡ list_any (λ t. list_any (is_unknown tables.now) (variables_in (t ∷ []))) tokens.now }
 {
     tokens.iter().any(|token| token_is_unknown(tables, *token))
 }
 
-/// Whether a variable of the expression names no entry.
+/// Whether the expression has a variable whose index is not declared.
 pub(crate) fn has_unknown_variable(tables: &Tables, tree: &Postfix) -> bool
     ensures { result ≡ list_any (is_unknown tables.now) (variables_of tree.now) }
 {
     tokens_are_unknown(tables, tree.tokens())
 }
 
-/// Whether the record is the value of a public, whose variables may be declared later.
+/// Whether the record states the value of a public. The variables of such a value may be declared later.
 pub(crate) fn is_public_value(record: &Record) -> bool
     ensures { result ≡ records.is_public_value «record».now }
 {
     matches!(record, Record::PublicValue(..))
 }
 
-// Whether the expression of the record has such a variable, and is not to wait.
+// Whether the record's expression has such a variable, and is not the value of a public.
 fn has_unknown_variable_now(tables: &Tables, record: &Record, tree: Option<&Postfix>) -> bool
     ensures { result ≡ (not (records.is_public_value «record».now) && any_of (λ e. list_any (is_unknown tables.now) (variables_of e))
         (option_map (λ t. t.now) tree.entry)) }
@@ -126,14 +126,14 @@ fn has_unknown_variable_now(tables: &Tables, record: &Record, tree: Option<&Post
     }
 }
 
-// Whether the record names an index that is not declared.
+// Whether the record refers to an index that is not declared, in its expression or outside it.
 fn names_unknown(tables: &Tables, record: &Record, tree: Option<&Postfix>) -> bool
     ensures { result ≡ names_unknown_in tables.now «record».now (option_map (λ t. t.now) tree.entry) }
 {
     names_unknown_entry(tables, record) || has_unknown_variable_now(tables, record, tree)
 }
 
-// Whether the record states for an index what was stated.
+// Whether the record states something for the second time.
 fn states_again(tables: &Tables, record: &Record) -> bool
     ensures { result ≡ states_again_in tables.now «record».now }
 {
@@ -150,7 +150,7 @@ fn states_again(tables: &Tables, record: &Record) -> bool
 
 // ---- the rest
 
-// Whether the alignment is not 1 to 2^31.
+// Whether the record states an alignment outside 1 to 2^31 MAUs.
 fn has_bad_alignment(record: &Record) -> bool
     ensures { result ≡ faults.has_bad_alignment «record».now }
 {
@@ -173,14 +173,14 @@ fn is_loading(record: &Record) -> bool
     }
 }
 
-// Whether the record loads, and no section is set.
+// Whether the record loads something although there is no current section.
 fn has_no_section(tables: &Tables, record: &Record) -> bool
     ensures { result ≡ has_no_section_in tables.now «record».now }
 {
     is_loading(record) && tables.current.is_none()
 }
 
-// The section whose program counter the record's expression may name.
+// The section whose program counter the record's expression may use.
 fn counter_allowed(tables: &Tables, record: &Record) -> Option<u32>
     ensures { result ≡ counter_allowed_in tables.now «record».now }
 {
@@ -191,7 +191,7 @@ fn counter_allowed(tables: &Tables, record: &Record) -> Option<u32>
     }
 }
 
-// Whether the token is a program counter of another section than this one.
+// Whether the token is the program counter of a section other than the allowed one.
 fn is_other_counter(allowed: Option<u32>, token: Token) -> bool
     ensures { result ≡ list_any (defects.is_other_counter allowed) (variables_in (token ∷ [])) }
 {
@@ -201,21 +201,21 @@ fn is_other_counter(allowed: Option<u32>, token: Token) -> bool
     }
 }
 
-// Whether a token is such a program counter.
+// Whether any of the tokens is such a program counter.
 fn tokens_are_other_counters(allowed: Option<u32>, tokens: &[Token]) -> bool
     ensures { result ≡ list_any (λ t. list_any (defects.is_other_counter allowed) (variables_in (t ∷ []))) tokens.now }
 {
     tokens.iter().any(|token| is_other_counter(allowed, *token))
 }
 
-// Whether such a program counter is in the expression.
+// Whether the expression contains such a program counter.
 fn has_other_counter(allowed: Option<u32>, tree: &Postfix) -> bool
     ensures { result ≡ defects.has_other_counter allowed tree.now }
 {
     tokens_are_other_counters(allowed, tree.tokens())
 }
 
-// Whether the expression of the record names a program counter that it may not name.
+// Whether the record's expression uses a program counter that it may not use.
 fn misplaces_counter(tables: &Tables, record: &Record, tree: Option<&Postfix>) -> bool
     ensures { result ≡ misplaces_counter_in tables.now «record».now (option_map (λ t. t.now) tree.entry) }
 {
@@ -225,14 +225,14 @@ fn misplaces_counter(tables: &Tables, record: &Record, tree: Option<&Postfix>) -
     }
 }
 
-// The reason, where the rule is broken.
+// The reason, if the rule is broken.
 fn broken_if(is_broken: bool, reason: Reason) -> Option<Reason>
     ensures { result ≡ (if is_broken then Some reason else None) }
 {
     if is_broken { Some(reason) } else { None }
 }
 
-// The first rule that a record without an expression breaks, where these blocks are open.
+// The first rule that a record without an expression breaks. `blocks` are the open blocks.
 fn first_broken_plainly(tables: &Tables, blocks: &[OpenBlock], record: &Record) -> Option<Reason>
     ensures { result ≡ rule_broken_in tables.now (stacked [] blocks.now) «record».now None }
 {
@@ -252,7 +252,7 @@ fn first_broken_plainly(tables: &Tables, blocks: &[OpenBlock], record: &Record) 
     }
 }
 
-// The first rule that a record with this expression breaks, where these blocks are open.
+// The first rule that a record with this expression breaks. `blocks` are the open blocks.
 fn first_broken_with(
     tables: &Tables,
     blocks: &[OpenBlock],
@@ -289,7 +289,7 @@ fn first_broken_with(
     }
 }
 
-// The first rule that the record, with this expression, breaks, where these blocks are open.
+// The first rule that a record breaks, by a shortcut for the most frequent records.
 fn first_broken(
     tables: &Tables,
     blocks: &[OpenBlock],
@@ -304,7 +304,7 @@ fn first_broken(
     }
 }
 
-// The same, by all rules in turn.
+// The first rule that a record breaks, by testing all rules in turn.
 fn first_of_all_broken(
     tables: &Tables,
     blocks: &[OpenBlock],
@@ -334,7 +334,8 @@ fn first_of_all_broken(
     }
 }
 
-/// The first rule that the record, with this expression, breaks after those before it, where these blocks are open.
+/// The first rule that the record breaks, if any. `tables` and `blocks` are what the records before it declare and the
+/// blocks that they leave open; `tree` is the record's expression.
 pub(crate) fn rule_broken(
     tables: &Tables,
     blocks: &[OpenBlock],

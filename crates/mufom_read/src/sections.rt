@@ -1,4 +1,4 @@
-//! The sections so far, with what was stated of each.
+//! The sections read so far, with what was stated of each.
 
 ghost use Rattle.std.specs.Prelude.{◌≡◌, ◌<◌, ◌^◌, ◌++◌, ◌∷◌, [], List, length, slice_get, slice_set, None, Some, OnOk, option_map};
 ghost use Rattle.mufom_sections.specs.declared.section.Section as its_section;
@@ -15,7 +15,7 @@ use mufom_records::Record;
 use mufom_sections::{IndexTable, Purpose, Section};
 use std::alloc::Global;
 
-/// The sections so far, and the offset of the declaration of each.
+/// The sections read so far, and the offset in the file of the declaration of each.
 #[derive(Debug, Drop)]
 pub(crate) struct Sections {
     pub list: Vec<Section>,
@@ -24,7 +24,7 @@ pub(crate) struct Sections {
 
 // ---- in place
 
-// Gives the section at a position its size.
+// Gives the section at a position its size in MAUs.
 fn set_size(sections: &mut Vec<Section>, position: usize, size: u64)
     requires { position < length sections.old.items }
     ensures { (old : its_section.Section) → slice_get sections.old.items position ≡ Some old
@@ -51,7 +51,7 @@ fn set_base(sections: &mut Vec<Section>, position: usize, base: u64)
     sections[position].base = Some(base);
 }
 
-// The purpose that a letter gives: D0, C4 and D2.
+// The purpose that a letter selects: D0 code, C4 data, D2 ROM data.
 fn purpose_of(letter: u8) -> Purpose
     ensures { result ≡ gathered.purpose_of letter }
 {
@@ -89,7 +89,7 @@ impl Sections {
         }
     }
 
-    /// The sections alone. Does not allocate.
+    /// The sections without the offsets of their declarations. Does not allocate.
     pub(crate) fn into_list(self) -> List<Section>
         ensures { result ≡ self.list.items }
     {
@@ -97,7 +97,7 @@ impl Sections {
         List::from_vec(list)
     }
 
-    // Adds a section, whose declaration begins at an offset.
+    // Adds a section. `start` is the offset of its declaration.
     fn add(&mut self, section: Section, start: u32) -> Result<(), NoMemory>
         ensures list { OnOk result (self.new.list.items ≡ self.old.list.items ++ section ∷ []) }
         ensures starts { OnOk result (self.new.starts.items ≡ self.old.starts.items ++ start ∷ []) }
@@ -107,7 +107,7 @@ impl Sections {
         Ok(())
     }
 
-    /// Takes what a record states of the sections.
+    /// Adds what a record states of the sections.
     pub(crate) fn take(
         &mut self,
         alloc: Global,
@@ -151,7 +151,7 @@ impl Sections {
         }
     }
 
-    /// The fault of the first absolute section without a base.
+    /// The error of the first absolute section without a base, if there is one.
     pub(crate) fn fault(&self) -> Option<ReadRefusal>
         requires { length self.now.list.items ≡ length self.now.starts.items }
         ensures { option_map as_fault result ≡ first_unbased self.now.starts.items self.now.list.items }

@@ -1,4 +1,4 @@
-//! The record that is judged, with its bytes.
+//! The record that is being checked, with its bytes.
 
 ghost use Rattle.std.specs.Prelude.{◌≡◌, ◌+◌, ◌≤◌, length, slice_range, IfOk};
 ghost use Rattle.mufom_records.specs.Parts.{LiesIn, IsExpressionIn, HasParts};
@@ -10,7 +10,7 @@ use mufom_numbers::{Bytes, NoMemory, Span};
 use mufom_records::{BlockTail, Record, postfix_of};
 use std::alloc::Global;
 
-/// A record that is judged: the offset of its first byte, the record, and its bytes.
+/// The record that is being checked: the offset of its first byte, the record, and its bytes.
 #[derive(Debug, Drop)]
 pub(crate) struct SeenRecord<'a> {
     pub start: u64,
@@ -18,7 +18,7 @@ pub(crate) struct SeenRecord<'a> {
     pub bytes: &'a [u8],
 }
 
-// The offset of a block, of the kinds that have one.
+// The offset expression of a block, if its kind has one.
 fn offset_of(block: &BlockTail) -> Option<Span>
     ensures { result ≡ records.offset_of_block block.now }
 {
@@ -30,7 +30,7 @@ fn offset_of(block: &BlockTail) -> Option<Span>
     }
 }
 
-// Where the expression of a record is in its bytes.
+// The position of a record's expression in its bytes.
 fn expression_of(record: &Record) -> Option<Span>
     ensures { result ≡ records.expression_of «record».now }
 {
@@ -46,7 +46,7 @@ fn expression_of(record: &Record) -> Option<Span>
     }
 }
 
-// The bytes of a part of these.
+// The bytes at a span.
 fn part_of(bytes: &[u8], span: Span) -> &[u8]
     requires { span.start + span.len ≤ length bytes.now }
     ensures { result.now ≡ slice_range bytes.now span.start (span.start + span.len) }
@@ -55,7 +55,7 @@ fn part_of(bytes: &[u8], span: Span) -> &[u8]
 }
 
 impl SeenRecord<'_> {
-    /// A copy of the bytes of a part of the record.
+    /// A copy of the record's bytes at a span.
     pub(crate) fn copy_text(&self, alloc: Global, span: Span) -> Result<Bytes, NoMemory>
         requires { LiesIn self.now.bytes.now span }
         ensures { IfOk result (λ bytes. bytes ≡ records.text_in (record_of_seen self.now) span) }
@@ -63,7 +63,7 @@ impl SeenRecord<'_> {
         Bytes::from_slice(alloc, part_of(self.bytes, span))
     }
 
-    // The expression at a part of the record, over the indexes of the file.
+    // The expression at a span of the record. Its variables have the indexes of the file.
     fn tree(&self, alloc: Global, span: Span) -> Result<Postfix, NoMemory>
         requires { IsExpressionIn self.now.bytes.now span }
         ensures { IfOk result (λ tree. tree ≡ records.tree_in (record_of_seen self.now) span) }
@@ -71,7 +71,7 @@ impl SeenRecord<'_> {
         postfix_of(alloc, part_of(self.bytes, span))
     }
 
-    /// The record's expression; none has more than one.
+    /// The record's expression, if it has one. No record has more than one.
     pub(crate) fn expression(&self, alloc: Global) -> Result<Option<Postfix>, NoMemory>
         requires { HasParts self.now.bytes.now self.now.row.now }
         ensures { IfOk result (λ tree. tree ≡ records.tree_of_record (record_of_seen self.now)) }

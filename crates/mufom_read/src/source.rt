@@ -1,4 +1,4 @@
-//! The module of a source.
+//! Reads a module from a source, such as an open file.
 
 ghost use Rattle.std.specs.Prelude.{◌≡◌, ◌≢◌, ◌↔◌, ◌<◌, ◌≤◌, ◌*◌, ℕ, List, [], length, take, Some, Err, IfOk, IfSome};
 ghost use Rattle.mufom_numbers.specs.declared.reason.Reason.{Reason};
@@ -26,15 +26,15 @@ use mufom_module::Module;
 use std::alloc::Global;
 use thiserror::Error;
 
-// How many bytes are asked for at once.
+// The size of the read buffer in bytes.
 const BUFFER: usize = 65_536;
 
-/// Why a source gives no module.
+/// Why no module could be read from a source.
 #[derive(Clone, Copy, Debug, PartialEq, Eq, Error)]
 pub enum SourceStop {
     #[error(transparent)]
     Refused(ReadRefusal),
-    /// The source has more bytes than may be read, of which the first are not refused.
+    /// The source has more bytes than may be read, and those that may be read contain no error.
     #[error("the file is too long")]
     Limit,
     #[error("the file cannot be read")]
@@ -57,7 +57,7 @@ impl From<ReadStop> for SourceStop {
     }
 }
 
-// Feeds the first bytes of the buffer, the given number, of which no more may be read than this.
+// Feeds the first `count` bytes of the buffer to the reader, but at most `room`: `Limit` if there are more.
 fn feed_within(
     reader: &mut Reader,
     buffer: &[u8],
@@ -77,7 +77,7 @@ fn feed_within(
     Err(SourceStop::Limit)
 }
 
-// Reads once, and returns how many bytes came.
+// Reads once from the source, feeds the reader, and returns the number of bytes read.
 fn read_chunk<S: Source>(
     source: &mut S,
     reader: &mut Reader,
@@ -101,7 +101,7 @@ fn read_chunk<S: Source>(
     }
 }
 
-// Reads to the end of the source, and returns how many bytes it gave.
+// Reads to the end of the source, and returns the number of bytes read.
 fn read_all<S: Source>(
     source: &mut S,
     reader: &mut Reader,
@@ -126,11 +126,11 @@ fn read_all<S: Source>(
     }
 }
 
-/// Reads the module of the bytes that the source has left, and returns it with their number: at most
-/// `limit`, which is at most 67,108,864.
+/// Reads a module from the bytes that the source has left, and returns it with its length in bytes. At most
+/// `limit` bytes are allowed, which is at most 67,108,864.
 ///
-/// The source is read in chunks of up to 65,536 bytes, and no further once a chunk is refused or goes
-/// beyond `limit`.
+/// The source is read in chunks of up to 65,536 bytes. Reading stops at the first chunk that contains an
+/// error or goes beyond `limit`.
 pub fn read_module<S: Source>(
     alloc: Global,
     source: &mut S,
@@ -138,20 +138,20 @@ pub fn read_module<S: Source>(
     reads_debug: bool,
 ) -> Result<(Module, u64), SourceStop>
     requires { limit ≤ file_limit }
-    // Each answer but a fault and out of memory has its cause in the bytes that were left.
+    // Every result except a failed read and out of memory follows from the bytes that were left.
     ensures reads { ReadsModule reads_debug limit (S.meaning source.old).left (S.meaning source.new).left result }
-    // The module of all bytes that were left, and how many they are; none is left then.
+    // The module of all bytes that were left, and their number. Nothing is left afterwards.
     ensures ok { IfOk result (λ r. IfSome (S.meaning source.old).left (λ left. IsModule reads_debug left r.0 × (r.1 ≡ length left)
         × (r.1 ≤ limit) × ((S.meaning source.new).left ≡ Some []))) }
-    // Also where the source does not reveal what it has left.
+    // This holds even if the source does not reveal what it has left.
     ensures weighs { IfOk result (λ r. (weight r.0 ≤ 10 * r.1) × (r.1 ≤ limit)) }
     ensures refused { (place : ℕ) (reason : Reason)
         → IfSome (S.meaning source.old).left (λ left. result ≢ Err SourceStop.NoMemory → result ≢ Err SourceStop.Fault
         → (result ≡ Err (SourceStop.Refused (record { place = place; reason = reason }))) ↔ IsRefusedWithin reads_debug limit left place reason) }
     ensures limit { IfSome (S.meaning source.old).left (λ left. result ≢ Err SourceStop.NoMemory → result ≢ Err SourceStop.Fault
         → (result ≡ Err SourceStop.Limit) ↔ IsPastLimit reads_debug limit left) }
-    // Whatever is returned: what the chunks before the last gave is within the limit and not refused, and what is left stands
-    // after the last.
+    // Whatever is returned: the chunks before the last one are within the limit and contain no error, and what is left
+    // follows the last one.
     ensures further { ReadsNoFurther reads_debug limit (S.meaning source.old).left (S.meaning source.new).left }
     ensures fault { result ≡ Err SourceStop.Fault → Rose (S.faults source.old).reads (S.faults source.new).reads }
     ensures only { OnlyReads (S.meaning source.old) (S.meaning source.new) (S.faults source.old) (S.faults source.new) }

@@ -1,4 +1,4 @@
-//! What a reader keeps of its stream, and how it reads on.
+//! The state of a reader, and how it reads a chunk.
 
 ghost use Rattle.std.specs.Prelude.{◌≡◌, ◌+◌, ◌-◌, ◌<◌, ◌≤◌, nat_lt, ℕ, Bool, true, false, List, [], ◌++◌, length, take, drop, None, IfOk, OnOk};
 ghost use Rattle.mufom_numbers.specs.Spelling.{AreBytes};
@@ -24,18 +24,18 @@ use mufom_numbers::limits::MOST_FILE_BYTES;
 use mufom_numbers::{NoMemory, Reason};
 use std::alloc::Global;
 
-/// What a reader keeps of its stream.
+/// The state of a reader.
 #[derive(Debug)]
 pub(crate) struct State {
     pub alloc: Global,
     pub reads_debug: bool,
     pub prefix: Prefix,
-    /// The bytes after the prefix, which are pending: those of a record that is not whole yet.
+    /// The pending bytes after the prefix: those of a record that is not complete yet.
     pub rest: Vec<u8>,
     pub stop: Option<ReadStop>,
 }
 
-// The first bytes of these, at most as counted.
+// The first `count` bytes, or all if there are fewer.
 fn at_most(bytes: &[u8], count: usize) -> &[u8]
     ensures { result.now ≡ take count bytes.now }
 {
@@ -53,7 +53,7 @@ fn after(bytes: &[u8], count: usize) -> &[u8]
     &bytes[count..]
 }
 
-/// The stop of a reader that refuses its stream.
+/// The stop for an error in the stream, at this offset.
 pub(crate) fn refused(place: usize, reason: Reason) -> ReadStop
     ensures { result ≡ ReadStop.Refused (record { place = place; reason = reason }) }
 {
@@ -72,7 +72,7 @@ fn answer(stop: Option<ReadStop>) -> Result<(), ReadStop>
     }
 }
 
-// Takes all that the bytes after the prefix have, and returns how many they are, or why they are refused.
+// Takes all complete records and unread bytes at the start of `rest`, and returns the number of bytes taken.
 fn take_all(
     alloc: Global,
     reads_debug: bool,
@@ -96,7 +96,7 @@ fn take_all(
     Ok(taken)
 }
 
-// Written out so that whoever drops one makes one call: see "Drops" in docs/ARCHITECTURE.md.
+// Written out so that the code that drops a state makes a single call: see "Drops" in docs/ARCHITECTURE.md.
 impl Drop for State {
     fn drop(self) {
         let State {
@@ -110,7 +110,7 @@ impl Drop for State {
 }
 
 impl State {
-    /// The prefix alone. Does not allocate.
+    /// Gives up the prefix. Does not allocate.
     pub(crate) fn into_prefix(self) -> Prefix
         ensures { result ≡ self.prefix }
     {
@@ -124,7 +124,7 @@ impl State {
         prefix
     }
 
-    /// How many bytes were read.
+    /// The number of bytes that were read.
     pub(crate) fn len(&self) -> usize
         requires { self.now.prefix.size + length self.now.rest.items ≤ file_limit }
         ensures { result ≡ self.now.prefix.size + length self.now.rest.items }
@@ -132,7 +132,7 @@ impl State {
         self.prefix.size as usize + self.rest.len()
     }
 
-    // What is to be stated where the module has ended: that a byte is after the end, if there is one.
+    // The stop after the end of the module: `AfterEnd` if a byte follows it.
     fn stop_after_end(&self, is_longer: bool) -> Option<ReadStop>
         ensures { HasEndedChunk true self.now.prefix.size is_longer self.now.rest.items self.now result }
     {
@@ -146,7 +146,7 @@ impl State {
         }
     }
 
-    // What is to be stated where all steps were taken: that a byte is after the end, or that the stream is too long.
+    // The stop once all records were taken: a byte follows the end of the module, or the stream is too long.
     fn final_stop(&self, is_longer: bool) -> Option<ReadStop>
         ensures { (prefix : List Step) → IsPrefixOf self.now.prefix prefix
             → HasEndedChunk (is_ended prefix) self.now.prefix.size is_longer self.now.rest.items self.now result }
@@ -160,7 +160,7 @@ impl State {
         }
     }
 
-    // Adds as many of these bytes to the pending ones as there are of these already, and returns how many were added.
+    // Appends bytes to the pending ones, at most as many as are pending already, and returns the number of bytes appended.
     fn double_pending(&mut self, bytes: &[u8]) -> Result<usize, NoMemory>
         requires some { 0 < length self.old.rest.items }
         requires more { 0 < length bytes.now }
@@ -174,8 +174,8 @@ impl State {
         Ok(added.len())
     }
 
-    // Takes the record of which the first bytes are pending, and returns how many bytes of the chunk it has. Where it is not
-    // whole with the chunk, all of the chunk is pending then.
+    // Completes the record whose first bytes are pending, and returns the number of bytes of the chunk that it uses. If the
+    // chunk does not complete the record, the whole chunk becomes pending.
     fn complete(&mut self, chunk: &[u8]) -> Result<usize, ReadStop>
         requires known { (before : List Step) × IsPrefixOf self.old.prefix before
             × IsIncomplete self.old.reads_debug before self.old.rest.items }
@@ -211,7 +211,7 @@ impl State {
         Ok(used)
     }
 
-    // Takes all that these bytes have, where none are pending before them, and keeps those after it.
+    // Takes all complete records of these bytes while none are pending before them, and keeps the bytes after those.
     fn take_directly(&mut self, bytes: &[u8]) -> Result<(), ReadStop>
         requires known { (before : List Step) × IsPrefixOf self.old.prefix before
             × (is_ended before ≡ false → ended_part_fault before ≡ None) }
@@ -229,9 +229,9 @@ impl State {
         Ok(())
     }
 
-    // Takes all that the pending bytes and the chunk after them have, and keeps the bytes after that. Records are taken from
-    // the chunk itself: what is copied of it are the bytes with which a pending record is completed, fewer than twice as many
-    // as the record has, and those of the record that it leaves unfinished.
+    // Takes all complete records of the pending bytes and the chunk, and keeps the bytes after those. Records are taken from
+    // the chunk itself. Only two pieces of it are copied: the bytes that complete a pending record, fewer than twice the
+    // length of that record, and the bytes of the record that the chunk leaves unfinished.
     fn take_chunk(&mut self, chunk: &[u8]) -> Result<(), ReadStop>
         requires known { (before : List Step) × IsPrefixOf self.old.prefix before
             × HasNoStep self.old.reads_debug before self.old.rest.items }
@@ -252,7 +252,7 @@ impl State {
         Ok(())
     }
 
-    // Reads a chunk, of which no more is judged than the limit of a file allows.
+    // Reads a chunk. Bytes beyond the size limit of a file are not checked.
     fn read(&mut self, chunk: &[u8]) -> Option<ReadStop>
         requires known { (stream : List ℕ) × AreBytes stream × IsReading self.old stream }
         ensures known { (stream : List ℕ) → AreBytes (stream ++ chunk.now) → IsReading self.old stream → Knows self.new (stream ++ chunk.now) result }
@@ -265,7 +265,7 @@ impl State {
         }
     }
 
-    /// Reads a chunk, and keeps why no more is read.
+    /// Reads a chunk, and keeps the error if there is one.
     pub(crate) fn read_on(&mut self, chunk: &[u8]) -> Result<(), ReadStop>
         requires known { (stream : List ℕ) × AreBytes stream × IsReading self.old stream }
         ensures known { (stream : List ℕ) → AreBytes (stream ++ chunk.now) → IsReading self.old stream

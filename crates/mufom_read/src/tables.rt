@@ -1,4 +1,4 @@
-//! What the records of a prefix declare and state once, by index.
+//! Tables of the indexes that records declare, and of what they may state only once.
 
 ghost use Rattle.std.specs.Prelude.{◌≡◌, ◌++◌, ◌∷◌, [], ◌<◌, ◌^◌, ◌-◌, ◌==◌, false, true, length, OnOk};
 ghost use Rattle.std.specs.List.{list_any};
@@ -9,22 +9,22 @@ use mufom_records::Record;
 use mufom_sections::IndexTable;
 use std::alloc::Global;
 
-/// The indexes that records declare or give a value to, each list in the order of the file.
+/// The indexes that records declare or state something of, each table in the order of the file.
 #[derive(Debug, Drop)]
 pub(crate) struct Tables {
     pub sections: IndexTable,
     pub publics: IndexTable,
     pub references: IndexTable,
     pub debug_names: IndexTable,
-    /// The sections that have an alignment, a size and a base.
+    /// The sections with an alignment. `sizes` and `bases` are those with a size and with a base.
     pub alignments: IndexTable,
     pub sizes: IndexTable,
     pub bases: IndexTable,
-    /// The publics that have a value.
+    /// The publics with a value.
     pub values: IndexTable,
     /// The references that are weak.
     pub weaknesses: IndexTable,
-    /// The section that was set last.
+    /// The current section, which the last SB set.
     pub current: Option<u32>,
     pub has_start: bool,
 }
@@ -36,7 +36,7 @@ pub(crate) fn has(table: &IndexTable, index: u32) -> bool
     table.position(index).is_some()
 }
 
-// Adds an index that the table does not have.
+// Adds an index that the table does not have yet.
 fn add(table: &mut IndexTable, index: u32) -> Result<(), NoMemory>
     requires room { length table.old < 2 ^ 32 - 1 }
     requires new { list_any (λ i. i == index) table.old ≡ false }
@@ -49,7 +49,7 @@ fn add(table: &mut IndexTable, index: u32) -> Result<(), NoMemory>
 }
 
 impl Tables {
-    /// Those of no records. Does not allocate.
+    /// Empty tables. Does not allocate.
     pub(crate) fn new(alloc: Global) -> Tables
         ensures { result ≡ tables_of [] }
     {
@@ -68,7 +68,7 @@ impl Tables {
         }
     }
 
-    /// Adds what one more record declares or states.
+    /// Adds what the next record declares or states.
     pub(crate) fn add(&mut self, record: &Record) -> Result<(), NoMemory>
         requires room { HasRoom self.old }
         requires new { is_new self.old «record».now ≡ true }

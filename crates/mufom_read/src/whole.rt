@@ -1,4 +1,4 @@
-//! The faults of parts as wholes, which are judged where a part ends.
+//! Errors of whole parts, which are checked at the end of a part.
 
 ghost use Rattle.std.specs.Prelude.{◌≡◌, List, option_map};
 ghost use Rattle.mufom_read.specs.declared.prefix.Prefix.{Prefix};
@@ -15,7 +15,7 @@ use crate::part::Part;
 use crate::refusal::ReadRefusal;
 use crate::tables::Tables;
 
-/// The fault of a part as a whole, of several the one with the smallest offset.
+/// The error of a whole part. If there are several, the one with the smallest offset.
 pub(crate) fn whole_fault(part: Part, tables: &Tables, contents: &Contents) -> Option<ReadRefusal>
     requires { AreMarked contents.now }
     ensures { (f : Prefix) (prefix : List Step) → IsPrefixOf f prefix → tables.now ≡ f.tables → contents.now ≡ f.contents

@@ -1,11 +1,11 @@
-//! Long streams that are read byte by byte.
+//! Long streams, read byte by byte.
 
 use crate::tests::{PLAIN, add, copied, read, set, text_of};
 use std::alloc::Global;
 use std::process::Abort;
 
-// The plain module with `count` loads, each of which makes its section the current one, and no start. ME is at
-// the offset of these three bytes.
+// The plain module without a start address and with `count` loads, each of which sets the current section. `end` is the
+// offset of ME, as three bytes.
 fn with_loads(rt: &impl Abort, alloc: Global, count: u32, end: [u8; 3]) -> Vec<u8> {
     let mut stream = copied(rt, alloc, &PLAIN[..100]);
     set(&mut stream, 68, 0);
@@ -30,7 +30,7 @@ fn cuts_make_no_difference(rt: HostRuntime) {
     }
 }
 
-// How many loads the module of a stream has that is read byte by byte.
+// The number of loads in the module of a stream that is read byte by byte.
 fn loads_of(alloc: Global, stream: &[u8]) -> usize {
     match read(alloc, stream, 1, true) {
         Ok(module) => module.parts().loads.len(),
@@ -38,7 +38,7 @@ fn loads_of(alloc: Global, stream: &[u8]) -> usize {
     }
 }
 
-// Were all records judged again at each byte, this would take hours.
+// If all records were checked again at each byte, this would take hours.
 #[test]
 fn half_a_million_records_are_read_byte_by_byte(rt: HostRuntime) {
     let stream = with_loads(&rt, rt.alloc(), 500_000, [0x0F, 0x42, 0xA4]);

@@ -1,6 +1,6 @@
-//! Tests of `mufom_read`: streams that are read, in chunks of any size, and those that are refused. Tests of
-//! `mufom_records`: single records, and their faults. They are in a crate of their own, so that the crates
-//! that they test are proved once.
+//! Tests of `mufom_read`: valid streams, in chunks of several sizes, and streams with errors. Tests of
+//! `mufom_records`: single records, and their errors. They are in a crate of their own, so that the crates
+//! under test are proved only once.
 #![tactic(auto)]
 
 #[cfg(test)]

@@ -12,7 +12,7 @@ use mufom_numbers::Reason;
 use std::alloc::Global;
 use std::process::Abort;
 
-// Absolute sections for the 68020.
+// A file for the 68020 with absolute sections.
 const M68K_ABSOLUTE: &[u8] = b"\
     \xE0\x05\x36\x38\x30\x32\x30\x0E\x63\x6F\x66\x66\x2F\x61\x62\x2E\x6C\x64\x2E\x36\x39\x35\xEC\x08\
     \x04\xE2\xD7\x00\x84\x00\x00\x00\x59\xE2\xD7\x01\x84\x00\x00\x00\x6F\xE2\xD7\x02\x84\x00\x00\x00\
@@ -88,7 +88,7 @@ const M68K_OBJECT: &[u8] = b"\
     \x55\x55\x55\x55\x55\x55\x55\x55\x55\x55\x55\xE1\
     ";
 
-// The same, of the target m68k-elf.
+// The same object, of the target m68k-elf.
 const M68K_OBJECT_ELF: &[u8] = b"\
     \xE0\x05\x36\x38\x30\x32\x30\x09\x65\x6C\x66\x2F\x62\x2E\x36\x39\x35\xEC\x08\x04\xE2\xD7\x00\x84\
     \x00\x00\x00\x54\xE2\xD7\x01\x84\x00\x00\x00\x6A\xE2\xD7\x02\x84\x00\x00\x00\x86\xE2\xD7\x03\x84\
@@ -115,7 +115,7 @@ const M68K_OBJECT_ELF: &[u8] = b"\
     \x55\x55\x55\x55\x55\x55\x55\x55\x55\x55\xE1\
     ";
 
-// Relocatable sections for the H8/300, without references.
+// An object for the H8/300 with relocatable sections and no references.
 const H8300_OBJECT: &[u8] = b"\
     \xE0\x06\x48\x38\x2F\x33\x30\x30\x0B\x68\x38\x33\x30\x30\x2F\x77\x2E\x36\x39\x35\xEC\x08\x02\xE2\
     \xD7\x00\x84\x00\x00\x00\x57\xE2\xD7\x01\x84\x00\x00\x00\x6D\xE2\xD7\x02\x84\x00\x00\x00\x89\xE2\
@@ -130,7 +130,7 @@ const H8300_OBJECT: &[u8] = b"\
     \xBF\x02\x54\x70\xE5\x02\xE2\xD0\x02\xD2\x02\xE4\xBE\xC9\x22\xBF\xBE\x02\xC9\x23\xA5\xBF\xE1\
     ";
 
-// Absolute sections for the H8/300, with a debug part that has a block 10.
+// A file for the H8/300 with absolute sections, and a debug part with a block of kind 10.
 const H8300_DEBUG: &[u8] = b"\
     \xE0\x06\x48\x38\x2F\x33\x30\x30\x15\x68\x38\x33\x30\x30\x2F\x70\x2E\x61\x62\x73\x2E\x64\x65\x62\
     \x75\x67\x2E\x36\x39\x35\xEC\x08\x02\xE2\xD7\x00\x84\x00\x00\x00\x61\xE2\xD7\x01\x84\x00\x00\x00\
@@ -227,7 +227,7 @@ const M68K_NO_COMMA: &[u8] = b"\
     \xAA\xAA\xE5\x05\xE2\xD0\x05\xD2\x05\xF7\x28\xED\x01\x00\xE1\
     ";
 
-// How many of each a module has.
+// The number of entries of each kind in a module.
 #[derive(Clone, Copy, Debug, PartialEq, Eq)]
 struct Figures {
     sections: usize,
@@ -246,7 +246,7 @@ fn count(module: &Module) -> Figures {
     }
 }
 
-// The figures of the module of a stream that is fed in chunks of the given number of bytes, if it has one.
+// The figures of the module of a stream that is fed in chunks of `size` bytes, if it has one.
 fn figures_of(alloc: Global, stream: &[u8], size: usize, reads_debug: bool) -> Option<Figures>
     requires { 0 < size }
 {
@@ -256,7 +256,7 @@ fn figures_of(alloc: Global, stream: &[u8], size: usize, reads_debug: bool) -> O
     }
 }
 
-// Whole and byte by byte, the file is a module with these figures.
+// Asserts that the file, read whole and byte by byte, is a module with these figures.
 fn has_figures(rt: &impl Abort, alloc: Global, file: &[u8], reads_debug: bool, wanted: Figures) {
     assert_eq!(rt; figures_of(alloc, file, 65_536, reads_debug), Some(wanted));
     assert_eq!(rt; figures_of(alloc, file, 1, reads_debug), Some(wanted));
@@ -281,7 +281,7 @@ fn files_of_a_toolchain_are_modules(rt: HostRuntime) {
     has_figures(&rt, alloc, H8300_DEBUG, false, counted(6, 15, 0, 6));
 }
 
-// Whole and byte by byte, the file is refused at this offset for this reason.
+// Asserts that the file, read whole and byte by byte, has this error at this offset.
 fn is_refused(rt: &impl Abort, alloc: Global, file: &[u8], offset: u64, reason: Reason) {
     let wanted = refused(offset, reason);
     comes_to(rt, alloc, file, 65_536, true, wanted);

@@ -1,4 +1,4 @@
-//! Records from bytes, one by one: whole ones with their values, each fault at its offset, and an expression.
+//! Tests of reading single records: complete ones with their values, each error at its offset, and an expression.
 
 use mufom_expr::{Function, Letter, Token};
 use mufom_numbers::{Reason, Taken};
@@ -6,7 +6,7 @@ use mufom_records::{Mode, next_record, postfix_of};
 use std::alloc::Global;
 use std::process::Abort;
 
-// Whole records, each with the byte E1 after it, in the mode that reads them, and their values.
+// Complete records, each followed by the byte E1, with the mode to read them in and their values.
 static RECORDS: [(Mode, &[u8], &str); 54] = [
     (
         Mode::Begin,
@@ -252,7 +252,7 @@ static RECORDS: [(Mode, &[u8], &str); 54] = [
     ),
 ];
 
-// What the bytes begin with, a record by its text.
+// The result of reading a record at the start of the bytes, as text.
 fn beginning(rt: &impl Abort, alloc: Global, mode: Mode, bytes: &[u8]) -> Taken<String> {
     match next_record(bytes, mode) {
         Taken::Got(record, length) => {
@@ -264,7 +264,7 @@ fn beginning(rt: &impl Abort, alloc: Global, mode: Mode, bytes: &[u8]) -> Taken<
     }
 }
 
-// Of each shorter part of the bytes of a record, with one byte after it, more is wanted.
+// Asserts that each proper prefix of a record needs more bytes. `bytes` is the record and one byte after it.
 fn is_wanted_whole(rt: &impl Abort, alloc: Global, mode: Mode, bytes: &[u8], want: &str) {
     for end in 0..bytes.len().saturating_sub(1) {
         let answer = beginning(rt, alloc, mode, &bytes[..end]);
@@ -272,7 +272,7 @@ fn is_wanted_whole(rt: &impl Abort, alloc: Global, mode: Mode, bytes: &[u8], wan
     }
 }
 
-// The bytes of a record but the last one are that record.
+// Asserts that all bytes except the last one are read as this record.
 fn is_read_whole(rt: &impl Abort, alloc: Global, mode: Mode, bytes: &[u8], want: &str) {
     let Taken::Got(text, length) = beginning(rt, alloc, mode, bytes) else {
         panic!(rt; "{want}");
@@ -289,7 +289,7 @@ fn records_are_read_whole_and_wanted_whole(rt: HostRuntime) {
     }
 }
 
-// Inputs with a fault, the position at which it is named, and its reason.
+// Inputs with an error, the offset at which it is reported, and its reason.
 type Fault<'a> = (Mode, &'a [u8], usize, Reason);
 
 static FAULTS: [Fault<'static>; 47] = [
@@ -410,7 +410,7 @@ fn the_first_fault_is_named_at_its_place(rt: HostRuntime) {
     }
 }
 
-/// The program counter of a section set to an expression of 255 tokens, and one token more.
+/// An ASP with an expression of 255 tokens, followed by one token too many.
 pub(crate) fn long_expression(section: u8) -> [u8; 259] {
     let mut bytes = [0; 259];
     bytes[0] = 0xE2;

@@ -1,4 +1,4 @@
-//! Streams that are read, whole and byte by byte, and each reason with its offset.
+//! Tests of reading streams, whole and byte by byte: valid modules, and each error with its offset.
 
 ghost use Rattle.std.specs.Prelude.{◌<◌};
 
@@ -10,7 +10,7 @@ use mufom_read::{ReadRefusal, ReadStop, Reader, SourceStop, read_module};
 use std::alloc::Global;
 use std::process::Abort;
 
-// An absolute section of four bytes at 1000, loaded whole, with its start address.
+// A module with an absolute section of four bytes at 1000 (hexadecimal), all of them loaded, and a start address there.
 pub(crate) const PLAIN: &[u8; 120] = b"\
     \xE0\x05\x36\x38\x30\x30\x30\x01\x41\xEC\x08\x04\xCD\xE2\xD7\x00\x84\x00\x00\x00\x00\xE2\xD7\x01\x84\x00\x00\x00\x00\xE2\xD7\x02\
     \x84\x00\x00\x00\x4D\xE2\xD7\x03\x84\x00\x00\x00\x00\xE2\xD7\x04\x84\x00\x00\x00\x00\xE2\xD7\x05\x84\x00\x00\x00\x64\xE2\xD7\x06\
@@ -18,7 +18,8 @@ pub(crate) const PLAIN: &[u8; 120] = b"\
     \x01\x82\x10\x00\xE5\x01\xE2\xD0\x01\x82\x10\x00\xED\x04\x4E\x71\x4E\x75\xE2\xC7\x82\x10\x00\xE1\
     ";
 
-// A relocatable section with raw parts, a public with a note, a reference, fields and a start.
+// A module with a relocatable section, the two parts that are not read as records, a public with a note, a reference, fields
+// and a start address.
 const PROGRAM: &[u8; 164] = b"\
     \xE0\x05\x36\x38\x30\x30\x30\x04\x70\x72\x6F\x67\xEC\x08\x04\xE2\xD7\x00\x84\x00\x00\x00\x4F\xE2\xD7\x01\x84\x00\x00\x00\x52\xE2\
     \xD7\x02\x84\x00\x00\x00\x55\xE2\xD7\x03\x84\x00\x00\x00\x66\xE2\xD7\x04\x84\x00\x00\x00\x00\xE2\xD7\x05\x84\x00\x00\x00\x81\xE2\
@@ -28,7 +29,7 @@ const PROGRAM: &[u8; 164] = b"\
     \x04\xA5\xBF\xE1\
     ";
 
-// A relocatable section and the public that the program refers to.
+// A module with a relocatable section, and the public that the program above refers to.
 const LIBRARY: &[u8; 111] = b"\
     \xE0\x05\x36\x38\x30\x30\x30\x03\x6C\x69\x62\xEC\x08\x04\xE2\xD7\x00\x84\x00\x00\x00\x00\xE2\xD7\x01\x84\x00\x00\x00\x00\xE2\xD7\
     \x02\x84\x00\x00\x00\x4E\xE2\xD7\x03\x84\x00\x00\x00\x5C\xE2\xD7\x04\x84\x00\x00\x00\x00\xE2\xD7\x05\x84\x00\x00\x00\x68\xE2\xD7\
@@ -36,7 +37,7 @@ const LIBRARY: &[u8; 111] = b"\
     \x78\x69\x74\xE2\xC9\x20\xD2\x01\xE5\x01\xED\x02\x4E\x75\xE1\
     ";
 
-// What the program states.
+// The parts of the program above, as text.
 const PROGRAM_TEXT: &str =
     "Parts { processor: Bytes { held: [54, 56, 48, 48, 48] }, name: Bytes { held: [112, \
     114, 111, 103] }, maus: 4, order: Most, ext: Bytes { held: [240, 32, 0] }, env: \
@@ -54,14 +55,14 @@ const PROGRAM_TEXT: &str =
     Fun(Minus)] } })] }, start: Some(Postfix { tokens: [Var(R, 0), Number(4), \
     Fun(Plus)] }) }";
 
-// Blocks of each kind, a name, its note and its values.
+// A debug part with blocks of each kind, a name, its note and its values.
 const BLOCKS: &[u8; 74] = b"\
     \xF0\x20\x01\x78\xF1\xCE\x20\x0F\x07\x01\xF8\x03\x00\x01\x6D\xF8\x05\x00\x01\x73\x01\x02\xF8\x04\x00\x01\x66\x00\x0F\xD2\x01\xF8\
     \x06\x00\x01\x67\x02\x00\xD2\x01\x04\xA5\xE2\xCE\x20\xD2\x01\xF9\xD2\x01\x08\xA5\xF9\xD2\x01\x0C\xA5\xF9\xF8\x0B\x00\x01\x63\x01\
     \x01\xD2\x01\xF9\x10\xF9\xE2\xCE\x20\x01\
     ";
 
-// What these state.
+// The debug items of this part, as text.
 const BLOCKS_TEXT: &str =
     "List { items: [Name(Bytes { held: [120] }), Note { name: 0, note: Note { type_index: \
     15, attribute: 7, numbers: [1] } }, Block(Boxed { inner: Block { head: Module, name: \
@@ -81,7 +82,7 @@ const BLOCKS_TEXT: &str =
 
 // ---- streams
 
-/// These bytes.
+/// A copy of these bytes.
 pub(crate) fn copied(rt: &impl Abort, alloc: Global, bytes: &[u8]) -> Vec<u8> {
     Vec::from_slice(alloc, bytes).expect(rt, "memory")
 }
@@ -98,19 +99,20 @@ pub(crate) fn set(stream: &mut Vec<u8>, offset: usize, byte: u8) {
     }
 }
 
-// Where ME is after a part that begins at 100.
+// The offset of ME after a part that begins at offset 100.
 fn end_after(part: &[u8]) -> u16 {
     u16::try_from(part.len().saturating_add(100)).unwrap_or(u16::MAX)
 }
 
-// Where the plain module has the low byte of the offset of a part.
+// The offsets, in the plain module, of the low byte of the offset of a part.
 const EXTERNAL: usize = 44;
 
 const DEBUG: usize = 52;
 
 const DATA: usize = 60;
 
-// The plain module with this part, whose offset is there, and with no other after its section.
+// The plain module with `part` in place of all parts after its section part. The low byte of the new part's offset is at
+// `offset`.
 fn with_part(rt: &impl Abort, alloc: Global, offset: usize, part: &[u8]) -> Vec<u8> {
     let [high, low] = end_after(part).to_be_bytes();
     let mut stream = copied(rt, alloc, &PLAIN[..100]);
@@ -124,7 +126,7 @@ fn with_part(rt: &impl Abort, alloc: Global, offset: usize, part: &[u8]) -> Vec<
 
 // ---- what streams give
 
-/// The module of a stream that is fed in chunks of the given number of bytes, or why there is none.
+/// Reads a stream in chunks of `size` bytes: its module, or why there is none.
 pub(crate) fn read(
     alloc: Global,
     stream: &[u8],
@@ -158,7 +160,7 @@ fn stop(alloc: Global, stream: &[u8], size: usize, reads_debug: bool) -> Option<
     }
 }
 
-/// The text of the parts of a module whose stream is fed in chunks of the given number of bytes.
+/// The parts, as text, of a module whose stream is read in chunks of `size` bytes.
 pub(crate) fn text_of(rt: &impl Abort, alloc: Global, stream: &[u8], size: usize) -> String
     requires { 0 < size }
 {
@@ -168,7 +170,7 @@ pub(crate) fn text_of(rt: &impl Abort, alloc: Global, stream: &[u8], size: usize
     }
 }
 
-/// A stream that is fed in chunks of the given number of bytes gives this refusal, or a module if none is given.
+/// Asserts that reading a stream in chunks of `size` bytes results in this error, or in a module for `None`.
 pub(crate) fn comes_to(
     rt: &impl Abort,
     alloc: Global,
@@ -182,7 +184,7 @@ pub(crate) fn comes_to(
     assert_eq!(rt; stop(alloc, stream, size, reads_debug), wanted);
 }
 
-// A stream, whole and in chunks of one byte and of seven, is refused at this offset for this reason.
+// Asserts that a stream, read whole and in chunks of one and of seven bytes, has this error at this offset.
 fn is_refused(rt: &impl Abort, alloc: Global, stream: &[u8], offset: u64, reason: Reason) {
     let wanted = refused(offset, reason);
     comes_to(rt, alloc, stream, 1000, true, wanted);
@@ -196,9 +198,9 @@ fn is_module(rt: &impl Abort, alloc: Global, stream: &[u8]) {
     comes_to(rt, alloc, stream, 3, false, None);
 }
 
-// ---- refused streams
+// ---- streams with an error
 
-// The offset and the value of a byte of the plain module, the offset at which it is refused, and why.
+// The offset and the new value of a byte of the plain module, the offset at which the error is reported, and its reason.
 type Changed = (usize, u8, u64, Reason);
 
 static CHANGED: [Changed; 19] = [
@@ -236,7 +238,7 @@ fn a_changed_byte_is_refused_at_its_place(rt: HostRuntime) {
     }
 }
 
-// A part, the offset at which it is refused, and why.
+// A part (where its offset is, and its bytes), the offset at which the error is reported, and its reason.
 type Part = (usize, &'static [u8], u64, Reason);
 
 static PARTS: [Part; 47] = [
@@ -391,7 +393,7 @@ static PARTS: [Part; 47] = [
         100,
         Reason::MissingValue,
     ),
-    // Two faults each, of which the one that is judged first counts.
+    // Two errors each, of which the one that is checked first is reported.
     (
         EXTERNAL,
         b"\xE8\x20\x01\x61\xE2\xC9\x20\xD0\x09",
@@ -462,7 +464,7 @@ fn feeds(rt: &impl Abort, reader: &mut Reader, chunk: &[u8], wanted: Result<(), 
     assert_eq!(rt; reader.feed(chunk), wanted);
 }
 
-// Why a reader ends with no module.
+// Why a reader has no module at the end of its stream, or `None` if it has one.
 fn end(reader: Reader) -> Option<ReadStop> {
     match reader.finish() {
         Ok(_) => None,
@@ -510,7 +512,7 @@ fn a_256th_token_is_refused(rt: HostRuntime) {
     is_refused(&rt, rt.alloc(), &stream, 358, Reason::Truncated);
 }
 
-// ---- the limit of a file
+// ---- the size limit of a file
 
 fn zeros(rt: &impl Abort, alloc: Global, count: usize) -> Vec<u8> {
     vec![in alloc; 0u8; count].expect(rt, "memory")
@@ -525,8 +527,8 @@ fn raw_header(rt: &impl Abort, alloc: Global) -> Vec<u8> {
     header
 }
 
-// A reader that has read 66,060,365 bytes of a module whose extension part is raw bytes, and `more` bytes after
-// these. A file may have 1,048,499 more.
+// A reader that has read 66,060,365 bytes of a module whose extension part is raw bytes, and `more` bytes after these. A
+// file may have 1,048,499 bytes more than 66,060,365.
 fn nearly_full(rt: &impl Abort, alloc: Global, more: usize) -> Reader {
     let mut reader = Reader::new(alloc, true).expect(rt, "memory");
     let header = raw_header(rt, alloc);
@@ -569,7 +571,7 @@ fn a_debug_part_is_passed_over(rt: HostRuntime) {
     is_refused(&rt, alloc, &stream, 100, Reason::BadRecord);
 }
 
-// After this stream `count` bytes wait for the rest of their record.
+// Asserts that `count` bytes wait for the rest of their record after this stream.
 fn are_pending(rt: &impl Abort, alloc: Global, stream: &[u8], count: usize) {
     let mut reader = Reader::new(alloc, true).expect(rt, "memory");
     let _ = reader.feed(stream);
@@ -590,7 +592,7 @@ fn what_the_records_say_is_what_the_module_has(rt: HostRuntime) {
     assert_eq!(rt; text.as_str(), PROGRAM_TEXT);
 }
 
-// The text of the debug items of a module.
+// The debug items of a module, as text.
 fn debug_text(rt: &impl Abort, alloc: Global, stream: &[u8]) -> String {
     match read(alloc, stream, 5, true) {
         Ok(module) => format!(in alloc; "{:?}", module.parts().debug).expect(rt, "memory"),
@@ -607,7 +609,7 @@ fn blocks_of_each_kind_are_the_debug_items(rt: HostRuntime) {
 
 // ---- sources
 
-// The plain module, by its name.
+// The plain module as a file, with its name.
 fn file(rt: &impl Abort, alloc: Global) -> (Text, Bytes) {
     let name = Text::from_str(alloc, "a").expect(rt, "memory");
     let bytes = Bytes::from_slice(alloc, PLAIN).expect(rt, "memory");
@@ -620,13 +622,13 @@ fn files(rt: &impl Abort, alloc: Global) -> List<(Text, Bytes)> {
     files
 }
 
-// A host with the plain module.
+// A host with the plain module as a file.
 fn host(rt: &impl Abort, alloc: Global) -> MemHost {
     let files = files(rt, alloc);
     MemHost::new(alloc, files, List::new(alloc), List::new(alloc), 1000).expect(rt, "memory")
 }
 
-// A host with the plain module, which is open.
+// A host in which the file of the plain module is open.
 fn opened(rt: &impl Abort, alloc: Global) -> MemHost {
     let mut host = host(rt, alloc);
     assert_eq!(rt; host.open("a"), Ok(()));

@@ -1,5 +1,5 @@
--- A field is read exactly: what is read stands there, what stands there is read, and a fault or an early end is
--- answered where one stands. Of fields that are read exactly, so is each record.
+-- A field is read exactly: what is read is there, what is there is read, and an error or an early end is returned exactly if
+-- there is one. If all fields are read exactly, so are records.
 use Rattle.std.proofs.Common.{◌≡◌, ℕ, zero, suc, ◌+◌, ◌-◌, List, [], ◌∷◌, ◌++◌, length, drop, Option, None, Ok, Err, refl, sym, ap, subst, ◌∙◌, inl}
 use Rattle.std.proofs.Common.{inr, arith, append_assoc}
 use Rattle.std.proofs.lemmas.List.{drop_at, drop-drop, length-append}
@@ -13,7 +13,7 @@ use Rattle.mufom_records.specs.Layouts.{Layout, whole, refused, field, SpellsRec
 use Rattle.mufom_records.specs.Reading.{Reading, ◌>>=◌, field_at, read}
 use Rattle.mufom_records.specs.Faults.{FieldFault, IsCutOffField, HasFault, IsCutOffLayout}
 
--- ---- answers
+-- ---- results
 
 abbrev pub ok : {X : Type 0} → X → ℕ → Reading X
 ok x at = Ok (x, at)
@@ -52,7 +52,7 @@ AreBytes-drop zero bytes fits = fits
 AreBytes-drop (suc n) [] fits = tt
 AreBytes-drop (suc n) (b ∷ bytes) fits = AreBytes-drop n bytes fits.1
 
--- what stands after a text stands after its length
+-- what follows a text is at the offset after its length
 pub drop-following : (input : List ℕ) (at : ℕ) (text rest : List ℕ) → drop at input ≡ text ++ rest → drop (at + length text) input ≡ rest
 drop-following input at text rest e = sym (drop-drop (length text) at input) ∙ ap (drop (length text)) e ∙ drop_at text rest (length text) refl
 
@@ -62,7 +62,7 @@ first_of-append (x ∷ xs) ys next = refl
 
 -- ---- fields
 
--- The value was found at the offset: its bytes stand there, and end before the other offset.
+-- The value was found at the offset: its bytes are there, and end at the offset `after`.
 pub record Found (f : Field) (input : List ℕ) (at : ℕ) (x : ValueOf f) (after : ℕ) : Type 0 where
   pub prefix : List ℕ
   pub spells : SpellsField f x at prefix (first_of (drop after input) None)
@@ -84,7 +84,7 @@ abbrev pair_or : {X : Type 0} → X × ℕ → Reading X → X × ℕ
 pair_or p (Ok r) = r
 pair_or p (Err stop) = p
 
--- what was found is what was answered
+-- what was found is what was returned
 pub found-as : (f : Field) (input : List ℕ) (at : ℕ) (y : ValueOf f) (b : ℕ) (x : ValueOf f) (a : ℕ) → Found f input at y b → ok y b ≡ ok x a
     → Found f input at x a
 found-as f input at y b x a is e = subst (λ (p : ValueOf f × ℕ). Found f input at p.0 p.1) (ap (λ r. pair_or (y, b) r) e) is
@@ -105,7 +105,7 @@ pub record IsExact (f : Field) : Type 0 where
 -- ---- records
 
 module _ (exact : (f : Field) → IsExact f) where
-  -- a record that is read stands there
+  -- a record that is read is there
   pub record FoundRecord (layout : Layout) (input : List ℕ) (at : ℕ) (row : Record) (after : ℕ) : Type 0 where
     pub prefix : List ℕ
     pub spells : SpellsRecord layout row at prefix (first_of (drop after input) None)
@@ -147,7 +147,7 @@ module _ (exact : (f : Field) → IsExact f) where
           count = omega (arith, one.count, two.count, length-append one.prefix two.prefix);
         }
 
-  -- a record that stands there is read
+  -- a record that is there is read
   pub read-only : (layout : Layout) (input : List ℕ) (at : ℕ) (row : Record) (prefix rest : List ℕ)
       → SpellsRecord layout row at prefix (first_of rest None) → drop at input ≡ prefix ++ rest → read layout input at ≡ Ok (row, at + length prefix)
   read-only (whole made) input at row prefix rest spells split =
@@ -163,7 +163,7 @@ module _ (exact : (f : Field) → IsExact f) where
       let count : at + length one + length two ≡ at + length prefix = omega (arith, ap length parts, length-append one two) in
       rw first (second ∙ ap (λ (n : ℕ). ok row n) count)
 
-  -- a fault that is answered stands there
+  -- an error that is returned is there
   pub read-bad : (layout : Layout) (input : List ℕ) (at : ℕ) → AreBytes input → (offset : ℕ) (reason : Reason) → read layout input at
       ≡ Err (Bad offset reason) → HasFault layout at (drop at input) offset reason
   read-bad (whole made) input at fits offset reason gives = absurd (ok_not_err made at (Bad offset reason) gives)
@@ -181,7 +181,7 @@ module _ (exact : (f : Field) → IsExact f) where
             let two = recursive x mid gives in
             inr (x, one.prefix, drop mid input, one.spells, subst (λ (n : ℕ). HasFault (rest x) n (drop mid input) offset reason) one.count two, one.split)
 
-  -- a fault that stands there is answered
+  -- an error that is there is returned
   pub read-fault : (layout : Layout) (input : List ℕ) (at offset : ℕ) (reason : Reason) → HasFault layout at (drop at input) offset reason
       → read layout input at ≡ Err (Bad offset reason)
   read-fault (whole made) input at offset reason has = absurd has
@@ -193,7 +193,7 @@ module _ (exact : (f : Field) → IsExact f) where
       rw first (read-fault (rest x) input (at + length prefix) offset reason
       (subst (λ (l : List ℕ). HasFault (rest x) (at + length prefix) l offset reason) (sym following) has))
 
-  -- where more is wanted, the bytes end early
+  -- if more bytes are needed, the bytes end too early
   pub read-more : (layout : Layout) (input : List ℕ) (at : ℕ) → AreBytes input → read layout input at ≡ Err More → IsCutOffLayout layout at (drop at input)
   read-more (whole made) input at fits gives = absurd (ok_not_err made at More gives)
   read-more (refused back why) input at fits gives = let same : Bad (at - back) why ≡ More =
@@ -208,7 +208,7 @@ module _ (exact : (f : Field) → IsExact f) where
         let two = recursive x mid gives in
         inr (x, one.prefix, drop mid input, one.spells, subst (λ (n : ℕ). IsCutOffLayout (rest x) n (drop mid input)) one.count two, one.split)
 
-  -- where the bytes end early, more is wanted
+  -- if the bytes end too early, more bytes are needed
   pub read-ends : (layout : Layout) (input : List ℕ) (at : ℕ) → IsCutOffLayout layout at (drop at input) → read layout input at ≡ Err More
   read-ends (whole made) input at ends = absurd ends
   read-ends (refused back why) input at ends = absurd ends
@@ -223,7 +223,7 @@ module _ (exact : (f : Field) → IsExact f) where
   later_in f x at prefix [] next spells = (exact f).later x at prefix next spells
   later_in f x at prefix (b ∷ back) next spells = spells
 
-  -- what ends with the input may be followed by anything
+  -- a record that ends with the input may be followed by anything
   pub record-later : (layout : Layout) (row : Record) (at : ℕ) (bytes : List ℕ) (next : Option ℕ) → SpellsRecord layout row at bytes None
       → SpellsRecord layout row at bytes next
   record-later (whole made) row at bytes next spells = spells
@@ -236,7 +236,7 @@ module _ (exact : (f : Field) → IsExact f) where
   grown f x at prefix back more spells = subst (λ (n : Option ℕ). SpellsField f x at prefix n) (sym (first_of-append back more None))
       (later_in f x at prefix back (first_of more None) spells)
 
-  -- a fault stays in each longer input
+  -- an error stays the same in every longer input
   pub fault-grows : (layout : Layout) (at : ℕ) (bytes more : List ℕ) (offset : ℕ) (reason : Reason) → HasFault layout at bytes offset reason
       → HasFault layout at (bytes ++ more) offset reason
   fault-grows (whole made) at bytes more offset reason has = has

@@ -28,12 +28,12 @@ use Rattle.mufom_records.proofs.NumberLaws.{BeginsIn-grows}
 use Rattle.mufom_records.proofs.TokenSteps.{Begins, token_first, cut_off_first, tokens-next, tokens-cut, tokens-end, tokens-fault, end_whole}
 use Rattle.mufom_records.proofs.TokenSteps.{leaves-enough, Step, cut, faulty, ended, goes_on, step}
 
--- ---- from the answer to what stands there
+-- ---- from the result to the bytes at the offset
 
 abbrev ok_unit : ℕ → Reading (Unit {0})
 ok_unit at = Ok (tt, at)
 
--- after other tokens, these stand there and make an expression with them
+-- these tokens are at the offset, and make an expression with the tokens before them
 pub record FoundTokens (before : List Token) (input : List ℕ) (at after : ℕ) : Type 0 where
   pub tokens : List Token
   pub prefix : List ℕ
@@ -44,7 +44,7 @@ pub record FoundTokens (before : List Token) (input : List ℕ) (at after : ℕ)
   pub split : drop at input ≡ prefix ++ drop after input
   pub count : after ≡ at + length prefix
 
--- the same, where the first of them stands before
+-- the same, if the first of them is one of those before
 first_of_more : (before : List Token) (input : List ℕ) (at after : ℕ) (token : Token) (text rest : List ℕ) → SpellsToken token text → drop at input
     ≡ text ++ rest → FoundTokens (before ++ token ∷ []) input (at + length text) after → FoundTokens before input at after
 first_of_more before input at after token text rest spells split all =
@@ -108,7 +108,7 @@ tokens_found (suc room) terms before input at fits stand count after gives =
           (ap (λ (n : ℕ). tokens_from n (terms - operands_of token + 1) input (at + length text)) (sym less) ∙ sym answer ∙ gives) in
           first_of_more before input at after token text rest spells split more
 
--- what stands after tokens, of which some stand before
+-- what follows tokens, some of which come before these bytes
 pub record After (before : List Token) (bytes : List ℕ) (Is : ℕ → ℕ → List ℕ → List ℕ → Type 0) : Type 0 where
   pub tokens : List Token
   pub terms : ℕ
@@ -155,7 +155,7 @@ one_more before bytes Is Was token text rest spells split to all =
       split = split ∙ ap (λ (l : List ℕ). text ++ l) all.split ∙ sym (append_assoc text all.prefix all.rest);
     }
 
--- the answer that a fault, or an early end, after tokens gives
+-- the result of an error, or of an early end, after tokens
 abbrev IsFaultAt : ℕ → ℕ → Reason → ℕ → ℕ → List ℕ → List ℕ → Type 0
 IsFaultAt at fault_offset reason tokens terms prefix rest = (offset : ℕ) × TokenFault tokens terms rest offset reason
     × (fault_offset ≡ at + length prefix + offset)
@@ -213,9 +213,9 @@ tokens_stopped (suc room) terms before input at fits stand count stop gives =
           one_more before (drop at input) (Stopped stop at) (Stopped stop (at + length text)) token text rest spells split (moved_on stop at text)
           (subst (λ (l : List ℕ). After (before ++ token ∷ []) l (Stopped stop (at + length text))) following more)
 
--- ---- from what stands there to the answer
+-- ---- from the bytes at the offset to the result
 
--- over tokens that find their terms
+-- reading goes on over tokens that have their operands
 walk : (tokens before : List Token) (room terms n : ℕ) (input : List ℕ) (at : ℕ) (prefix rest : List ℕ) → leaves before ≡ Some terms
     → length before + room ≡ 255 → SpellsTokens tokens prefix → leaves (before ++ tokens) ≡ Some n → length (before ++ tokens) ≤ 255
     → drop at input ≡ prefix ++ rest → tokens_from room terms input at ≡ tokens_from (room - length tokens) n input (at + length prefix)
@@ -429,7 +429,7 @@ optional_got input at fits x after (b ∷ rest) e gives = elim (cases_Bool (begi
       (sym (optional_no input at b rest e h) ∙ gives)
 ]
 
--- tokens, or what stands after none, begin with a byte that begins a token
+-- if there are tokens, the bytes begin with one that begins a token
 tokens_first : (tokens : List Token) (prefix rest : List ℕ) → SpellsTokens tokens prefix → 0 < length tokens → Begins (prefix ++ rest)
 tokens_first [] prefix rest spells some = absurd (omega (arith, some))
 tokens_first (token ∷ tokens) prefix rest (text, back, spelled, spells, parts) some =

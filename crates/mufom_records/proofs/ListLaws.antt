@@ -1,4 +1,4 @@
--- Rows of numbers, strings and runs of bytes are read exactly.
+-- Lists of numbers, strings and literal bytes are read exactly.
 use Rattle.std.proofs.Common.{◌≡◌, ◌⊎◌, ℕ, zero, suc, ◌+◌, ◌*◌, ◌<◌, ◌≤◌, List, [], ◌∷◌, ◌++◌, length, take, drop, Option, Some, None, Ok, Err, refl}
 use Rattle.std.proofs.Common.{sym, ap, subst, ◌∙◌, inl, inr, arith, append_assoc}
 use Rattle.std.proofs.lemmas.Bool.{cases_lt, cases_eq, ne_eqb, lt-ltb, le-ltb}
@@ -306,7 +306,7 @@ two_bytes_not_bad [] offset reason bad = let wrong : more_text ≡ bad_text offs
 two_bytes_not_bad (b ∷ []) offset reason bad = let wrong : more_text ≡ bad_text offset reason = bad in cc
 two_bytes_not_bad (b ∷ c ∷ bytes) offset reason bad = after_not_bad 3 (256 * b + c) (223 ∷ b ∷ c ∷ bytes) offset reason bad
 
--- the one fault of a string
+-- the only error of a string
 bad_is : (bytes : List ℕ) (offset : ℕ) (reason : Reason) → string_at bytes ≡ bad_text offset reason → bad_text 0 BadId ≡ bad_text offset reason
 bad_is [] offset reason bad = let wrong : more_text ≡ bad_text offset reason = bad in absurd cc
 bad_is (lead ∷ bytes) offset reason bad = elim (cases_lt lead 128) [

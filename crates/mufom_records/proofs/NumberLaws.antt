@@ -43,7 +43,7 @@ byte-exact = record {
   grows = λ at bytes more fault_offset reason has. has;
 }
 
--- ---- a number, whatever it is
+-- ---- any number
 
 pub record FoundNumber (input : List ℕ) (at n after : ℕ) : Type 0 where
   pub prefix : List ℕ
@@ -86,7 +86,7 @@ got_number n used = taken.Got n used
 abbrev bad_number : ℕ → Reason → Taken ℕ
 bad_number offset reason = taken.Bad offset reason
 
--- a byte of 0 to 88 is not refused as a number
+-- a byte of 0 to 88 is not an error as a number
 not_bad : (b : ℕ) (bytes : List ℕ) → b ≤ 0x88 → (offset : ℕ) (reason : Reason) → number_at (b ∷ bytes) ≡ bad_number offset reason → ⊥
 not_bad b bytes low offset reason e = elim (cases_lt b 128) [
   | inl short ↦ let no : got_number b 1 ≡ bad_number offset reason = rw (lt-ltb b 128 short) at e in cc
@@ -97,7 +97,7 @@ not_bad b bytes low offset reason e = elim (cases_lt b 128) [
   ]
 ]
 
--- the one fault of a number
+-- the only error of a number
 bad_is : (bytes : List ℕ) (offset : ℕ) (reason : Reason) → number_at bytes ≡ bad_number offset reason → bad_number 0 BadNumber ≡ bad_number offset reason
 bad_is [] offset reason e = let no : more_number ≡ bad_number offset reason = e in absurd cc
 bad_is (b ∷ bytes) offset reason e = elim (cases_lt 136 b) [

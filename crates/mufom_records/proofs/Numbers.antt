@@ -1,10 +1,10 @@
--- One step of reading numbers after those that stand.
+-- One step of reading numbers after those that were read before.
 use Rattle.std.proofs.Common.{◌≡◌, ℕ, suc, ◌+◌, ◌-◌, ◌<◌, ◌≤◌, List, [], ◌∷◌, ◌++◌, length, Some, None, Ok, Err, refl, sym, append_assoc, arith}
 use Rattle.std.proofs.lemmas.List.{append-nil}
 use Rattle.mufom_records.specs.declared.stop.Stop.{Stop}
 use Rattle.mufom_records.specs.Reading.{Reading, ◌>>=◌, optional_number_at, numbers_at}
 
--- the numbers that stand, and those that are read
+-- the numbers read before, followed by those that are read now
 abbrev pub following : List ℕ → Reading (List ℕ) → Reading (List ℕ)
 following xs r = r >>= λ ns. Ok (xs ++ ns.0, ns.1)
 
@@ -12,7 +12,7 @@ joined : (xs : List ℕ) (n : ℕ) (r : Reading (List ℕ)) → following xs (r 
 joined xs n (Ok ns) = let e : xs ++ n ∷ ns.0 ≡ (xs ++ n ∷ []) ++ ns.0 = sym (append_assoc xs (n ∷ []) ns.0) in rw e refl
 joined xs n (Err stop) = refl
 
--- where at most `most` numbers are read, those of `xs` so far: one more stands, or there is none, or the reading stops
+-- at most `most` numbers are read, and `xs` are those so far: one more follows, or none does, or the reading stops
 pub numbers-next : (xs : List ℕ) (most n : ℕ) (input : List ℕ) (at after : ℕ) → length xs < most → optional_number_at input at ≡ Ok (Some n, after)
     → following xs (numbers_at (most - length xs) input at) ≡ following (xs ++ n ∷ []) (numbers_at (most - (length xs + 1)) input after)
 numbers-next xs most n input at after room e =

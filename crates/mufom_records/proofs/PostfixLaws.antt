@@ -1,4 +1,4 @@
--- Tokens are taken off the bytes of an expression, one after the other.
+-- Tokens are taken from the bytes of an expression, one after the other.
 use Rattle.std.proofs.Common.{◌≡◌, ℕ, ◌<◌, ◌≤◌, List, [], ◌∷◌, ◌++◌, length, drop, Some, refl, sym, ap, subst, ◌∙◌, arith, append_assoc}
 use Rattle.std.proofs.lemmas.List.{append-nil, length-append, length-drop, drop_at}
 use Rattle.mufom_numbers.specs.declared.taken.Taken.{Taken}
@@ -15,7 +15,7 @@ use Rattle.mufom_expr.proofs.TokenLaws.{token_at-spelling}
 use Rattle.mufom_records.specs.Faults.{BeginsWithToken}
 use Rattle.mufom_records.proofs.TokenSteps.{token_first}
 
--- the input spells a tree; these tokens of it were taken, and the rest of the input spells the others
+-- the input spells a tree: these tokens of it were taken, and the rest of the input spells the others
 pub record IsLeft (input rest : List ℕ) (built : List Token) : Type 0 where
   pub tree : Tree
   pub tokens : List Token
@@ -95,14 +95,14 @@ left_start input built spells none = record {
       ap (λ (l : List Token). l ++ tokens_of spells.0) (sym none);
 }
 
--- a tree is spelled by some bytes
+-- the bytes of a tree are not empty
 pub some_bytes : (input : List ℕ) → (tree : Tree) × SpellsTree tree input → 0 < length input
 some_bytes (b ∷ bytes) spells = omega arith
 some_bytes [] spells = let whole = left_none [] [] [] (left_start [] [] spells refl) refl in absurd (no_terms whole.one) where
   no_terms : leaves [] ≡ Some 1 → ⊥
   no_terms e = cc
 
--- a token that all bytes of a tree spell is that tree
+-- a token whose bytes are all bytes of a tree is that tree
 pub alone : (input : List ℕ) (token : Token) (used : ℕ) → (tree : Tree) × SpellsTree tree input → token_at input ≡ taken.Got token used → used
     ≡ length input → Whole input (token ∷ [])
 alone input token used spells got all =

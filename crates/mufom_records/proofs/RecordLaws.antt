@@ -1,4 +1,4 @@
--- Records are read exactly, and a longer input changes no answer but More.
+-- Records are read exactly, and a longer input changes no result except More.
 use Rattle.std.proofs.Common.{◌≡◌, ℕ, ◌+◌, ◌≤◌, List, [], ◌∷◌, ◌++◌, length, take, drop, None, Ok, Err, IfOk, refl, sym, ap, subst, ◌∙◌, arith, append_assoc}
 use Rattle.std.proofs.lemmas.List.{length-append, length-take, take-append-drop, take_at}
 use Rattle.mufom_numbers.specs.declared.reason.Reason.{Reason}
@@ -38,9 +38,9 @@ bad_record offset reason = taken.Bad offset reason
 abbrev more_record : Taken Record
 more_record = taken.More
 
--- ---- what an answer states
+-- ---- what a result states
 
--- what is got is the prefix of the input and a whole record
+-- the bytes that were read are a prefix of the input and a complete record
 pub record IsPrefix (mode : Mode) (input : List ℕ) (row : Record) (used : ℕ) : Type 0 where
   pub within : used ≤ length input
   pub is_whole : IsWholeRecord mode row (take used input) (first_of (drop used input) None)
@@ -112,7 +112,7 @@ stated_more mode input answer (states_bad offset reason has) same = let wrong : 
 pub more-record_at : (mode : Mode) (input : List ℕ) → AreBytes input → record_at mode input ≡ taken.More → IsCutOffRecord mode input
 more-record_at mode input fits e = stated_more mode input (record_at mode input) (states mode input fits) e
 
--- ---- the same of what was read, before it is an answer
+-- ---- the same for the result before it is converted
 
 got_ok : (P : Record → ℕ → Type 0) (answer : Reading Record) → IfGot (as_taken answer) P → IfOk answer (λ r. P r.0 r.1)
 got_ok P (Ok (row, used)) has = has
@@ -164,12 +164,12 @@ stable_by mode input more answer (states_more ends) wanted = absurd (wanted refl
 stable_by mode input more answer (states_bad offset reason has) wanted =
     record_at-bad mode (input ++ more) offset reason (fault-grows exact (layout_of mode) 0 input more offset reason has)
 
--- a longer input has the same answer, once it is not More
+-- a longer input has the same result, unless that is More
 pub record_at-stable : (mode : Mode) (input more : List ℕ) → AreBytes input → (record_at mode input ≡ taken.More → ⊥) → record_at mode (input ++ more)
     ≡ record_at mode input
 record_at-stable mode input more fits wanted = stable_by mode input more (record_at mode input) (states mode input fits) wanted
 
--- two whole records at one offset are one
+-- two complete records at one offset are the same
 pub one_record : (mode : Mode) (r s : Record) (text rest other more : List ℕ) → IsWholeRecord mode r text (first_of rest None)
     → IsWholeRecord mode s other (first_of more None) → text ++ rest ≡ other ++ more → (r ≡ s) × (text ≡ other)
 one_record mode r s text rest other more first second same =

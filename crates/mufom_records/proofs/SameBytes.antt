@@ -19,9 +19,9 @@ use Rattle.mufom_records.proofs.Exact.{same_value, same_place, first_of-append}
 use Rattle.mufom_records.proofs.ExpressionLaws.{tree_first}
 use Rattle.mufom_records.proofs.RecordLaws.{exact}
 
--- ---- two spellings of which one begins the other
+-- ---- two spellings, one of which begins with the other
 
--- two numbers at the start of one list are one
+-- two numbers at the start of one list are the same
 one_number : (n m : ℕ) (one two rest more : List ℕ) → SpellsNumber n one → SpellsNumber m two → one ++ rest ≡ two ++ more → (n ≡ m) × (length one ≡ length two)
 one_number n m one two rest more first second same =
     let e : taken.Got n (length one) ≡ taken.Got m (length two) = sym (number_at-spelling n one rest first) ∙ ap number_at same
@@ -58,7 +58,7 @@ one_row (n ∷ ns) (m ∷ ms) bytes (one, two, spelled, spells, parts) (one2, tw
     let later = one_row ns ms two spells (subst (λ (l : List ℕ). SpellsNumbers ms l) (sym tails.1) spells2) in
     λ i. same.0 i ∷ later i
 
--- ---- values by bytes
+-- ---- values are determined by their bytes
 
 abbrev zeros : ℕ → List ℕ
 zeros zero = []
@@ -73,7 +73,7 @@ no_tree bytes tree spells none =
     let begins = tree_first tree bytes [] spells in
     let e : [] ≡ begins.0 ∷ begins.1 = sym (append-nil bytes ∙ none) ∙ begins.2 in cc
 
--- a field whose spelling does not see what follows
+-- a field whose spelling does not depend on what follows it
 by_bytes : (f : Field) (x y : ValueOf f) (at : ℕ) (prefix : List ℕ) → SpellsField f x at prefix None → SpellsField f y at prefix None → x ≡ y
 by_bytes f x y at prefix first second =
     let input = zeros at ++ prefix in
@@ -102,13 +102,13 @@ same_field optional_expression None (Some y) at prefix next other first second =
 same_field optional_expression (Some x) None at prefix next other first second = absurd (no_tree prefix first.0.0 first.0.1 second.0)
 same_field optional_expression (Some x) (Some y) at prefix next other first second = ap (λ (s : Span). Some s) (first.1 ∙ sym second.1)
 
--- ---- records by bytes
+-- ---- records are determined by their bytes
 
 first_of-option : (next : Option ℕ) → first_of (option_to_list next) None ≡ next
 first_of-option None = refl
 first_of-option (Some b) = refl
 
--- of two values that the same fields begin with, neither has fewer bytes
+-- of two values that begin with the same fields, neither has fewer bytes
 not_shorter : (f : Field) (x y : ValueOf f) (at : ℕ) (prefix back front2 back2 : List ℕ) (next other : Option ℕ)
     → SpellsField f x at prefix (first_of back next) → SpellsField f y at front2 (first_of back2 other) → prefix ++ back ≡ front2 ++ back2
     → length prefix < length front2 → ⊥

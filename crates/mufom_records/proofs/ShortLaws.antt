@@ -1,4 +1,4 @@
--- An input of which more is wanted is short: the longest record whose end may not stand yet is a module's begin, with two strings.
+-- An input that needs more bytes is short: the longest record that may still be incomplete is an MB with two strings.
 use Rattle.std.proofs.Common.{◌≡◌, ◌≢◌, ℕ, ◌+◌, ◌-◌, ◌*◌, ◌<◌, ◌≤◌, ◌==◌, Bool, true, false, List, [], ◌∷◌, ◌++◌, length, Option, Some, None, refl}
 use Rattle.std.proofs.Common.{ap, ◌∙◌, inl, inr, arith, length-append, if◌then◌else◌}
 use Rattle.std.proofs.lemmas.Bool.{leb-true}
@@ -21,7 +21,7 @@ use Rattle.mufom_records.proofs.RecordLaws.{more-record_at}
 use Rattle.mufom_records.specs.Layouts as rows
 use Rattle.mufom_records.specs.Layouts.{Layout, whole, refused, field, layout_of, partner}
 
--- ---- how long fields are
+-- ---- the length of fields
 
 number_short : (n : ℕ) (bytes : List ℕ) → SpellsNumber n bytes → length bytes ≤ 9
 number_short n [] is = elim is [ ]
@@ -67,7 +67,7 @@ some_length : (rest : List ℕ) → rest ≢ [] → 0 < length rest
 some_length [] none = absurd (none refl)
 some_length (b ∷ rest) none = omega arith
 
--- the prefix of a number, and not all of it
+-- the start of a number, but not all of it
 cut_number_short : (bytes : List ℕ) → IsCutOffNumber bytes → length bytes < 9
 cut_number_short bytes (n, cut) =
     let rest = cut.0 in
@@ -80,7 +80,7 @@ cut_token_short : (bytes : List ℕ) → IsCutOffToken bytes → length bytes < 
 cut_token_short bytes (inl is) = let few = cut_number_short bytes is in omega (arith, few)
 cut_token_short bytes (inr (it, rest, same, n, cut)) = let few = cut_number_short rest (n, cut) in let all = ap length same in omega (arith, few, all)
 
--- how many bytes a field has at most
+-- the largest number of bytes in a field
 abbrev most : Field → ℕ
 most byte = 1
 most (number fits fault_offset fault) = 9
@@ -117,7 +117,7 @@ spelled_short expression x at bytes next is = expression_short bytes x at next i
 spelled_short optional_expression None at bytes next is = let all = ap length is.0 in omega (arith, all)
 spelled_short optional_expression (Some x) at bytes next is = expression_short bytes x at next is
 
--- bytes that end before a field or inside it have fewer than the field at most
+-- bytes that end before a field or within it are fewer than the longest such field has
 unended_short : (f : Field) (bytes : List ℕ) → IsCutOffField f bytes → length bytes < most f
 unended_short byte bytes is = let none = ap length is in omega (arith, none)
 unended_short (number fits fault_offset fault) bytes is = cut_number_short bytes is
@@ -138,7 +138,7 @@ unended_short (numbers count) bytes (ns, prefix, rest, spells, few, cut, same) =
 unended_short expression bytes is = ends_short bytes is
 unended_short optional_expression bytes is = ends_short bytes is
 
--- ---- how long records are
+-- ---- the length of records
 
 -- what is known of a field's value
 abbrev Admits : (f : Field) → ValueOf f → Type 0
@@ -185,7 +185,7 @@ choose false a b n first second = second
 
 -- ---- the table, row by row
 
--- a layout of these fields alone, at the most so long
+-- a closing bracket and these fields have at most `n` bytes
 closed_short : (bracket : ℕ) (rest : Layout) (n : ℕ) → 1 ≤ n → AtMost rest (n - 1) → AtMost (rows.closed_by bracket rest) n
 closed_short bracket rest n room h = (room, λ b ok. choose (b == partner bracket) rest (refused 1 _) (n - 1) h tt)
 
@@ -315,6 +315,6 @@ records_short (mode.Offset k) = (omega arith, λ b ok. choose (b == 0xE2) _ _ _ 
 records_short mode.Body = (omega arith, λ b ok. coded_short b)
 records_short mode.Items = item_short
 
--- more is wanted of an input of fewer bytes than these alone
+-- only an input of fewer bytes than this needs more
 pub unended-short : (m : Mode) (input : List ℕ) → AreBytes input → record_at m input ≡ More → length input < 131077
 unended-short m input fits wants = early_short (layout_of m) 131077 0 input (records_short m) (more-record_at m input fits wants)

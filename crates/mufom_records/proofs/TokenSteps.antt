@@ -1,4 +1,4 @@
--- One token of an expression, and what is answered where it stands, is cut off or has a fault.
+-- One token of an expression, and the result of reading it: it is there, it is cut off, or it has an error.
 use Rattle.std.proofs.Common.{◌≡◌, ℕ, zero, suc, ◌+◌, ◌-◌, ◌<◌, ◌≤◌, ◌==◌, true, false, List, [], ◌∷◌, ◌++◌, length, take, drop, Option, Some, None}
 use Rattle.std.proofs.Common.{Ok, Err, refl, sym, ap, subst, ◌∙◌, inl, inr, arith}
 use Rattle.std.specs.Prelude.{option_map, option_and_then}
@@ -90,7 +90,7 @@ left_out_first (b ∷ bytes) begins = (b, bytes, refl, function_begins b begins.
 pub begins-byte_at : (input : List ℕ) (at : ℕ) (begins : Begins (drop at input)) → byte_at input at ≡ Ok (begins.0, at + 1)
 begins-byte_at input at begins = rw begins.2 refl
 
--- ---- what is answered at an offset
+-- ---- the result at an offset
 
 pub tokens-none : (room terms : ℕ) (input : List ℕ) (at : ℕ) → drop at input ≡ [] → tokens_from room terms input at ≡ Err More
 tokens-none zero terms input at e = rw e refl
@@ -113,7 +113,7 @@ tokens_stop : (room terms : ℕ) (input : List ℕ) (at : ℕ) (stop : Stop) →
     ≡ Err stop → tokens_from room terms input at ≡ Err stop
 tokens_stop room terms input at stop begins e = tokens-stop room terms at input begins.0 (at + 1) stop (begins-byte_at input at begins) begins.3 e
 
--- a token that finds its terms, and room
+-- a token that has its operands, and is still allowed
 pub tokens-next : (room terms : ℕ) (input : List ℕ) (at : ℕ) (token : Token) (text rest : List ℕ) → SpellsToken token text → drop at input ≡ text
     ++ rest → operands_of token ≤ terms → 0 < room
     → tokens_from room terms input at ≡ tokens_from (room - 1) (terms - operands_of token + 1) input (at + length text)
@@ -129,7 +129,7 @@ tokens-next room terms input at token text rest spells split found some =
       with_room zero terms at token used found some = absurd (omega (arith, some))
       with_room (suc room) terms at token used found some = rw (le-ltb terms (operands_of token) found, ne_eqb (suc room) 0 (λ e. omega (arith, e))) refl
 
--- where a token is cut off, more is wanted
+-- if a token is cut off, more bytes are needed
 pub tokens-cut : (room terms : ℕ) (input : List ℕ) (at : ℕ) (bytes : List ℕ) → drop at input ≡ bytes → IsCutOffToken bytes
     → tokens_from room terms input at ≡ Err More
 tokens-cut room terms input at [] e cut = tokens-none room terms input at e
@@ -171,7 +171,7 @@ end_surplus room terms at some many = let same : at + 0 ≡ at = omega arith in 
 pub end_whole : (room at : ℕ) → (room ≡ 255 → ⊥) → expression_end (room == 255) 1 at ≡ Ok (tt, at)
 end_whole room at some = rw (ne_eqb room 255 some) refl
 
--- each fault of a token is answered at its offset
+-- each error of a token is returned at its offset
 pub tokens-fault : (room terms : ℕ) (input : List ℕ) (at tokens offset : ℕ) (reason : Reason) → tokens + room ≡ 255 → (tokens ≡ 0 → terms ≡ 0)
     → TokenFault tokens terms (drop at input) offset reason
     → tokens_from room terms input at ≡ Err (Bad (at + offset) reason)
@@ -208,7 +208,7 @@ tokens-fault room terms input at tokens offset SurplusTerms count start (none, m
     (λ one. omega (arith, many, one)))
 tokens-fault room terms input at tokens offset _ count start has = absurd has
 
--- ---- how many terms stand
+-- ---- the number of terms
 
 some_is : (a b : ℕ) → ◌≡◌ {A = Option ℕ} (Some a) (Some b) → a ≡ b
 some_is a b e = cc
@@ -216,7 +216,7 @@ some_is a b e = cc
 none_is : (a : ℕ) → ◌≡◌ {A = Option ℕ} None (Some a) → ⊥
 none_is a e = cc
 
--- a token that stands before others found its terms
+-- a token that is followed by others had its operands
 pub leaves-enough : (before after : List Token) (token : Token) (m n : ℕ) → leaves before ≡ Some m → leaves (before ++ token ∷ after) ≡ Some n
     → operands_of token ≤ m
 leaves-enough before after token m n first whole = by_terms (terms_after before []) first

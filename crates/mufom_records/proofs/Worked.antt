@@ -1,4 +1,4 @@
--- Records of a small absolute module, read at their offsets, and some that are refused, each computed.
+-- Worked examples: records of a small absolute module, read at their offsets, and some with errors, each computed.
 use Rattle.std.proofs.Common.{◌≡◌, ℕ, [], ◌∷◌, Some, None, true, refl}
 use Rattle.mufom_numbers.specs.declared.reason.Reason.TheVariants.{BadHeader, BadId, SurplusTerms, Underflow}
 use Rattle.mufom_numbers.specs.declared.taken.Taken.{Taken}

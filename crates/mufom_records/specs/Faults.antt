@@ -1,5 +1,5 @@
--- The faults of fields and records: what is at an offset where a field must be, and is none. Each is known by the
--- bytes that show it, whatever follows them.
+-- The errors of fields and records: bytes at an offset that cannot be the field that must be there. An error depends only on
+-- the bytes that show it, not on what follows them.
 use Rattle.std.specs.Prelude.{◌≡◌, ◌⊎◌, ℕ, ◌+◌, ◌-◌, ◌<◌, ◌≤◌, true, false, List, [], ◌++◌, length, Some, None}
 use Rattle.mufom_numbers.specs.declared.reason.Reason.{Reason}
 use Rattle.mufom_numbers.specs.declared.reason.Reason.TheVariants.{BadNumber, BadId, UnsupportedFunction, UnsupportedVariable, Underflow}
@@ -17,16 +17,15 @@ use Rattle.mufom_records.specs.Layouts.{Layout, whole, refused, field, layout_of
 
 -- ---- expressions
 
--- the first byte begins no token
+-- the first byte cannot begin a token
 abbrev pub EndsTokens : List ℕ → Type 0
 EndsTokens bytes = BeginsWith (λ b. begins_token b ≡ false) bytes
 
--- a token comes first of which this holds
+-- the bytes begin with a token of which this holds
 abbrev pub BeginsWithToken : (Token → Type 0) → List ℕ → Type 0
 BeginsWithToken Is bytes = (token : Token) × (text : List ℕ) × (rest : List ℕ) × SpellsToken token text × Is token × (bytes ≡ text ++ rest)
 
--- What is wrong at the start of these bytes, where `tokens` tokens are before them that leave `terms` terms, and how
--- far after the prefix it is named.
+-- The error at the start of these bytes, after `tokens` tokens that leave `terms` terms, and its offset from there.
 abbrev pub TokenFault : ℕ → ℕ → List ℕ → ℕ → Reason → Type 0
 TokenFault tokens terms bytes offset UnsupportedFunction = (offset ≡ 0) × BeginsWith IsLeftOutFunction bytes
 TokenFault tokens terms bytes offset UnsupportedVariable = (offset ≡ 0) × BeginsWith (λ b. (begins_token b ≡ true) × IsLeftOutLetter b) bytes
@@ -37,31 +36,31 @@ TokenFault tokens terms bytes offset Empty = (offset ≡ 0) × (tokens ≡ 0) ×
 TokenFault tokens terms bytes offset SurplusTerms = (offset ≡ 0) × (1 < terms) × EndsTokens bytes
 TokenFault tokens terms bytes offset _ = ⊥
 
--- at most 255 tokens come first, each of which finds its terms, and then there is this
+-- the bytes begin with at most 255 tokens, each of which has its operands, and this holds of what follows
 abbrev pub AfterTokens : List ℕ → (ℕ → ℕ → List ℕ → List ℕ → Type 0) → Type 0
 AfterTokens bytes Is = (tokens : List Token) × (terms : ℕ) × (prefix : List ℕ) × (rest : List ℕ) × SpellsTokens tokens prefix
     × (leaves tokens ≡ Some terms) × (length tokens ≤ 255) × Is (length tokens) terms prefix rest × (bytes ≡ prefix ++ rest)
 
--- tokens come first, and then this fault of one, or of their end
+-- the bytes begin with tokens, and then the next token or the end of the expression has this error
 abbrev pub ExpressionFault : ℕ → List ℕ → ℕ → Reason → Type 0
 ExpressionFault at bytes fault_offset reason = (offset : ℕ) × AfterTokens bytes
     (λ tokens terms prefix rest. TokenFault tokens terms rest offset reason × (fault_offset ≡ at + length prefix + offset))
 
--- tokens come first, and then the bytes end before another one or inside it
+-- the bytes begin with tokens, and then end before another token or within it
 abbrev pub IsCutOffExpression : List ℕ → Type 0
 IsCutOffExpression bytes = AfterTokens bytes (λ tokens terms prefix rest. IsCutOffToken rest)
 
 -- ---- fields
 
--- the bytes are the prefix of a number, and not all of it
+-- the bytes are the start of a number, but not all of it
 abbrev pub IsCutOffNumber : List ℕ → Type 0
 IsCutOffNumber bytes = (n : ℕ) × IsCutOff (SpellsNumber n) bytes
 
--- a number comes first of which this holds
+-- the bytes begin with a number of which this holds
 abbrev pub BeginsWithNumber : (ℕ → Type 0) → List ℕ → Type 0
 BeginsWithNumber Is bytes = (n : ℕ) × (text : List ℕ) × (rest : List ℕ) × SpellsNumber n text × Is n × (bytes ≡ text ++ rest)
 
--- The bytes, which begin at an offset, show that the field is not there, for this reason, named at that offset.
+-- The bytes, which are at offset `at`, cannot be the field: they have this error, reported at this offset.
 abbrev pub FieldFault : Field → ℕ → List ℕ → ℕ → Reason → Type 0
 FieldFault byte at bytes fault_offset reason = ⊥
 FieldFault (number fits where_ fault) at bytes fault_offset reason = ((reason ≡ BadNumber) × (fault_offset ≡ at) × BeginsIn 0x89 0xFF bytes)
@@ -74,7 +73,7 @@ FieldFault (numbers most) at bytes fault_offset reason = ⊥
 FieldFault expression at bytes fault_offset reason = ExpressionFault at bytes fault_offset reason
 FieldFault optional_expression at bytes fault_offset reason = BeginsWith (λ b. begins_token b ≡ true) bytes × ExpressionFault at bytes fault_offset reason
 
--- The bytes end before the field or inside it, or where it could still begin, and show no fault.
+-- The bytes end before the field, within it, or where it could still begin or go on, and show no error.
 abbrev pub IsCutOffField : Field → List ℕ → Type 0
 IsCutOffField byte bytes = bytes ≡ []
 IsCutOffField (number fits fault_offset fault) bytes = IsCutOffNumber bytes
@@ -89,7 +88,7 @@ IsCutOffField optional_expression bytes = IsCutOffExpression bytes
 
 -- ---- records
 
--- Fields of the layout come first, and then there is this fault.
+-- The bytes begin with fields of the layout, and then there is this error.
 abbrev pub HasFault : Layout → ℕ → List ℕ → ℕ → Reason → Type 0
 HasFault (whole row) at bytes fault_offset reason = ⊥
 HasFault (refused back why) at bytes fault_offset reason = (fault_offset ≡ at - back) × (reason ≡ why)
@@ -97,7 +96,7 @@ HasFault (field f rest) at bytes fault_offset reason = FieldFault f at bytes fau
     ⊎ ((x : ValueOf f) × (prefix : List ℕ) × (back : List ℕ) × SpellsField f x at prefix (first_of back None)
     × HasFault (rest x) (at + length prefix) back fault_offset reason × (bytes ≡ prefix ++ back))
 
--- Fields of the layout come first, and then the bytes end too early.
+-- The bytes begin with fields of the layout, and then end too early.
 abbrev pub IsCutOffLayout : Layout → ℕ → List ℕ → Type 0
 IsCutOffLayout (whole row) at bytes = ⊥
 IsCutOffLayout (refused back why) at bytes = ⊥
@@ -105,11 +104,11 @@ IsCutOffLayout (field f rest) at bytes = IsCutOffField f bytes
     ⊎ ((x : ValueOf f) × (prefix : List ℕ) × (back : List ℕ) × SpellsField f x at prefix (first_of back None)
     × IsCutOffLayout (rest x) (at + length prefix) back × (bytes ≡ prefix ++ back))
 
--- The input shows this fault of a record that would be at its start, named at that offset.
+-- The record at the start of the input has this error, reported at this offset.
 abbrev pub IsFaulty : Mode → List ℕ → ℕ → Reason → Type 0
 IsFaulty mode input fault_offset reason = HasFault (layout_of mode) 0 input fault_offset reason
 
--- The input is the prefix of a record without a fault, and ends inside a field, before one that must follow, or where an
--- optional one could begin.
+-- The input is the start of a record without an error, and ends within a field, before a required one, or where an optional
+-- one could begin.
 abbrev pub IsCutOffRecord : Mode → List ℕ → Type 0
 IsCutOffRecord mode input = IsCutOffLayout (layout_of mode) 0 input

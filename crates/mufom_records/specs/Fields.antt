@@ -1,6 +1,6 @@
--- The fields of records and their spellings (IEEE Std 695, MUFOM commands). A field's spelling depends on where it
--- begins, since strings, runs of bytes and expressions are kept as parts of the input, and on the byte that follows it,
--- since a field that may be absent is so only where that byte could not begin it.
+-- The fields of records and their spellings (IEEE Std 695, MUFOM commands). The spelling of a field depends on its offset,
+-- since the values of strings, literal bytes and expressions are positions in the input. It also depends on the byte that
+-- follows the field, since an optional field is absent only if that byte could not begin it.
 use Rattle.std.specs.Prelude.{◌≡◌, ℕ, ◌+◌, ◌<◌, ◌≤◌, Bool, true, false, List, [], ◌∷◌, ◌++◌, length, Option, Some, None, ◌==◌}
 use Rattle.std.specs.List.{list_any}
 use Rattle.arrayvec.specs.ArrayVec.{ArrayVec}
@@ -11,28 +11,29 @@ use Rattle.mufom_expr.specs.Tree.{Tree}
 use Rattle.mufom_expr.specs.Spelled.{SpellsTree}
 use Rattle.mufom_expr.specs.TokenAt.{begins_number, begins_token}
 
--- what may be at an offset of a record
+-- a kind of field
 pub data Field : Type 0 where
   -- any byte
   byte : Field
-  -- a number that passes the test; one that does not is a fault of this reason, named at this offset (of the field's own)
+  -- A number that passes the test. One that does not is an error for this reason, reported at an offset that depends on the
+  -- field's own.
   number : (fits : ℕ → Bool) → (offset : ℕ → ℕ) → (fault : Reason) → Field
-  -- a string; its value is the offset of its bytes without the lead
+  -- a string; its value is the position of its bytes without the length before them
   string : Field
-  -- a span of this length; the value is where it stands
+  -- this number of bytes; their value is their position
   run : ℕ → Field
   -- one of these bytes, or none
   letter : List ℕ → Field
   -- a number, or none
   optional_number : Field
-  -- this number of numbers at most
+  -- numbers, at most as many as this
   numbers : ℕ → Field
-  -- an expression; its value is the offset of its bytes
+  -- an expression; its value is the position of its bytes
   expression : Field
   -- an expression, or none
   optional_expression : Field
 
--- what a field holds
+-- the type of a field's value
 abbrev pub ValueOf : Field → Type 0
 ValueOf byte = ℕ
 ValueOf (number fits offset fault) = ℕ
@@ -44,12 +45,12 @@ ValueOf (numbers most) = ArrayVec ℕ
 ValueOf expression = Span
 ValueOf optional_expression = Option Span
 
--- a byte is there, and it is none that the test finds
+-- a byte follows, and it does not pass the test
 abbrev pub Stops : (ℕ → Bool) → Option ℕ → Type 0
 Stops begins None = ⊥
 Stops begins (Some b) = begins b ≡ false
 
--- the part of an input from an offset on, of `len` bytes
+-- the span of `len` bytes from an offset on
 abbrev pub span_at : ℕ → ℕ → Span
 span_at start len = record { start = start; len = len }
 
@@ -57,7 +58,7 @@ span_at start len = record { start = start; len = len }
 abbrev pub is_one_of : List ℕ → ℕ → Bool
 is_one_of known b = list_any (λ k. k == b) known
 
--- numbers as a record holds them
+-- numbers in the form in which a record has them
 abbrev pub items_of : List ℕ → ArrayVec ℕ
 items_of ns = record { items = ns }
 
@@ -66,11 +67,11 @@ abbrev pub SpellsNumbers : List ℕ → List ℕ → Type 0
 SpellsNumbers [] bytes = bytes ≡ []
 SpellsNumbers (n ∷ ns) bytes = (prefix : List ℕ) × (back : List ℕ) × SpellsNumber n prefix × SpellsNumbers ns back × (bytes ≡ prefix ++ back)
 
--- all bytes of an expression, which ends before a byte that begins no token
+-- all bytes of an expression, which ends before a byte that cannot begin a token
 abbrev pub SpellsExpression : Span → ℕ → List ℕ → Option ℕ → Type 0
 SpellsExpression span at bytes next = ((tree : Tree) × SpellsTree tree bytes) × (span ≡ span_at at (length bytes)) × Stops begins_token next
 
--- The bytes, which begin at an offset and are followed by that byte (or end the input), are the field with this value.
+-- The bytes, which are at offset `at` and are followed by the byte `next` (or end the input), are the field with this value.
 abbrev pub SpellsField : (f : Field) → ValueOf f → ℕ → List ℕ → Option ℕ → Type 0
 SpellsField byte b at bytes next = bytes ≡ b ∷ []
 SpellsField (number fits offset fault) n at bytes next = SpellsNumber n bytes × (fits n ≡ true)
@@ -86,7 +87,7 @@ SpellsField expression span at bytes next = SpellsExpression span at bytes next
 SpellsField optional_expression None at bytes next = (bytes ≡ []) × Stops begins_token next
 SpellsField optional_expression (Some span) at bytes next = SpellsExpression span at bytes next
 
--- the first byte of these, or else the one that follows them
+-- the first of these bytes, or if there are none, the one that follows them
 abbrev pub first_of : List ℕ → Option ℕ → Option ℕ
 first_of [] next = next
 first_of (b ∷ _) next = Some b

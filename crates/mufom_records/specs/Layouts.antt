@@ -1,5 +1,5 @@
--- The table of records: which fields a record has after its code, in order (IEEE Std 695, MUFOM commands; the codes are
--- those of the public `ieee.h`, what follows them is this project's profile).
+-- The table of records: the fields that follow the code of each record, in order (IEEE Std 695, MUFOM commands; the codes are
+-- those of the public `ieee.h`, the fields are this project's profile).
 use Rattle.std.specs.Prelude.{◌≡◌, ℕ, ◌+◌, ◌^◌, Bool, true, false, List, [], ◌∷◌, ◌++◌, length, Option, Some, None, ◌==◌, nat_lt, nat_le, ◌&&◌, if◌then◌else◌}
 use Rattle.mufom_numbers.specs.declared.codes.TheConstants.{ASSIGNMENT, BLOCK_BEGIN, BLOCK_END, COMMA, CONSTANT, DEBUG_NAME, DESCRIPTOR, LETTER_A}
 use Rattle.mufom_numbers.specs.declared.codes.TheConstants.{LETTER_B, LETTER_C, LETTER_D, LETTER_F, LETTER_G, LETTER_I, LETTER_L, LETTER_M, LETTER_N}
@@ -21,8 +21,8 @@ use Rattle.mufom_records.specs.declared.record.Record.TheVariants as r
 use Rattle.mufom_records.specs.Fields.{Field, ValueOf, byte, number, string, run, letter, optional_number, numbers, expression, optional_expression}
 use Rattle.mufom_records.specs.Fields.{is_one_of, SpellsField, first_of}
 
--- a field and what may follow each value of it; no further field, and the record; or that the last `back` bytes may not
--- be there
+-- A layout is a field and the layout that follows it, which may depend on the field's value; or the end, with the complete
+-- record; or an error, reported `back` bytes before the offset that was reached.
 pub data Layout : Type 0 where
   whole : Record → Layout
   refused : (back : ℕ) → (reason : Reason) → Layout
@@ -33,7 +33,7 @@ infixr 20 ◌▹◌
 abbrev pub ◌▹◌ : (f : Field) → (ValueOf f → Layout) → Layout
 f ▹ rest = field f rest
 
--- The bytes, which begin at an offset and are followed by that byte (or end the input), are a record of the layout.
+-- The bytes, which are at offset `at` and are followed by the byte `next` (or end the input), are a record with the layout.
 abbrev pub SpellsRecord : Layout → Record → ℕ → List ℕ → Option ℕ → Type 0
 SpellsRecord (whole row) record_ at bytes next = (record_ ≡ row) × (bytes ≡ [])
 SpellsRecord (refused back reason) record_ at bytes next = ⊥
@@ -42,15 +42,15 @@ SpellsRecord (field f rest) record_ at bytes next = (x : ValueOf f) × (prefix :
 
 -- ---- numbers with their tests
 
--- a fault is named at the field itself
+-- an error is reported at the field itself
 abbrev pub here : ℕ → ℕ
 here at = at
 
--- at the first byte of the record
+-- an error is reported at the first byte of the record
 abbrev pub start : ℕ → ℕ
 start at = 0
 
--- a number, whatever it is
+-- any number
 abbrev pub any_number : Field
 any_number = number (λ n. true) here BadNumber
 
@@ -58,11 +58,11 @@ any_number = number (λ n. true) here BadNumber
 abbrev pub index : Field
 index = number (λ n. nat_lt n (2 ^ 32)) here BadNumber
 
--- how many bytes a run of literal bytes has
+-- the count of literal bytes: at most 65,535
 abbrev pub count : Field
 count = number (λ n. nat_lt n 65536) here LongRun
 
--- 3, 4, 5, 6 and 11 are read
+-- the supported kinds of blocks
 abbrev pub block_kinds : List ℕ
 block_kinds = 3 ∷ 4 ∷ 5 ∷ 6 ∷ 11 ∷ []
 
@@ -70,7 +70,7 @@ block_kinds = 3 ∷ 4 ∷ 5 ∷ 6 ∷ 11 ∷ []
 abbrev pub block_kind : Field
 block_kind = number (is_one_of block_kinds) here UnsupportedBlock
 
--- what an attribute of a debug note may be
+-- the supported attributes of debug notes
 abbrev pub debug_attributes : List ℕ
 debug_attributes = 1 ∷ 2 ∷ 3 ∷ 4 ∷ 5 ∷ 7 ∷ 8 ∷ 10 ∷ []
 
@@ -78,21 +78,21 @@ debug_attributes = 1 ∷ 2 ∷ 3 ∷ 4 ∷ 5 ∷ 7 ∷ 8 ∷ 10 ∷ []
 abbrev pub debug_attribute : Field
 debug_attribute = number (is_one_of debug_attributes) here UnsupportedAttribute
 
--- how many addressable units a field has
+-- the size of a field: 1 to 8 MAUs
 abbrev pub field_size : Field
 field_size = number (λ n. nat_le 1 n && nat_le n 8) here BadFieldSize
 
--- the number of a part's offset, in the header
+-- the number of a part in the header, which must be `k`
 abbrev pub offset_number : ℕ → Field
 offset_number k = number (λ n. n == k) start BadHeader
 
 -- ---- letters and brackets
 
--- CC, the least significant byte first, or CD, the most significant
+-- the letters of the byte order: CC for the least significant byte first, CD for the most significant byte first
 abbrev pub orders : List ℕ
 orders = LETTER_L ∷ LETTER_M ∷ []
 
--- D0, code; C4, data; D2, ROM data
+-- the letters of purposes: D0 for code, C4 for data, D2 for ROM data
 abbrev pub purposes : List ℕ
 purposes = LETTER_P ∷ LETTER_D ∷ LETTER_R ∷ []
 
@@ -106,11 +106,11 @@ opening Signed = OPEN_SIGNED
 opening Unsigned = OPEN_UNSIGNED
 opening Either = OPEN_EITHER
 
--- of a signed, an unsigned and an either field
+-- the opening brackets of the three kinds of fields
 abbrev pub opening_brackets : List ℕ
 opening_brackets = opening Signed ∷ opening Unsigned ∷ opening Either ∷ []
 
--- the partner of an opening bracket is the byte after it
+-- the closing bracket of an opening one, which has the next code
 abbrev pub partner : ℕ → ℕ
 partner bracket = bracket + 1
 
@@ -118,11 +118,11 @@ partner bracket = bracket + 1
 abbrev pub closing : FieldKind → ℕ
 closing kind = partner (opening kind)
 
--- the kind of field that an opening bracket begins
+-- the kind of field that begins with this opening bracket
 abbrev pub kind_of : ℕ → FieldKind
 kind_of b = if b == opening Signed then Signed else (if b == opening Unsigned then Unsigned else Either)
 
--- the partner of an opening bracket is the next byte
+-- the next byte must be the closing bracket of this opening one
 abbrev pub closed_by : ℕ → Layout → Layout
 closed_by bracket rest = byte ▹ λ b. if b == partner bracket then rest else refused 1 BracketMismatch
 
@@ -132,7 +132,7 @@ closed_by bracket rest = byte ▹ λ b. if b == partner bracket then rest else r
 abbrev pub module_begin : Layout
 module_begin = string ▹ λ processor. string ▹ λ name. whole (r.ModuleBegin processor name)
 
--- AD: bits per addressable unit, units per address, and the order of bytes
+-- AD: bits per addressable unit (MAU), MAUs per address, and the byte order, which is optional
 abbrev pub descriptor : Layout
 descriptor = any_number ▹ λ bits. any_number ▹ λ maus. letter orders ▹ λ order. whole (r.Descriptor bits maus order)
 
@@ -144,7 +144,7 @@ offset = any_number ▹ λ n. any_number ▹ λ value. whole (r.Offset n value)
 abbrev pub numbered_offset : ℕ → Layout
 numbered_offset k = offset_number k ▹ λ n. any_number ▹ λ value. whole (r.Offset n value)
 
--- ST after the letters of its type: the purpose, the name, and three numbers that may be absent
+-- ST after the letters of its type: an optional purpose, the name, and three optional numbers
 abbrev pub named_section : ℕ → Bool → Layout
 named_section i absolute = letter purposes ▹ λ purpose. string ▹ λ name. optional_number ▹ λ a. optional_number ▹ λ b. optional_number ▹ λ c.
     whole (r.SectionType i absolute purpose name a b c)
@@ -158,7 +158,7 @@ abbrev pub section_type : Layout
 section_type = index ▹ λ i. byte ▹ λ c. if c == LETTER_C then named_section i false
     else (if c == LETTER_A then absolute_section i else refused 1 BadSectionType)
 
--- SA: the alignment, and a number that may be absent
+-- SA: the alignment, and an optional number
 abbrev pub alignment : Layout
 alignment = index ▹ λ i. any_number ▹ λ n. optional_number ▹ λ other. whole (r.Alignment i n other)
 
@@ -182,7 +182,7 @@ note row = index ▹ λ i. any_number ▹ λ type_index. any_number ▹ λ attri
 abbrev pub debug_note : Layout
 debug_note = index ▹ λ i. any_number ▹ λ type_index. debug_attribute ▹ λ attribute. numbers 4 ▹ λ ns. whole (r.DebugNote i type_index attribute ns)
 
--- WX: the size, and a default that may be absent
+-- WX: the size, and an optional default
 abbrev pub weak_reference : Layout
 weak_reference = index ▹ λ i. any_number ▹ λ n. optional_number ▹ λ default. whole (r.WeakReference i n default)
 
@@ -199,17 +199,17 @@ source_begin kind n name = numbers 6 ▹ λ ns. whole (r.BlockBegin kind n name 
 abbrev pub section_begin : ℕ → ℕ → Span → Layout
 section_begin kind n name = any_number ▹ λ type_. index ▹ λ section. expression ▹ λ value. whole (r.BlockBegin kind n name (tail.Section type_ section value))
 
--- BB after its name: what the kind adds; 3 adds nothing
+-- BB after its name: the fields that the kind adds; kind 3 adds none
 abbrev pub block_by_kind : ℕ → ℕ → Span → Layout
 block_by_kind kind n name = if kind == 3 then whole (r.BlockBegin kind n name tail.Module)
     else (if kind == 5 then source_begin kind n name
     else (if kind == 11 then section_begin kind n name else scope_begin kind n name))
 
--- BB: the kind, the size, the name, and what the kind adds
+-- BB: the kind, the size, the name, and the fields that the kind adds
 abbrev pub block_begin : Layout
 block_begin = block_kind ▹ λ kind. any_number ▹ λ n. string ▹ λ name. block_by_kind kind n name
 
--- BE: an expression that may be absent
+-- BE: an optional expression
 abbrev pub block_end : Layout
 block_end = optional_expression ▹ λ value. whole (r.BlockEnd value)
 
@@ -221,16 +221,16 @@ set_section = index ▹ λ i. whole (r.SetSection i)
 abbrev pub constant : (Span → Record) → Layout
 constant row = count ▹ λ n. run n ▹ λ bytes. whole (row bytes)
 
--- RE after its times: LD, or LR whose items follow
+-- RE after its repeat count: LD, or LR whose items follow
 abbrev pub repeated : ℕ → ℕ → Layout
 repeated times b = if b == CONSTANT then constant (r.RepeatConstant times)
     else (if b == RELOCATE then whole (r.RepeatRelocate times) else refused 1 BadRecord)
 
--- RE: how many times, and then LD or LR
+-- RE: the repeat count, and then LD or LR
 abbrev pub repeat : Layout
 repeat = any_number ▹ λ times. byte ▹ λ b. repeated times b
 
--- ASG after its opening bracket, or without one: an expression, and then the partner of the bracket
+-- ASG after its opening bracket, or without one: an expression, and the closing bracket if there was an opening one
 abbrev pub start_by_bracket : Option ℕ → Layout
 start_by_bracket None = expression ▹ λ value. whole (r.Start value)
 start_by_bracket (Some bracket) = expression ▹ λ value. closed_by bracket (whole (r.Start value))
@@ -239,7 +239,7 @@ start_by_bracket (Some bracket) = expression ▹ λ value. closed_by bracket (wh
 abbrev pub start_address : Layout
 start_address = letter opening_brackets ▹ λ bracket. start_by_bracket bracket
 
--- a field of an LR after its expression and its comma, where there is one: the size, and the closing bracket
+-- a field of an LR after its expression and its comma, if there is one: the size after a comma, and the closing bracket
 abbrev pub item_by_comma : ℕ → Span → Option ℕ → Layout
 item_by_comma bracket value None = closed_by bracket (whole (r.FieldItem (kind_of bracket) value None))
 item_by_comma bracket value (Some comma_) = field_size ▹ λ n. closed_by bracket (whole (r.FieldItem (kind_of bracket) value (Some n)))
@@ -249,17 +249,17 @@ abbrev pub item_by_bracket : Option ℕ → Layout
 item_by_bracket None = constant r.ConstantItem
 item_by_bracket (Some bracket) = expression ▹ λ value. letter (comma ∷ []) ▹ λ c. item_by_comma bracket value c
 
--- an item of an LR: literal bytes, or a field in brackets with a comma and a size that may be absent
+-- an item of an LR: literal bytes, or a field in brackets, in which a comma and a size are optional
 abbrev pub item : Layout
 item = letter opening_brackets ▹ λ bracket. item_by_bracket bracket
 
 -- ---- codes
 
--- second bytes after E2 that this profile knows and leaves out
+-- second bytes after E2 of records that this profile knows but does not support
 abbrev pub left_out_assignments : List ℕ
 left_out_assignments = LETTER_A ∷ LETTER_B ∷ LETTER_F ∷ LETTER_M ∷ LETTER_R ∷ []
 
--- a second byte after E2
+-- the record after E2 and this second byte
 abbrev pub assignment : ℕ → Layout
 assignment b = if b == LETTER_W then offset
     else (if b == LETTER_S then index_and_number r.SectionSize
@@ -270,21 +270,21 @@ assignment b = if b == LETTER_W then offset
     else (if b == LETTER_G then start_address
     else (if is_one_of left_out_assignments b then refused 2 UnsupportedRecord else refused 1 BadRecord)))))))
 
--- a record whose code is E2 and a second byte
+-- a record after E2
 abbrev pub assigned : Layout
 assigned = byte ▹ λ second. assignment second
 
--- a second byte after F1
+-- the record after F1 and this second byte
 abbrev pub noted : ℕ → Layout
 noted b = if b == LETTER_I then note r.PublicNote
     else (if b == LETTER_X then note r.ReferenceNote
     else (if b == LETTER_N then debug_note else refused 1 BadRecord))
 
--- a record whose code is F1 and a second byte
+-- a record after F1
 abbrev pub any_note : Layout
 any_note = byte ▹ λ second. noted second
 
--- a first byte
+-- the record after this first byte
 abbrev pub coded : ℕ → Layout
 coded b = if b == MODULE_BEGIN then module_begin
     else (if b == MODULE_END then whole r.ModuleEnd
@@ -305,15 +305,15 @@ coded b = if b == MODULE_BEGIN then module_begin
     else (if b == BLOCK_BEGIN then block_begin
     else (if b == BLOCK_END then block_end else refused 1 BadRecord)))))))))))))))))
 
--- any record but an item
+-- any record except an item
 abbrev pub body : Layout
 body = byte ▹ λ b. coded b
 
--- a code that alone may be in the header
+-- the next byte must be this code, otherwise the header is bad; the error is reported `back` bytes before
 abbrev pub begins_with : ℕ → ℕ → Layout → Layout
 begins_with back code rest = byte ▹ λ b. if b == code then rest else refused back BadHeader
 
--- The layout of what is read in each mode.
+-- The layout of the record that is expected in each mode.
 abbrev pub layout_of : Mode → Layout
 layout_of mode.Begin = begins_with 1 MODULE_BEGIN module_begin
 layout_of mode.Descriptor = begins_with 1 DESCRIPTOR descriptor
@@ -321,6 +321,6 @@ layout_of (mode.Offset k) = begins_with 1 ASSIGNMENT (begins_with 2 LETTER_W (nu
 layout_of mode.Body = body
 layout_of mode.Items = item
 
--- The bytes are a whole record, where that byte follows them, or the input ends: no optional field could still begin.
+-- The bytes are a complete record, if the byte `next` follows them, or the input ends: no optional field could still begin.
 abbrev pub IsWholeRecord : Mode → Record → List ℕ → Option ℕ → Type 0
 IsWholeRecord mode record_ bytes next = SpellsRecord (layout_of mode) record_ 0 bytes next

@@ -1,4 +1,4 @@
--- The parts of the input that a record names: its strings, literal bytes and expressions.
+-- The positions in a record, those of its strings, literal bytes and expressions, are within the input.
 use Rattle.std.specs.Prelude.{ℕ, ◌+◌, ◌≤◌, List, length, Option, Some, None, slice_range}
 use Rattle.mufom_numbers.specs.declared.taken.Span.{Span}
 use Rattle.mufom_expr.specs.Tree.{Tree}
@@ -8,26 +8,27 @@ use Rattle.mufom_records.specs.declared.record.BlockTail.TheVariants as tail
 use Rattle.mufom_records.specs.declared.record.Record.{Record}
 use Rattle.mufom_records.specs.declared.record.Record.TheVariants as r
 
--- the part lies in the input
+-- the span is within the input
 abbrev pub LiesIn : List ℕ → Span → Type 0
 LiesIn input span = span.start + span.len ≤ length input
 
--- the part lies in the input, and its bytes are all bytes of an expression
+-- the span is within the input, and its bytes are exactly those of an expression
 abbrev pub IsExpressionIn : List ℕ → Span → Type 0
 IsExpressionIn input span = LiesIn input span × ((tree : Tree) × SpellsTree tree (slice_range input span.start (span.start + span.len)))
 
--- the same of an expression that may be absent
+-- the same of an optional expression
 abbrev pub IsOptionalExpressionIn : List ℕ → Option Span → Type 0
 IsOptionalExpressionIn input None = Unit {0}
 IsOptionalExpressionIn input (Some span) = IsExpressionIn input span
 
--- the same of what a kind of block adds
+-- the same of the fields that a kind of block adds
 abbrev pub HasTailParts : List ℕ → BlockTail → Type 0
 HasTailParts input (tail.Scope _ _ offset) = IsExpressionIn input offset
 HasTailParts input (tail.Section _ _ offset) = IsExpressionIn input offset
 HasTailParts input _ = Unit {0}
 
--- Each string and each run of literal bytes of the record lies in the input, and so does each expression, which is one.
+-- Each string and all literal bytes of the record are within the input, and so is each expression, whose bytes are exactly
+-- those of an expression.
 abbrev pub HasParts : List ℕ → Record → Type 0
 HasParts input (r.ModuleBegin processor name) = LiesIn input processor × LiesIn input name
 HasParts input (r.SectionType _ _ _ name _ _ _) = LiesIn input name

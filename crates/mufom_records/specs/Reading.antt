@@ -1,5 +1,5 @@
--- One record at the start of an input, read field by field from left to right: its value and the offset after it,
--- that the input ends too early, or the first fault with its offset.
+-- Reads one record at the start of an input, field by field from left to right. The result is its value and the offset after
+-- it, or that the input ends too early, or the first error with its offset.
 use Rattle.std.specs.Prelude.{ℕ, zero, suc, ◌+◌, ◌-◌, Bool, ◌==◌, nat_lt, List, [], ◌∷◌, length, drop, Option, Some, None, Result, Ok, Err, if◌then◌else◌}
 use Rattle.mufom_numbers.specs.declared.reason.Reason.{Reason}
 use Rattle.mufom_numbers.specs.declared.reason.Reason.TheVariants.{Underflow, SurplusTerms, Empty, TooLong}
@@ -22,13 +22,13 @@ use Rattle.mufom_records.specs.Layouts.{Layout, whole, refused, field, layout_of
 abbrev pub Reading : Type 0 → Type 0
 Reading X = Result (X × ℕ) Stop
 
--- what is read next, from the offset after the value
+-- reads on from the offset after the value
 infixl 10 ◌>>=◌
 abbrev pub ◌>>=◌ : {X Y : Type 0} → Reading X → (X × ℕ → Reading Y) → Reading Y
 (Ok x) >>= next = next x
 (Err stop) >>= next = Err stop
 
--- what stands so far after the prefix of the input
+-- the same result, `at` bytes further into the input
 abbrev pub moved : {X : Type 0} → ℕ → Taken X → Reading X
 moved at (taken.Got x used) = Ok (x, at + used)
 moved at taken.More = Err More
@@ -43,7 +43,7 @@ first_byte (b ∷ _) at = Ok (b, at + 1)
 abbrev pub byte_at : List ℕ → ℕ → Reading ℕ
 byte_at input at = first_byte (drop at input) at
 
--- the number at an offset, whatever it is
+-- any number at an offset
 abbrev pub plain_number_at : List ℕ → ℕ → Reading ℕ
 plain_number_at input at = moved at (number_at (drop at input))
 
@@ -53,34 +53,34 @@ tested_number_at fits fault_offset fault input at = do
   n ← plain_number_at input at
   if fits n.0 then Ok (n.0, n.1) else Err (Bad (fault_offset at) fault)
 
--- the offset of the bytes of the string at an offset
+-- the position of the bytes of the string at an offset
 abbrev pub text_at : List ℕ → ℕ → Reading Span
 text_at input at = do
   span ← moved at (string_at (drop at input))
   Ok (span_at (at + span.0.start) span.0.len, span.1)
 
--- the offset of `n` bytes, which must be there
+-- the position of `n` bytes, which must be there
 abbrev pub run_at : ℕ → List ℕ → ℕ → Reading Span
 run_at n input at = if nat_lt (length (drop at input)) n then Err More else Ok (span_at at n, at + n)
 
--- one of these bytes at an offset, or none before another byte
+-- one of these bytes at an offset, or none if the next byte is another one
 abbrev pub letter_at : List ℕ → List ℕ → ℕ → Reading (Option ℕ)
 letter_at known input at = do
   b ← byte_at input at
   if is_one_of known b.0 then Ok (Some b.0, b.1) else Ok (None, at)
 
--- the number at an offset, or none before a byte that begins none
+-- the number at an offset, or none if the next byte cannot begin one
 abbrev pub optional_number_at : List ℕ → ℕ → Reading (Option ℕ)
 optional_number_at input at = do
   b ← byte_at input at
   if begins_number b.0 then (plain_number_at input at >>= λ n. Ok (Some n.0, n.1)) else Ok (None, at)
 
--- a number and those after it, or none
+-- a number and those after it, or no numbers
 abbrev pub with_first : Option ℕ → ℕ → Reading (List ℕ) → Reading (List ℕ)
 with_first None at later = Ok ([], at)
 with_first (Some n) at later = later >>= λ ns. Ok (n ∷ ns.0, ns.1)
 
--- the numbers at an offset, of which as many are read as the first argument allows
+-- all numbers at an offset, but at most as many as the first argument
 abbrev pub numbers_at : ℕ → List ℕ → ℕ → Reading (List ℕ)
 numbers_at zero input at = Ok ([], at)
 numbers_at (suc k) input at = do
@@ -89,8 +89,9 @@ numbers_at (suc k) input at = do
 
 -- ---- expressions
 
--- What a token makes of the terms before it, where `room` further tokens may stand. Of two faults at one byte the one of
--- the least number is named, so Underflow goes before TooLong, and a fault of a variable's index, a byte later, after.
+-- The number of terms after a token, if `room` more tokens are allowed. Of two errors at the same byte the one with the
+-- smaller number is reported. So Underflow goes before TooLong, and TooLong before an error of a variable's index, which is
+-- a byte later.
 abbrev pub terms_with : ℕ → ℕ → ℕ → Taken Token → Reading ℕ
 terms_with room terms at taken.More = Err More
 terms_with zero terms at (taken.Bad (suc offset) reason) = Err (Bad at TooLong)
@@ -98,28 +99,28 @@ terms_with room terms at (taken.Bad offset reason) = Err (Bad (at + offset) reas
 terms_with room terms at (taken.Got token used) = if nat_lt terms (operands_of token) then Err (Bad at Underflow)
     else (if room == 0 then Err (Bad at TooLong) else Ok (terms - operands_of token + 1, at + used))
 
--- an expression ends before the first byte that begins no token
+-- an expression ends before the first byte that cannot begin a token
 abbrev pub expression_end : Bool → ℕ → ℕ → Reading (Unit {0})
 expression_end is_empty terms at = if is_empty then Err (Bad at Empty) else (if terms == 1 then Ok (tt, at) else Err (Bad at SurplusTerms))
 
--- a token, and what follows it; or the end
+-- reads a token and goes on after it, or ends the expression
 abbrev pub token_or_end : ℕ → ℕ → List ℕ → ℕ → (ℕ × ℕ → Reading (Unit {0})) → Reading (Unit {0})
 token_or_end room terms input at next = do
   b ← byte_at input at
   if begins_token b.0 then (terms_with room terms at (token_at (drop at input)) >>= next) else expression_end (room == 255) terms at
 
--- the offset after the tokens from an offset on, where the first argument counts those that may still stand
+-- the offset after all tokens from an offset on; the first argument is the number of tokens that are still allowed
 abbrev pub tokens_from : ℕ → ℕ → List ℕ → ℕ → Reading (Unit {0})
 tokens_from zero terms input at = token_or_end 0 terms input at (λ after. Err More)
 tokens_from (suc room) terms input at = token_or_end (suc room) terms input at (λ after. tokens_from room after.0 input after.1)
 
--- the offset of all bytes of the expression at an offset
+-- the position of all bytes of the expression at an offset
 abbrev pub expression_at : List ℕ → ℕ → Reading Span
 expression_at input at = do
   end ← tokens_from 255 0 input at
   Ok (span_at at (end.1 - at), end.1)
 
--- the offset of the bytes of the expression at an offset, or none before a byte that begins none
+-- the position of the bytes of the expression at an offset, or none if the next byte cannot begin one
 abbrev pub optional_expression_at : List ℕ → ℕ → Reading (Option Span)
 optional_expression_at input at = do
   b ← byte_at input at
@@ -139,13 +140,13 @@ field_at (numbers most) input at = numbers_at most input at >>= λ ns. Ok (items
 field_at expression input at = expression_at input at
 field_at optional_expression input at = optional_expression_at input at
 
--- the record of a layout that begins at an offset
+-- the record with this layout at an offset
 abbrev pub read : Layout → List ℕ → ℕ → Reading Record
 read (whole row) input at = Ok (row, at)
 read (refused back reason) input at = Err (Bad (at - back) reason)
 read (field f rest) input at = field_at f input at >>= λ x. read (rest x.0) input x.1
 
--- the answer of a reading at the start of the input
+-- the result of reading at the start of the input
 abbrev pub as_taken : {X : Type 0} → Reading X → Taken X
 as_taken (Ok x) = taken.Got x.0 x.1
 as_taken (Err More) = taken.More

@@ -1,4 +1,4 @@
-//! What is in brackets: a field of an LR, and a start address.
+//! Reads what may be in brackets: a field of an LR, and a start address.
 
 ghost use Rattle.std.specs.Prelude.{◌≡◌, ◌≤◌, length, IfOk, Some};
 ghost use Rattle.mufom_records.specs.declared.record.Record.TheVariants as r;
@@ -24,7 +24,7 @@ fn kind_of(opening: u8) -> FieldKind
     }
 }
 
-// The partner of an opening bracket, after which the record ends.
+// Reads the closing bracket for this opening one. The record ends after it.
 fn closed_by(opening: u8, row: Record, input: &[u8], at: usize) -> Read
     requires within { at ≤ length input.now }
     requires parts { HasParts input.now row }
@@ -96,7 +96,7 @@ fn item_by_bracket(opening: Option<u8>, input: &[u8], at: usize) -> Read
     }
 }
 
-/// An item of an LR.
+/// Reads an item of an LR: literal bytes, or a field in brackets.
 pub(crate) fn item(input: &[u8], at: usize) -> Read
     requires { at ≤ length input.now }
     ensures exact { result ≡ read layouts.item input.now at }
@@ -122,7 +122,7 @@ fn start_by_bracket(opening: Option<u8>, input: &[u8], at: usize) -> Read
     }
 }
 
-/// The start address, alone or in brackets.
+/// Reads a start address, with or without brackets.
 pub(crate) fn start_address(input: &[u8], at: usize) -> Read
     requires { at ≤ length input.now }
     ensures exact { result ≡ read layouts.start_address input.now at }

@@ -1,4 +1,4 @@
-//! Expressions, which are read in one pass: only the number of terms is kept.
+//! Reads expressions in one pass: only the number of terms on the stack is kept.
 
 ghost use Rattle.std.specs.Prelude.{◌≡◌, ◌+◌, ◌<◌, ◌≤◌, length, drop, IfOk};
 ghost use Rattle.mufom_expr.specs.TokenAt.{begins_token as token_begins, token_at};
@@ -19,7 +19,8 @@ fn begins_token(b: u8) -> bool
         || (codes::LETTER_A <= b && b <= codes::LETTER_Z)
 }
 
-// What the token at an offset makes of the terms before it, where `room` further tokens may stand.
+// Reads the token at an offset, if `room` more tokens are allowed, and returns the number of terms after it and the offset
+// after it.
 #[inline(always)]
 fn terms_at(room: usize, terms: usize, input: &[u8], at: usize) -> Result<(usize, usize), Stop>
     requires at { at ≤ length input.now }
@@ -49,7 +50,7 @@ fn terms_at(room: usize, terms: usize, input: &[u8], at: usize) -> Result<(usize
     }
 }
 
-// The end of an expression, which leaves `terms` terms.
+// Checks the end of an expression that leaves `terms` terms.
 fn end_of(is_empty: bool, terms: usize, at: usize) -> Result<((), usize), Stop>
     ensures exact { result ≡ expression_end is_empty terms at }
     ensures within { IfOk result (λ r. r.1 ≡ at) }
@@ -63,7 +64,7 @@ fn end_of(is_empty: bool, terms: usize, at: usize) -> Result<((), usize), Stop>
     }
 }
 
-// The offset after the tokens from an offset on, where `room` of them may stand: at most 255.
+// Reads tokens from an offset on, at most `room`, up to the end of the expression, and returns the offset after them.
 fn tokens(
     mut room: usize,
     mut terms: usize,
@@ -87,7 +88,7 @@ fn tokens(
     }
 }
 
-/// Where the bytes of an expression stand.
+/// Reads an expression: the position of all its bytes, and the offset after it.
 pub(crate) fn expression(input: &[u8], start: usize) -> Result<(Span, usize), Stop>
     requires { start ≤ length input.now }
     ensures exact { result ≡ field_at an_expression input.now start }
@@ -102,7 +103,7 @@ pub(crate) fn expression(input: &[u8], start: usize) -> Result<(Span, usize), St
     Ok((span, at))
 }
 
-/// An expression, or none before a byte that begins none.
+/// Reads an optional expression: none if the next byte cannot begin one.
 pub(crate) fn optional_expression(input: &[u8], at: usize) -> Result<(Option<Span>, usize), Stop>
     requires { at ≤ length input.now }
     ensures exact { result ≡ field_at an_optional_expression input.now at }

@@ -1,4 +1,5 @@
-//! The fields of records, each read at an offset of the input: its value and the offset after it.
+//! Reads the fields of records. Each function reads at an offset of the input, and returns the value and the
+//! offset after it.
 
 ghost use Rattle.std.specs.Prelude.{◌≡◌, ◌<◌, ◌≤◌, length, IfOk};
 ghost use Rattle.mufom_records.specs.Fields.{is_one_of, letter as letters, optional_number as an_optional_number, numbers as some_numbers};
@@ -12,10 +13,10 @@ use crate::stop::Stop;
 use arrayvec::ArrayVec;
 use mufom_numbers::{Reason, Span, Taken, codes, read_id, read_number};
 
-// The first byte that is no number by itself, but the lead of one.
+// The smallest lead byte of a number. All smaller bytes are numbers by themselves.
 const FIRST_LEAD: u8 = 0x80;
 
-/// A fault at an offset.
+/// An error at an offset.
 pub(crate) fn bad(offset: usize, reason: Reason) -> Stop
     ensures { result ≡ Stop.Bad offset reason }
 {
@@ -35,7 +36,7 @@ pub(crate) fn byte(input: &[u8], at: usize) -> Result<(u8, usize), Stop>
     }
 }
 
-// Any number: most are one byte.
+// Reads any number, with a shortcut for those of one byte, which are the most frequent.
 fn plain_number(input: &[u8], at: usize) -> Result<(u64, usize), Stop>
     requires { at ≤ length input.now }
     ensures exact { result ≡ plain_number_at input.now at }
@@ -47,7 +48,7 @@ fn plain_number(input: &[u8], at: usize) -> Result<(u64, usize), Stop>
     number_with_lead(input, at)
 }
 
-// The number at an offset, where it is not one byte by itself.
+// Reads any number.
 #[inline(never)]
 fn number_with_lead(input: &[u8], at: usize) -> Result<(u64, usize), Stop>
     requires { at ≤ length input.now }
@@ -84,7 +85,7 @@ pub(crate) fn index(input: &[u8], at: usize) -> Result<(u32, usize), Stop>
     }
 }
 
-/// How many literal bytes there are: at most 65,535.
+/// The count of literal bytes: at most 65,535.
 pub(crate) fn count(input: &[u8], at: usize) -> Result<(usize, usize), Stop>
     requires { at ≤ length input.now }
     ensures exact { result ≡ field_at a_count input.now at }
@@ -98,7 +99,7 @@ pub(crate) fn count(input: &[u8], at: usize) -> Result<(usize, usize), Stop>
     }
 }
 
-/// A kind of block that is read.
+/// A supported kind of block.
 pub(crate) fn block_kind(input: &[u8], at: usize) -> Result<(u64, usize), Stop>
     requires { at ≤ length input.now }
     ensures exact { result ≡ field_at a_block_kind input.now at }
@@ -111,7 +112,7 @@ pub(crate) fn block_kind(input: &[u8], at: usize) -> Result<(u64, usize), Stop>
     }
 }
 
-/// An attribute of a debug note that is read.
+/// A supported attribute of a debug note.
 pub(crate) fn debug_attribute(input: &[u8], at: usize) -> Result<(u64, usize), Stop>
     requires { at ≤ length input.now }
     ensures exact { result ≡ field_at a_debug_attribute input.now at }
@@ -124,7 +125,7 @@ pub(crate) fn debug_attribute(input: &[u8], at: usize) -> Result<(u64, usize), S
     }
 }
 
-/// A size of 1 to 8.
+/// The size of a field: 1 to 8 MAUs.
 pub(crate) fn field_size(input: &[u8], at: usize) -> Result<(u8, usize), Stop>
     requires { at ≤ length input.now }
     ensures exact { result ≡ field_at a_field_size input.now at }
@@ -138,7 +139,7 @@ pub(crate) fn field_size(input: &[u8], at: usize) -> Result<(u8, usize), Stop>
     }
 }
 
-/// The number of a part, which must be this one. A wrong one is named at the record's first byte.
+/// The number of a part, which must be `number`. A wrong one is reported at the record's first byte.
 pub(crate) fn offset_number(number: u8, input: &[u8], at: usize) -> Result<(u64, usize), Stop>
     requires { at ≤ length input.now }
     ensures exact { result ≡ field_at (an_offset_number number) input.now at }
@@ -152,7 +153,7 @@ pub(crate) fn offset_number(number: u8, input: &[u8], at: usize) -> Result<(u64,
     }
 }
 
-/// Where the bytes of a string stand.
+/// A string: the position of its bytes, without the length before them.
 pub(crate) fn string(input: &[u8], at: usize) -> Result<(Span, usize), Stop>
     requires { at ≤ length input.now }
     ensures exact { result ≡ field_at a_string input.now at }
@@ -172,7 +173,7 @@ pub(crate) fn string(input: &[u8], at: usize) -> Result<(Span, usize), Stop>
     }
 }
 
-/// Where `count` bytes stand. They are not looked at.
+/// The position of `count` bytes. The bytes themselves are not checked.
 pub(crate) fn run(count: usize, input: &[u8], at: usize) -> Result<(Span, usize), Stop>
     requires { at ≤ length input.now }
     ensures exact { result ≡ field_at (a_run count) input.now at }
@@ -195,7 +196,7 @@ fn is_among(known: &[u8], b: u8) -> bool
     known.iter().any(|letter| *letter == b)
 }
 
-/// One of these letters, or none.
+/// One of these letters, or none if the next byte is another one.
 pub(crate) fn letter(known: &[u8], input: &[u8], at: usize) -> Result<(Option<u8>, usize), Stop>
     requires { at ≤ length input.now }
     ensures exact { result ≡ field_at (letters known.now) input.now at }
@@ -209,7 +210,7 @@ pub(crate) fn letter(known: &[u8], input: &[u8], at: usize) -> Result<(Option<u8
     }
 }
 
-/// A number, or none before a byte that begins none.
+/// A number, or none if the next byte cannot begin one.
 pub(crate) fn optional_number(input: &[u8], at: usize) -> Result<(Option<u64>, usize), Stop>
     requires { at ≤ length input.now }
     ensures exact { result ≡ field_at an_optional_number input.now at }
@@ -224,7 +225,7 @@ pub(crate) fn optional_number(input: &[u8], at: usize) -> Result<(Option<u64>, u
     }
 }
 
-/// At most `N` numbers.
+/// All numbers that follow, but at most `N`.
 pub(crate) fn numbers<const N: usize>(
     input: &[u8],
     start: usize,

@@ -1,9 +1,9 @@
-//! One record of an object module from bytes.
+//! Reads one record of an object module from bytes.
 //!
-//! It depends on `mufom_numbers` and `mufom_expr`, and does not allocate but in [`postfix_of`]. Its main
-//! clause is that of [`next_record`]: a record is got exactly where the input begins with a whole record
-//! of the table before a byte that no optional field of it could begin with, the first fault is named
-//! exactly where one stands, and more is wanted exactly where neither is so.
+//! The crate depends on `mufom_numbers` and `mufom_expr`. Only [`postfix_of`] allocates. The main clause is
+//! that of [`next_record`]. It returns a record exactly if the input begins with a complete record of the
+//! table, followed by a byte that could not begin an optional field of it. It returns the first error
+//! exactly if there is one. Otherwise it asks for more bytes.
 #![tactic(auto)]
 
 mod brackets;

@@ -1,4 +1,4 @@
-//! The record that is next, by its code.
+//! Reads the next record, by its code.
 
 ghost use Rattle.std.specs.Prelude.{◌≡◌, ◌↔◌, ◌≤◌, ℕ, List, ◌++◌, length, take, drop, None, Ok, Err, IfOk};
 ghost use Rattle.mufom_numbers.specs.declared.codes.TheConstants.{ASSIGNMENT, DESCRIPTOR, LETTER_W, MODULE_BEGIN};
@@ -24,7 +24,7 @@ use crate::rows::{
 use crate::stop::Stop;
 use mufom_numbers::{Reason, Taken, codes};
 
-// What is after E2: a second byte, and what it stands for.
+// The record after the byte E2, which a second byte selects.
 fn assigned(input: &[u8], at: usize) -> Read
     requires low { 1 ≤ at }
     requires within { at ≤ length input.now }
@@ -46,7 +46,7 @@ fn assigned(input: &[u8], at: usize) -> Read
     }
 }
 
-// What is after F1: a second byte, and what it stands for.
+// The record after the byte F1, which a second byte selects.
 fn note(input: &[u8], at: usize) -> Read
     requires { at ≤ length input.now }
     ensures exact { result ≡ read layouts.any_note input.now at }
@@ -61,7 +61,7 @@ fn note(input: &[u8], at: usize) -> Read
     }
 }
 
-// What is after a first byte.
+// The record after its first byte, which is this code.
 fn coded(code: u8, input: &[u8], at: usize) -> Read
     requires low { 1 ≤ at }
     requires within { at ≤ length input.now }
@@ -91,7 +91,7 @@ fn coded(code: u8, input: &[u8], at: usize) -> Read
     }
 }
 
-// The module's begin, which alone may come first.
+// MB, the only record that may come first.
 fn header_begin(input: &[u8]) -> Read
     ensures exact { result ≡ read (layouts.begins_with 1 MODULE_BEGIN layouts.module_begin) input.now 0 }
     ensures parts { IfOk result (λ r. HasParts input.now r.0) }
@@ -104,7 +104,7 @@ fn header_begin(input: &[u8]) -> Read
     }
 }
 
-// The address descriptor, which alone may come next.
+// AD, the only record that may come second.
 fn header_descriptor(input: &[u8]) -> Read
     ensures exact { result ≡ read (layouts.begins_with 1 DESCRIPTOR layouts.descriptor) input.now 0 }
     ensures parts { IfOk result (λ r. HasParts input.now r.0) }
@@ -131,7 +131,7 @@ fn header_letter(part: u8, input: &[u8], at: usize) -> Read
     }
 }
 
-// The offset of this number, which alone may come next.
+// ASW with the offset of this part, the only record that may come at this point of the header.
 fn header_offset(part: u8, input: &[u8]) -> Read
     ensures exact { result ≡ read (layouts.begins_with 1 ASSIGNMENT (layouts.begins_with 2 LETTER_W (layouts.numbered_offset part))) input.now 0 }
     ensures parts { IfOk result (λ r. HasParts input.now r.0) }
@@ -166,15 +166,15 @@ fn record(input: &[u8], mode: Mode) -> Read
 /// This is [`next_record`] with a `Result`, for callers that go on with the record at once. An error is that the input
 /// ends too early, or the first error from the left with its offset.
 pub fn read_record(input: &[u8], mode: Mode) -> Result<(Record, usize), Stop>
-    // The bytes that were read are a prefix of the input, and a whole record before the byte that follows.
+    // The bytes that were read are a prefix of the input, and a complete record before the byte that follows.
     ensures whole { IfOk result (λ r. (r.1 ≤ length input.now)
         × IsWholeRecord mode r.0 (take r.1 input.now) (first_of (drop r.1 input.now) None)) }
-    // An input that begins with a whole record results in it.
+    // If the input begins with a complete record, that record is returned.
     ensures only { (row : Record) (text rest : List ℕ) → IsWholeRecord mode row text (first_of rest None) → input.now ≡ text ++ rest
         → result ≡ Ok (row, length text) }
     ensures bad { (offset : ℕ) (reason : Reason) → (result ≡ Err (Stop.Bad offset reason)) ↔ IsFaulty mode input.now offset reason }
     ensures more { (result ≡ Err Stop.More) ↔ IsCutOffRecord mode input.now }
-    // What the record names by its position is within the input, and its expressions are expressions.
+    // The positions in the record are within the input, and those of expressions are positions of expressions.
     ensures parts { IfOk result (λ r. HasParts input.now r.0) }
     ensures exact { result ≡ read (layouts.layout_of mode) input.now 0 }
 {
@@ -192,24 +192,24 @@ fn next(input: &[u8], mode: Mode) -> Taken<Record>
     }
 }
 
-/// Reads the record at the start of the input that is next in this mode, and states how many bytes
-/// it takes. Does not allocate.
+/// Reads the record at the start of the input that is expected in this mode, and returns it with its length
+/// in bytes. Does not allocate.
 ///
-/// `Bad` is the first fault from the left, and the position of the byte at which it is named. A number
-/// or a token is judged once it is whole, anything else once its byte is there. `More` is returned for
-/// the prefix of a record without a fault: where the input ends within a field, before one that is
-/// wanted, or where one that may be absent could begin. Strings, literal bytes and expressions are positions in the input, and
-/// literal bytes are not looked at.
+/// `Bad` is the first error from the left, with the offset of the byte at which it is reported. Errors in a
+/// number or a token are reported once it is complete, all others as soon as their byte is there. `More` is
+/// returned for the start of a record without an error: if the input ends within a field, before a required
+/// field, or where an optional field could begin. Strings, literal bytes and expressions are returned as
+/// positions in the input, and the literal bytes are not checked.
 pub fn next_record(input: &[u8], mode: Mode) -> Taken<Record>
-    // What is taken is the prefix of the input, and a whole record before the byte that follows.
+    // The bytes that were read are a prefix of the input, and a complete record before the byte that follows.
     ensures got { IfGot result (λ row used. (used ≤ length input.now)
         × IsWholeRecord mode row (take used input.now) (first_of (drop used input.now) None)) }
-    // An input that begins with a whole record gives it.
+    // If the input begins with a complete record, that record is returned.
     ensures only { (row : Record) (text rest : List ℕ) → IsWholeRecord mode row text (first_of rest None) → input.now ≡ text ++ rest
         → result ≡ Taken.Got row (length text) }
     ensures bad { (place : ℕ) (reason : Reason) → (result ≡ Taken.Bad place reason) ↔ IsFaulty mode input.now place reason }
     ensures more { (result ≡ Taken.More) ↔ IsCutOffRecord mode input.now }
-    // What the record names by its position lies in the input, and its expressions are expressions.
+    // The positions in the record are within the input, and those of expressions are positions of expressions.
     ensures parts { IfGot result (λ row used. HasParts input.now row) }
     ensures exact { result ≡ record_at mode input.now }
 {

@@ -1,4 +1,4 @@
-//! The expression that bytes of a record spell.
+//! Builds an expression from the bytes of a record.
 
 ghost use Rattle.std.specs.Prelude.{◌≡◌, ◌<◌, ◌≤◌, [], ◌∷◌, ◌++◌, length, drop, IfOk, OnOk, Some};
 ghost use Rattle.mufom_expr.specs.Tree.{Tree, tokens_of, IsInRange};
@@ -10,7 +10,7 @@ use mufom_expr::{Postfix, Token, read_token};
 use mufom_numbers::{NoMemory, Taken};
 use std::alloc::Global;
 
-// The token at the start, which is there, and how many bytes it takes.
+// The token at the start of the input, which must be there, and its length in bytes.
 #[inline(always)]
 fn first_token(input: &[u8]) -> (Token, usize)
     requires { BeginsWithToken (λ token. Unit {0}) input.now }
@@ -31,7 +31,7 @@ fn after(input: &[u8], used: usize) -> &[u8]
     &input[used..]
 }
 
-// How many tokens the bytes of an expression spell.
+// The number of tokens in the bytes of an expression.
 fn token_count(input: &[u8]) -> usize
     requires { (tree : Tree) × SpellsTree tree input.now }
     ensures { (tree : Tree) × SpellsTree tree input.now × (result ≡ length (tokens_of tree)) }
@@ -46,7 +46,7 @@ fn token_count(input: &[u8]) -> usize
     count
 }
 
-// The expression of all tokens that the bytes spell.
+// The expression of all tokens in the bytes.
 fn all_tokens(alloc: Global, input: &[u8]) -> Result<Postfix, NoMemory>
     requires { (tree : Tree) × SpellsTree tree input.now }
     ensures { IfOk result (λ p. SpellsTree p input.now) }
@@ -61,9 +61,9 @@ fn all_tokens(alloc: Global, input: &[u8]) -> Result<Postfix, NoMemory>
     Ok(Postfix::of(tokens))
 }
 
-/// The expression that the bytes spell, which are all bytes of one without a fault, as those are that a
-/// record's expression is at. Its variables have the indexes of the file. An expression of one token
-/// does not allocate.
+/// Builds the expression of these bytes. They must be exactly the bytes of an expression without an error,
+/// as those at a record's expression are. Its variables have the indexes of the file. Does not allocate for
+/// an expression of one token.
 pub fn postfix_of(alloc: Global, input: &[u8]) -> Result<Postfix, NoMemory>
     requires { (tree : Tree) × SpellsTree tree input.now }
     ensures { IfOk result (λ p. SpellsTree p input.now) }

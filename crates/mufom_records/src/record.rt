@@ -1,28 +1,28 @@
-//! The records of a file.
+//! The records of a module file.
 
 use arrayvec::ArrayVec;
 use mufom_expr::FieldKind;
 use mufom_numbers::Span;
 
-/// What is next.
+/// What is expected next in the input.
 #[derive(Clone, Copy, Debug, PartialEq, Eq)]
 pub enum Mode {
-    /// The module's begin. Any other first byte is a fault of the header, here and in the next two.
+    /// MB, the start of the module. In this mode and the next two, any other first byte is `BadHeader`.
     Begin,
-    /// The address descriptor.
+    /// AD, the address descriptor.
     Descriptor,
-    /// The offset of the part of this number.
+    /// ASW, the offset of the part with this number.
     Offset(u8),
-    /// Any record, the first byte of which is a code.
+    /// Any record, which begins with its code.
     Body,
-    /// An item after LR.
+    /// An item of an LR.
     Items,
 }
 
-/// What a block's kind adds to its begin. Positions are those of all bytes of an expression.
+/// The fields that a block's kind adds to BB. A `Span` is the position of all bytes of an expression.
 #[derive(Debug, Drop)]
 pub enum BlockTail {
-    /// Kind 3.
+    /// Kind 3: no further fields.
     Module,
     /// Kinds 4 and 6: a stack number, the index of a type, and an expression.
     Scope {
@@ -40,27 +40,27 @@ pub enum BlockTail {
     },
 }
 
-/// A record, or an item of one, with its fields in the order of the bytes.
+/// A record, or an item of an LR, with its fields in the order of the file.
 ///
-/// A string is the part of the input at which its bytes stand, without their lead; an expression the
-/// part of all its bytes; literal bytes the part after their count. An index is a `u32`, any other
-/// number a `u64`.
+/// Strings, expressions and literal bytes are positions in the input: of a string, its bytes without the
+/// length before them; of an expression, all its bytes; of literal bytes, those after their count. An index
+/// is a `u32`, any other number a `u64`.
 #[derive(Debug, Drop)]
 pub enum Record {
     /// MB: the processor and the module's name.
     ModuleBegin(Span, Span),
-    /// AD: bits per addressable unit, units per address, and the letter of the order of bytes.
+    /// AD: bits per addressable unit (MAU), MAUs per address, and the letter of the byte order, if there is one.
     Descriptor(u64, u64, Option<u8>),
-    /// ASW: the number of a part, and the position in the file at which it begins.
+    /// ASW: the number of a part, and the offset in the file at which it begins, or 0 if it is absent.
     Offset(u64, u64),
     /// ME.
     ModuleEnd,
-    /// ST: the index, whether the letters are A S and not C, the letter of the purpose, the name, and
-    /// three numbers that may be absent.
+    /// ST: the index, whether the section is absolute (letters A S) or relocatable (C), the letter of the
+    /// purpose, the name, and three optional numbers.
     SectionType(u32, bool, Option<u8>, Span, Option<u64>, Option<u64>, Option<u64>),
-    /// SA: the index, the alignment, and a number that may be absent.
+    /// SA: the index, the alignment, and an optional number.
     Alignment(u32, u64, Option<u64>),
-    /// ASS: the index and the size in addressable units.
+    /// ASS: the index and the size in MAUs.
     SectionSize(u32, u64),
     /// ASL: the index and the base address.
     SectionBase(u32, u64),
@@ -72,13 +72,13 @@ pub enum Record {
     PublicNote(u32, u64, u64, ArrayVec<u64, 4>),
     /// NX: the index and the name.
     ReferenceName(u32, Span),
-    /// WX: the index, the size, and a default that may be absent.
+    /// WX: the index, the size, and an optional default.
     WeakReference(u32, u64, Option<u64>),
     /// ATX: the index, the type, the attribute, and at most four numbers.
     ReferenceNote(u32, u64, u64, ArrayVec<u64, 4>),
-    /// BB: the kind, the size, the name, and what the kind adds.
+    /// BB: the kind, the size, the name, and the fields that the kind adds.
     BlockBegin(u64, u64, Span, BlockTail),
-    /// BE: an expression that may be absent.
+    /// BE: an optional expression.
     BlockEnd(Option<Span>),
     /// NN: the index and the name.
     DebugName(u32, Span),
@@ -96,11 +96,11 @@ pub enum Record {
     Relocate,
     /// Literal bytes of an LR.
     ConstantItem(Span),
-    /// A field of an LR: its kind, its value, and its size in addressable units, 1 to 8, where one stands.
+    /// A field of an LR: its kind, its value, and its size in MAUs, 1 to 8, if it is given.
     FieldItem(FieldKind, Span, Option<u8>),
-    /// RE and LD: how many times, and the literal bytes.
+    /// RE and LD: the repeat count, and the literal bytes.
     RepeatConstant(u64, Span),
-    /// RE and LR: how many times. The items follow.
+    /// RE and LR: the repeat count. The items follow.
     RepeatRelocate(u64),
     /// ASG: the start address.
     Start(Span),

@@ -1,4 +1,4 @@
-//! The rows of the table of records, each read after its code.
+//! Reads the fields of each kind of record, which follow its code.
 
 ghost use Rattle.std.specs.Prelude.{◌≡◌, ◌≤◌, length, IfOk};
 ghost use Rattle.mufom_records.specs.declared.record.Record.TheVariants as r;

@@ -2,7 +2,7 @@
 
 use mufom_numbers::Reason;
 
-/// Why no record was read: `More` of the prefix of a record without an error, and `Bad` of any other input.
+/// Why no record was read: `More` if the input is only the start of a record, without an error; `Bad` for any other input.
 #[derive(Clone, Copy, Debug, PartialEq, Eq)]
 pub enum Stop {
     /// The input ends too early.

@@ -1,4 +1,4 @@
--- The places of the numbers of a row, `range_with_len first count`.
+-- The positions of the numbers of a row, `range_with_len first count`.
 use Rattle.std.proofs.Common.{◌≡◌, ◌+◌, ◌-◌, ◌<◌, ◌≤◌, ℕ, zero, suc, [], ◌∷◌, ◌++◌, Bool, true, false, not, cond, ◌||◌, nat_eq, position, Some, refl}
 use Rattle.std.proofs.Common.{ap, ◌∙◌, arith}
 use Rattle.std.specs.List.{list_any, position_or_len, range_with_len}

@@ -1,4 +1,4 @@
--- Where the indexes are once one more was added, as an ordered map tells and as their list tells.
+-- The positions of the indexes after one more was added, by the ordered map and by their list.
 use Rattle.std.proofs.Common.{◌≡◌, ◌+◌, ℕ, List, [], ◌∷◌, ◌++◌, length, Bool, true, false, not, cond, ◌||◌, nat_eq, position, Some, refl, sym, ap, ◌∙◌, arith}
 use Rattle.std.specs.Ordering.{nat_cmp, is_eq}
 use Rattle.std.specs.List.{list_any}
@@ -6,11 +6,11 @@ use Rattle.std.proofs.lemmas.Bool.{eqb-true}
 use Rattle.std.proofs.lemmas.Bool.Decides.{nat_tests}
 use Rattle.mufom_sections.proofs.PlacesLemmas.{position-there, position-first, position-second, position-absent, neither}
 
--- numbers that compare as equal are those that are equal
+-- numbers compare as equal exactly if they are equal
 pub is_eq-nat_cmp : (k q : ℕ) → is_eq (nat_cmp k q) ≡ nat_eq q k
 is_eq-nat_cmp k q = grind (arith, nat_tests)
 
--- the position of a number once another number went last
+-- the position of a number after another number was added at the end
 pub position-pushed : (k q : ℕ) (ks : List ℕ) → list_any (nat_eq k) ks ≡ false
     → cond (is_eq (nat_cmp k q)) (Some (length ks)) (position (nat_eq q) ks) ≡ position (nat_eq q) (ks ++ k ∷ [])
 position-pushed k q ks none =

@@ -1,4 +1,4 @@
--- A table of indexes as it is kept, a row and others behind it, and what its answers say.
+-- A table of indexes as it is stored, a row followed by other indexes, and what its results mean.
 use Rattle.std.proofs.Common.{◌≡◌, ◌+◌, ◌-◌, ◌^◌, ◌<◌, ◌==◌, ℕ, List, [], ◌∷◌, ◌++◌, length, Bool, true, false, ◌||◌, Option, nat_eq, position, Some}
 use Rattle.std.proofs.Common.{is_some, Contains, refl, sym, ap, ◌∙◌, true≢false, append_assoc, arith}
 use Rattle.std.specs.Cmp.{nat_eq_equiv}
@@ -42,7 +42,7 @@ one_more k ks more is short distinct none =
 pub position-flipped : (k : ℕ) (ks : List ℕ) → position (nat_eq k) ks ≡ position (λ other. other == k) ks
 position-flipped k ks = λ i. position (λ other. nat_eq_equiv.symm k other i) ks
 
--- what the place of an index tells
+-- what the place of an index says
 pub is_declared : (k place : ℕ) (ks : List ℕ) → position (nat_eq k) ks ≡ Some place → Contains ks k
 is_declared k place ks at = by_case (list_any (nat_eq k) ks) refl where
   by_case : (b : Bool) → list_any (nat_eq k) ks ≡ b → Contains ks k
@@ -62,7 +62,7 @@ others_lack k row others ks none is =
       second true b h = absurd (true≢false h)
       second false b h = h
 
--- a list that is found to be empty
+-- a list that a test shows to be empty
 pub is_nothing : (ks : List ℕ) (empty : Bool) → empty ≡ (length ks == 0) → empty ≡ true → ks ≡ []
 is_nothing ks empty is none = nil_from_length ks (eqb-true (length ks) 0 (sym is ∙ none))
 

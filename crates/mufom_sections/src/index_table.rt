@@ -20,15 +20,15 @@ pub enum AddFault {
 }
 
 /// The indexes that a file gives to its entries, in the order of their declarations. Contracts see
-/// it as the list of these indexes, and none occurs twice.
+/// the table as the list of these indexes, none of which occurs twice.
 ///
-/// Files mostly declare indexes in a row, as 1, 2, 3. The table keeps such a row as two numbers. The
-/// indexes from the first that does not continue it are in an ordered map, so that the time of an
-/// `add` and a `position` goes by the logarithm of their count, whichever indexes a file declares.
+/// Files mostly declare consecutive indexes, such as 1, 2, 3. The table keeps such a row as two numbers.
+/// All indexes from the first one that does not continue the row are in an ordered map, so that `add`
+/// and `position` take time logarithmic in their count, whichever indexes a file declares.
 #[derive(Debug)]
 pub struct IndexTable {
     row: Row,
-    // Those after the row.
+    // The indexes after the row.
     others: Scattered,
 }
 
@@ -43,7 +43,7 @@ impl Model for IndexTable {
     ghost invariant = { λ table. (length (table.row ++ table.others) < 2 ^ 32) × IsDistinct nat_eq (table.row ++ table.others) };
 }
 
-// Written out so that whoever drops one makes one call: see "Drops" in docs/ARCHITECTURE.md.
+// Written out so that each drop is one call: see "Drops" in docs/ARCHITECTURE.md.
 impl Drop for IndexTable {
     fn drop(self) {
         let IndexTable { row: _, others: _ } = self;
@@ -61,9 +61,9 @@ impl IndexTable {
         }
     }
 
-    /// Declares an index and returns its position from 0, or `Duplicate` where it is declared
-    /// already. A refused index, also one for which there is no memory, leaves the table as it was.
-    /// Fewer than 2^32 - 1 indexes must be in the table.
+    /// Declares an index and returns its position, counted from 0, or `Duplicate` if it is declared
+    /// already. After an error, including out of memory, the table is unchanged. The table must contain
+    /// fewer than 2^32 - 1 indexes.
     pub fn add(&mut self, index: u32) -> Result<u32, AddFault>
         requires { length self.old < 2 ^ 32 - 1 }
         ensures last { IfOk result (λ place. place ≡ length self.old) }
@@ -87,7 +87,7 @@ impl IndexTable {
         Ok(self.row.len() + place)
     }
 
-    /// The position of an index, from 0, and `None` where it is not declared. Does not allocate.
+    /// The position of an index, counted from 0, or `None` if it is not declared. Does not allocate.
     #[inline]
     pub fn position(&self, index: u32) -> Option<u32>
         ensures declared { IsSome result ↔ Contains self.now index }

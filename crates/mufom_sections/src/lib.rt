@@ -1,10 +1,10 @@
 //! The sections of a module, and the table of the indexes that a file gives to its entries.
 //!
-//! A file names its entries by indexes of its own choice, and in memory each entry goes by its
-//! position. An [`IndexTable`] keeps the indexes in the order of their declarations, each once, and
-//! finds the position of one, in time by the logarithm of their count. It depends on `mufom_numbers`
-//! and `thiserror`. Its main clause is that [`IndexTable::position`] returns where an index stands
-//! in the list of those that [`IndexTable::add`] took, and nothing for any other.
+//! A file names its entries by indexes of its own choice; in memory each entry is named by its position.
+//! An [`IndexTable`] keeps the indexes in the order of their declarations, each once, and finds the
+//! position of an index in time logarithmic in their count. The crate depends on `mufom_numbers` and
+//! `thiserror`. Its main clause is that [`IndexTable::position`] returns the position of an index in the
+//! list of those that [`IndexTable::add`] accepted, and `None` for any other index.
 #![tactic(auto)]
 
 mod index_table;

@@ -5,8 +5,8 @@ ghost use Rattle.std.specs.List.{list_any};
 
 use std::marker::Model;
 
-/// Indexes of which each is one more than the one before, kept as the first and their count. Contracts
-/// see it as the list of these indexes.
+/// Consecutive indexes, each one more than the one before, kept as the first index and their count.
+/// Contracts see the list of these indexes.
 #[derive(Debug, Drop)]
 pub(crate) struct Row {
     first: u32,
@@ -25,7 +25,7 @@ impl Model for Row {
 }
 
 impl Row {
-    /// A row without indexes.
+    /// An empty row.
     pub(crate) fn new() -> Row
         ensures { result ≡ [] }
     {
@@ -39,8 +39,8 @@ impl Row {
         self.count
     }
 
-    /// The row with one more index at its end, and `None` where the index does not continue the row.
-    /// Any index continues the empty row. Fewer than 2^32 - 1 indexes must be in the row.
+    /// The row with one more index at its end, or `None` if the index does not continue the row. Any
+    /// index continues the empty row. The row must contain fewer than 2^32 - 1 indexes.
     pub(crate) fn followed_by(&self, index: u32) -> Option<Row>
         requires { length self.now < 2 ^ 32 - 1 }
         ensures longer { IfSome result (λ row. row ≡ self.now ++ index ∷ []) }
@@ -62,7 +62,7 @@ impl Row {
         })
     }
 
-    /// The position of an index, from 0, and `None` where it is not in the row.
+    /// The position of an index, counted from 0, or `None` if it is not in the row.
     pub(crate) fn position(&self, index: u32) -> Option<u32>
         ensures { result ≡ position (nat_eq index) self.now }
     {

@@ -8,13 +8,13 @@ use std::alloc::Global;
 use std::collections::BTreeMap;
 use std::marker::Model;
 
-/// Indexes in the order of their declarations, whatever they are, each found in an ordered map. So
-/// the time of each call goes by the logarithm of their count, also where somebody chose them to
-/// make it long. Contracts see the list of the indexes.
+/// Any indexes, in the order of their declarations, with an ordered map that finds their positions. So
+/// each call takes time logarithmic in their count, even if the indexes were chosen to slow it down.
+/// Contracts see the list of the indexes.
 #[derive(Debug)]
 pub(crate) struct Scattered {
     indexes: Vec<u32>,
-    // The position of each of them.
+    // The position of each index.
     positions: BTreeMap<u32, u32>,
 }
 
@@ -30,7 +30,7 @@ impl Model for Scattered {
     ghost invariant = { λ scattered. (k : ℕ) → get nat_cmp scattered.positions k ≡ position (nat_eq k) scattered.indexes.items };
 }
 
-// Written out so that whoever drops one makes one call: see "Drops" in docs/ARCHITECTURE.md.
+// Written out so that each drop is one call: see "Drops" in docs/ARCHITECTURE.md.
 impl Drop for Scattered {
     fn drop(self) {
         let Scattered {
@@ -41,7 +41,7 @@ impl Drop for Scattered {
 }
 
 impl Scattered {
-    /// No indexes. Does not allocate.
+    /// A table without indexes. Does not allocate.
     pub(crate) fn new(alloc: Global) -> Scattered
         ensures { result ≡ [] }
     {
@@ -51,15 +51,15 @@ impl Scattered {
         }
     }
 
-    /// Whether there is no index.
+    /// Whether there are no indexes.
     pub(crate) fn is_empty(&self) -> bool
         ensures { result ≡ (length self.now == 0) }
     {
         self.indexes.is_empty()
     }
 
-    /// Adds an index that isn't there yet, and returns its position. Where there is no memory for it,
-    /// the indexes stay as they were.
+    /// Adds an index that isn't there yet, and returns its position. If memory runs out, the indexes stay
+    /// as they were.
     pub(crate) fn add(&mut self, index: u32) -> Result<u32, NoMemory>
         requires few { length self.old < 2 ^ 32 - 1 }
         requires new { list_any (nat_eq index) self.old ≡ false }
@@ -78,7 +78,7 @@ impl Scattered {
         }
     }
 
-    /// The position of an index, from 0, and `None` where it isn't there. Does not allocate.
+    /// The position of an index, counted from 0, or `None` if it isn't there. Does not allocate.
     pub(crate) fn position(&self, index: u32) -> Option<u32>
         ensures { result ≡ position (nat_eq index) self.now }
     {

@@ -15,13 +15,13 @@ pub enum Purpose {
 #[derive(Debug, Drop)]
 pub struct Section {
     pub name: Bytes,
-    /// Its letters are `A S` and not `C`.
+    /// Whether it is an absolute section: its letters are `A S` and not `C`.
     pub absolute: bool,
     pub purpose: Option<Purpose>,
-    /// In addressable units.
+    /// The size in minimum addressable units (MAUs).
     pub size: u64,
-    /// A placed base is a multiple of it, in addressable units.
+    /// The alignment in MAUs: a base that is placed is a multiple of it.
     pub align: u64,
-    /// The address of its first addressable unit, where the module gives one.
+    /// The address of its first MAU, if the module gives one.
     pub base: Option<u64>,
 }

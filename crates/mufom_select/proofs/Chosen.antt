@@ -64,7 +64,7 @@ in-numbers (x ∷ xs) n e = by_case (nat_eq x n) refl e (λ used. in-numbers xs 
 
 -- ---- the positions of the marks
 
--- the number is the position of a true mark, where the first mark has the position n
+-- the number is the position of a true mark, if the first mark has the position n
 record MarkedAt (n : ℕ) (marks : List Bool) (k : ℕ) : Type 0 where
   pub offset : ℕ
   pub is : k ≡ n + offset
@@ -146,7 +146,7 @@ module _ (ms members : List Parts) (chosen : List ℕ) where
   one-needed false None h = tt
   one-needed false (Some n) h = (h, tt)
 
-  -- where all that references need is chosen, their names are provided
+  -- if all that references need is chosen, their names are provided
   pub needed-provided : (rs : List Reference) → AllByRecursion Has (needed_by ms members rs) → provided rs ≡ true
   needed-provided [] h = refl
   needed-provided (r ∷ rs) h = by_case (is_strong r) h (λ used. needed-provided rs used) where
@@ -160,7 +160,7 @@ module _ (ms members : List Parts) (chosen : List ℕ) where
         (rest (All-right Has its (needed_by ms members rs) h))
     by_case false h rest = rest h
 
-  -- and where their names are provided, all that they need is chosen
+  -- and if their names are provided, all that they need is chosen
   pub provided-needed : (rs : List Reference) → provided rs ≡ true → AllByRecursion Has (needed_by ms members rs)
   provided-needed [] h = tt
   provided-needed (r ∷ rs) h = by_case (is_strong r) h (λ used. provided-needed rs used) where
@@ -260,7 +260,7 @@ module _ (ms members : List Parts) (c : Choice) (u : IsUnderway ms members (leng
       let at = u.one.ordered n its in
       in-numbers other n (All-at (λ k. has_number other k ≡ true) c.order at.0 n (u.least (has_number other) (passes other h)) at.1)
 
-  -- where all members of the order were looked at, the marked members are the least closed choice
+  -- if all members of the order were looked at, the marked members are the least closed choice
   pub chosen-selected : IsSelected ms members (positions_from 0 c.marks)
   chosen-selected = record { increasing = rises 0 c.marks; closed = closed; least = least }
 
@@ -271,7 +271,7 @@ provided-alone ms [] = refl
 provided-alone ms (name ∷ names) = and-both (is_provided ms [] [] name) (list_all (is_provided ms [] []) names)
     (or-right (has_name (public_names ms) name) true refl) (provided-alone ms names)
 
--- where there is no member none is selected
+-- if there is no member, none is selected
 pub none-selected : (ms members : List Parts) (ns : List ℕ) → length members ≡ 0 → ns ≡ [] → IsSelected ms members ns
 none-selected ms (m ∷ members) ns none is = absurd (omega (arith, none))
 none-selected ms [] ns none is = subst (λ (l : List ℕ). IsSelected ms [] l) (sym is) (record {

@@ -130,7 +130,7 @@ begun roots members c s = record {
     all : (test : ℕ → Bool) → AllByRecursion (λ k. test k ≡ true) ns → StepsTo (length members) test c ns (with_members c ns)
     all test t = steps (length members) test c ns (start-one (length members) c s) (needed-within (roots ∷ []) members roots.names.references) t
 
--- Where the number of those looked at is no less than that of the order, all of it was looked at.
+-- If at least as many members were looked at as the order has, all of it was looked at.
 pub all-done : (roots members : List Parts) (place : ℕ) (c : Choice) → IsUnderway roots members place c → length c.order ≤ place
     → IsUnderway roots members (length c.order) c
 all-done roots members place c u past = record {
@@ -145,6 +145,6 @@ past-end [] i e = omega arith
 past-end (x ∷ xs) zero e = absurd (true≢false (ap (λ o. is_some o) e))
 past-end (x ∷ xs) (suc i) e = let rest = past-end xs i e in omega (arith, rest)
 
--- the order is no longer than the list of members
+-- the order is at most as long as the list of members
 pub order-within : (size : ℕ) (c : Choice) → AreOne size c → length c.order ≤ size
 order-within size c one = let a = one.counted in let b = count-le c.marks in let s = one.sized in omega (arith, a, b, s)

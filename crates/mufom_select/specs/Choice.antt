@@ -23,7 +23,7 @@ with_providers entries n (member ∷ members) = with_providers (with_publics ent
 abbrev pub needed : List Parts → List Parts → List ℕ → Option ℕ
 needed ms members name = if has_name (public_names ms) name then None else provider members name
 
--- the same for a reference, where it is strong
+-- the same for a reference, if it is strong
 abbrev pub needed_for : List Parts → List Parts → Reference → Option ℕ
 needed_for ms members reference = if is_strong reference then needed ms members reference.name else None
 
@@ -56,7 +56,7 @@ choice marks order = record { marks = marks; order = order }
 abbrev pub is_marked : List Bool → ℕ → Bool
 is_marked marks n = get_or marks n false
 
--- one member more, where it is not marked yet
+-- one member more, if it is not marked yet
 abbrev pub with_member : Choice → ℕ → Choice
 with_member c n = if is_marked c.marks n then c else record { marks = set c.marks n true; order = c.order ++ n ∷ [] }
 
@@ -65,7 +65,7 @@ abbrev pub with_members : Choice → List ℕ → Choice
 with_members c [] = c
 with_members c (n ∷ ns) = with_members (with_member c n) ns
 
--- the positions of the marked members, where the first mark has the position n
+-- the positions of the marked members, if the first mark has the position n
 abbrev pub positions_from : ℕ → List Bool → List ℕ
 positions_from n [] = []
 positions_from n (true ∷ marks) = n ∷ positions_from (suc n) marks

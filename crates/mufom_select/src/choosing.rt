@@ -38,7 +38,7 @@ fn mark(member: u32, marks: &mut [bool], order: &mut List<u32>) -> Result<(), No
     Ok(())
 }
 
-// Marks the member that the reference needs, where it needs one.
+// Marks the member that the reference needs, if it needs one.
 fn mark_needed(
     needed: Option<u32>,
     marks: &mut [bool],
@@ -118,8 +118,8 @@ fn choose_all(
 
 /// The positions, in increasing order, of the members that are selected for the roots.
 ///
-/// A member is selected where it is the first that defines a name which a strong reference of the
-/// roots or of a selected member has and which the roots do not define. The time is proportional to
+/// A member is selected if it is the first that defines a name which a strong reference of the
+/// roots or of a selected member has, and which the roots do not define. The time is proportional to
 /// the number of all names, expected; without members no name is looked at. There must be fewer than
 /// 2^32 members.
 pub fn select(alloc: Global, roots: &Module, members: &[Module]) -> Result<List<u32>, NoMemory>

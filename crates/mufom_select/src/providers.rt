@@ -35,7 +35,7 @@ pub(crate) fn defined<'a>(alloc: Global, roots: &'a Module) -> Result<NameIndex<
     Ok(index)
 }
 
-// How many publics the modules have, or the largest number where there are more.
+// How many publics the modules have, or the largest number if there are more.
 fn public_count(modules: &[Module]) -> usize
     ensures { result ≡ min (length (public_names modules.now)) usize.MAX }
 {

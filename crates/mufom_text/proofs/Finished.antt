@@ -9,7 +9,7 @@ use Rattle.mufom_text.specs.Chains.{Puts-joins}
 pub moved : {S : Type 0} (P : S → Type 0) (now last : S) → last ≡ now → P now → P last
 moved P now last same p = subst P (sym same) p
 
--- where nothing was held and nothing is held, the output grew by the text, or by a prefix of it
+-- if nothing was held and nothing is held, the output grew by the text, or by a prefix of it
 grown : (a c : Meaning) (f h : Faults) (keeps text : List ℕ) (has : Bool) (r : Result (Unit {0}) Failed) → is_err r ≡ has → (has ≡ false → keeps ≡ [])
     → Adds a c f h [] keeps false has text → Grows a.out c.out r text
 grown a c f h keeps text true (Ok done) answer empty added = absurd cc

@@ -36,7 +36,7 @@ two_takes_two and_bits = refl
 two_takes_two or_bits = refl
 two_takes_two xor_bits = refl
 
--- lists that end with one item each are equal where their items and the lists before them are
+-- lists that end with one item each are equal if their items and the lists before them are
 snoc_same : {X : Type 0} (xs ys : List X) (x y : X) → xs ++ x ∷ [] ≡ ys ++ y ∷ [] → (xs ≡ ys) × (x ≡ y)
 snoc_same [] [] x y e = (refl, cc)
 snoc_same [] (b ∷ []) x y e = absurd cc
@@ -49,7 +49,7 @@ snoc_same (a ∷ xs) (b ∷ ys) x y e =
     let rest = snoc_same xs ys x y after in
     ((λ i. first i ∷ rest.0 i), rest.1)
 
--- a token that is no function ends a tree of one token
+-- a token that is not a function ends a tree of one token
 pub plain_end : (prefix : List Token) (tree : Tree) (before : List Token) (last : Token) → ((function : Function) → last ≡ token.Fun function → ⊥)
     → before ++ last ∷ [] ≡ prefix ++ tokens_of tree
     → (before ≡ prefix) × (tokens_of tree ≡ last ∷ [])
@@ -67,7 +67,7 @@ plain_end prefix (two f a b) before last plain e =
 same_function : (f g : Function) → token.Fun f ≡ token.Fun g → f ≡ g
 same_function f g e = cc
 
--- the tree that a function of one operand ends, and what stands before it
+-- the tree that a function of one operand ends, and what is before it
 pub record Operand (prefix : List Token) (tree : Tree) (before : List Token) (function : Function) : Type 0 where
   pub f : OneOperand
   pub a : Tree
@@ -75,7 +75,7 @@ pub record Operand (prefix : List Token) (tree : Tree) (before : List Token) (fu
   pub function_is : function ≡ function_of_one f
   pub split : before ≡ prefix ++ tokens_of a
 
--- the tree that a function of two operands ends, and what stands before it
+-- the tree that a function of two operands ends, and what is before it
 pub record Operands (prefix : List Token) (tree : Tree) (before : List Token) (function : Function) : Type 0 where
   pub f : TwoOperands
   pub a : Tree
@@ -247,6 +247,6 @@ pub over_two_form : (operands : List Token) (second : ℕ) (function : Function)
 over_two_form operands second function tree p = ap infix_text p.is
     ∙ ap (λ f. (((opening_text f ++ infix_text p.a) ++ middle_text f) ++ infix_text p.b) ++ codes ")") (sym p.function_is)
 
--- all that stands from a place on
+-- all that is from a place on
 pub all_after : (tokens : List Token) (n : ℕ) → take (length tokens - n) (drop n tokens) ≡ drop n tokens
 all_after tokens n = let count = length-drop n tokens in take_all (length tokens - n) (drop n tokens) (omega (arith, count))

@@ -43,7 +43,7 @@ odd_bytes = refl
 no_bytes : item_text (items.Literal []) ≡ codes "bytes 0"
 no_bytes = refl
 
--- a block in a block: names count through all of them, and an end stands as deep as its begin
+-- a block in a block: names count through all of them, and an end is as deep as its start
 blocks : mark_lines 0 0 (block_begin heads.Module (0x6D ∷ []) ∷ name_mark (0x61 ∷ []) ∷ block_begin (heads.Local 1 2 (variable letters.R 0))
     (0x66 ∷ []) ∷ name_mark (0x62 ∷ [])
     ∷ value_mark 1 (two minus (number 9) (number 4)) ∷ block_end (Some (number 7)) ∷ block_end None ∷ name_mark (0x63 ∷ []) ∷ [])

@@ -73,7 +73,7 @@ mark_names (value_mark name value) = []
 abbrev pub names_of : List DebugMark → List (List ℕ)
 names_of marks = flat_map mark_names marks
 
--- what a debug address is: the begin or the end of a block, with the number of its kind and its name, or the value of a name
+-- what a debug address is: the start or the end of a block, with the number of its kind and its name, or the value of a name
 pub data Role : Type 0 where
   begin_of : (kind : ℕ) → (name : List ℕ) → Role
   end_of : (kind : ℕ) → (name : List ℕ) → Role
@@ -91,7 +91,7 @@ role_text (value_of name) = codes " name " ++ quoted name
 abbrev pub Address : Type 0
 Address = ℕ × Role
 
--- the address that an expression is, where there is one
+-- the address that an expression is, if there is one
 abbrev pub address_in : Role → Option Tree → List Address
 address_in role None = []
 address_in role (Some t) = (number_of t, role) ∷ []
@@ -108,7 +108,7 @@ item_addresses names (DebugItem-F.Name name) = []
 item_addresses names (DebugItem-F.Note name note) = []
 item_addresses names (DebugItem-F.Value name value) = (number_of value, value_of (unwrap_or (slice_get names name) [])) ∷ []
 
--- the addresses of an item: of a block that of its begin, those of its items, and that of its end
+-- the addresses of an item: for a block that of its start, those of its items, and that of its end
 abbrev pub addresses_of_item : List (List ℕ) → DebugItem → List Address
 addresses_of_item names = fold-DebugItem (List Address) (List Address) (item_addresses names) block_addresses
 

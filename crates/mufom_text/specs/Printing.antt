@@ -6,8 +6,8 @@ use Rattle.mufom_host.specs.World.{Meaning, Faults, GrowsBy, GrowsByPrefix, Keep
 abbrev pub HoldsOn : Option (List ℕ) → Option (List ℕ) → List ℕ → List ℕ → List ℕ → Type 0
 HoldsOn before after held holds text = (printed : List ℕ) × GrowsBy before after printed × (printed ++ holds ≡ held ++ text)
 
--- What becomes of text on a page that held these bytes and holds those, by whether a print had failed, and has: where none
--- has it is printed or held; where one fails a prefix of all is printed; where one had failed nothing is.
+-- What becomes of text on a page that held these bytes and holds those, by whether a print had failed, and has: if none
+-- has, it is printed or held; if one fails, a prefix of all is printed; if one had failed, nothing is.
 abbrev pub Adds : Meaning → Meaning → Faults → Faults → List ℕ → List ℕ → Bool → Bool → List ℕ → Type 0
 Adds old new before now held holds false false text = HoldsOn old.out new.out held holds text
 Adds old new before now held holds false true text = GrowsByPrefix old.out new.out (held ++ text) × Rose before.writes now.writes

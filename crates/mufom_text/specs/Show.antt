@@ -41,7 +41,7 @@ abbrev pub raw_text : TextForm → List ℕ → Text
 raw_text Summary bytes = decimal (length bytes) ++ codes " bytes"
 raw_text Listing bytes = hex_bytes bytes
 
--- the line of a part that is not read, where it has bytes
+-- the line of a part that is not read, if it has bytes
 abbrev pub raw_line : TextForm → Text → List ℕ → Text
 raw_line form name [] = []
 raw_line form name (b ∷ bytes) = line (name ++ codes " " ++ raw_text form (b ∷ bytes))

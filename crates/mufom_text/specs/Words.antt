@@ -12,7 +12,7 @@ Text = List ℕ
 abbrev pub line : Text → Text
 line text = text ++ 10 ∷ []
 
--- bytes 20 to 7E but for the quote and the backslash
+-- bytes 20 to 7E, except the quote and the backslash
 abbrev pub stands_for_itself : ℕ → Bool
 stands_for_itself b = nat_le 0x20 b && (nat_le b 0x7E && (not (b == 0x22) && not (b == 0x5C)))
 

@@ -10,14 +10,14 @@ use mufom_expr::{Postfix, Token};
 use mufom_numbers::NoMemory;
 use std::alloc::Global;
 
-/// What a debug address is the address of. A block goes by the number of its kind and its name.
+/// What a debug address is the address of. A block is given by the number of its kind and its name.
 #[derive(Clone, Copy)]
 pub(crate) enum Role<'a> {
-    /// The begin of a block.
+    /// The start of a block.
     Begin { kind: u8, name: &'a [u8] },
     /// The end of a block.
     End { kind: u8, name: &'a [u8] },
-    /// A name, whose value it is.
+    /// A name: the address is its value.
     Value { name: &'a [u8] },
 }
 
@@ -71,7 +71,7 @@ fn push_names<'a>(items: &'a [DebugItem], names: &mut Vec<&'a [u8]>) -> Result<(
     Ok(())
 }
 
-// The name at a position; no bytes where there is none.
+// The name at a position; no bytes if there is none.
 fn name_at<'a>(names: &[&'a [u8]], position: u32) -> &'a [u8]
     ensures { result.now ≡ unwrap_or (slice_get (map (λ name. name.now) names.now) position) [] }
 {
@@ -83,7 +83,7 @@ fn name_at<'a>(names: &[&'a [u8]], position: u32) -> &'a [u8]
 
 // ---- addresses
 
-// Appends the address that an expression is, where there is one.
+// Appends the address that an expression is, if there is one.
 fn push_address<'a>(
     expression: Option<&Postfix>,
     role: Role<'a>,
@@ -130,7 +130,7 @@ fn push_value<'a>(
     push_address(Some(value), Role::Value { name }, addresses)
 }
 
-// Appends the addresses of an item, where these are the names of the module.
+// Appends the addresses of an item, given the names of the module.
 #[cycle(addressing)]
 fn push_addresses_in<'a>(
     names: &[&'a [u8]],
@@ -169,8 +169,8 @@ fn push_addresses<'a>(
     Ok(())
 }
 
-/// The debug addresses of located items, in the order of the file: of a block its begin, those of its
-/// items, then its end. A block without an expression for its begin or end has none there.
+/// The debug addresses of located items, in the order of the file: for a block its start, those of its
+/// items, and then its end. A block without an expression for its start or end has no address there.
 pub(crate) fn debug_addresses(
     alloc: Global,
     items: &[DebugItem],

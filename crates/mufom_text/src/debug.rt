@@ -90,7 +90,7 @@ fn end_text<K: Output>(out: &mut K, end: &Option<Postfix>)
     }
 }
 
-// The line of the end of a block, which is indented as its begin is.
+// The line of the end of a block, which is indented as its start is.
 fn end_line<K: Output>(out: &mut K, depth: u32, end: &Option<Postfix>)
     ensures { K.takes out.old out.new (line (indent depth ++ end_text end.now)) }
 {

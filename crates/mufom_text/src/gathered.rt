@@ -38,7 +38,7 @@ impl Gathered {
         }
     }
 
-    /// All text that was put, or out of memory where some of it is missing.
+    /// All text that was put, or out of memory if some of it is missing.
     pub(crate) fn into_bytes(self) -> Result<Bytes, NoMemory>
         ensures { IfOk result (λ text. (self.is_cut_off ≡ false) × (text ≡ self.text.items)) }
     {

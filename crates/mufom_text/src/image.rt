@@ -103,7 +103,7 @@ fn start_line<K: Output>(out: &mut K, maus: u8, at: u64)
     out.put(b"\n");
 }
 
-/// The line of the start, where there is one.
+/// The line of the start, if there is one.
 pub(crate) fn located_start<K: Output>(out: &mut K, maus: u8, start: Option<u64>)
     requires { IsUnitCount maus }
     ensures { K.takes out.old out.new (start_text maus start) }

@@ -43,8 +43,8 @@ impl<'a> Lines for Image<'a> {
 /// Prints the text of a located image, in chunks of about 65,536 bytes, the last of which may be shorter: a line for each
 /// 16 addresses with loaded bytes, the start, each public, and each debug address.
 ///
-/// `NoMemory` comes before anything is printed. `Fault` comes only where a print failed and the
-/// count of such faults rose; a prefix of the text may then be printed.
+/// `NoMemory` is returned before anything is printed. `Fault` is returned only if a print failed
+/// and the count of failed prints rose; a prefix of the text may then be printed.
 pub fn print_image<H: Host>(alloc: Global, host: &mut H, located: &Located) -> Result<(), PrintStop>
     ensures done { OnOk result (GrowsBy (H.meaning host.old).out (H.meaning host.new).out (image_text located.now)) }
     ensures fault { result ≡ Err PrintStop.Fault

@@ -18,7 +18,7 @@ fn takes_one(function: Function) -> bool
     matches!(function, Function::Abs | Function::Neg)
 }
 
-// Where the operands begin of a function after these tokens.
+// The position at which the operands of a function after these tokens begin.
 #[cycle(terms)]
 fn operands_begin(before: &[Token], function: Function) -> usize
     requires known { EndsWithTerm (before.now ++ Token.Fun function ∷ []) }

@@ -5,9 +5,9 @@
 //! It depends on the crates of a module's entries, `mufom_module`, `mufom_host`, `mufom_meaning` and `mufom_located` for what
 //! a location is, `itoa`, `hex` and `thiserror`. All lines are put by functions over one
 //! trait, and a page of a fixed size implements it: the text goes through the page to a host, so that
-//! no text is held whole but by [`text_bytes`]. Its main clauses are those of [`print_text`] and
-//! [`print_image`]: the output grows by exactly the text, or a print failed, its count of faults rose,
-//! and the output grew by a prefix of that text.
+//! only [`text_bytes`] holds a whole text. Its main clauses are those of [`print_text`] and
+//! [`print_image`]: the output grows by exactly the text, or a print failed, the count of failed
+//! prints rose, and the output grew by a prefix of that text.
 #![tactic(auto)]
 
 mod addresses;

@@ -151,7 +151,7 @@ fn start_text<K: Output>(out: &mut K, value: &Postfix)
     out.put(b"\n");
 }
 
-/// The line of the start address, where there is one.
+/// The line of the start address, if there is one.
 pub(crate) fn start<K: Output>(out: &mut K, start: &Option<Postfix>)
     ensures { K.takes out.old out.new (start_line start.now) }
 {

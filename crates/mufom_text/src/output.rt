@@ -2,10 +2,10 @@
 
 ghost use Rattle.std.specs.Prelude.{◌≡◌, ℕ, List, [], ◌++◌};
 
-/// Where text goes. Once a part of the text is lost, no more is added; the owner of the output learns of it
+/// A destination for text. Once a part of the text is lost, no more is added; the owner of the output learns of it
 /// at the end.
 pub trait Output {
-    /// What is before and after text that is put.
+    /// How putting text changes the output.
     ghost takes: { Self → Self → List ℕ → Type 0 };
 
     /// Adds the text.

@@ -13,7 +13,7 @@ use std::alloc::Global;
 // How many bytes a page holds.
 const SIZE: usize = 65_536;
 
-/// A page of text for a host. It holds at most 65,536 bytes, and prints what it holds once more come.
+/// A page of text for a host. It holds at most 65,536 bytes, and prints them when more come.
 #[derive(Drop)]
 pub(crate) struct Page<'a, H: Host> {
     host: &'a mut H,
@@ -85,7 +85,7 @@ impl<'a, H: Host> Page<'a, H> {
         self.used += text.len();
     }
 
-    // Prints text at once, where nothing is held.
+    // Prints text at once, when nothing is held.
     fn print(&mut self, text: &[u8])
         requires fine { self.old.has_failed ≡ false }
         requires empty { self.old.used ≡ 0 }
@@ -100,7 +100,7 @@ impl<'a, H: Host> Page<'a, H> {
         }
     }
 
-    // Puts text where nothing is held, or a print has failed.
+    // Puts text when nothing is held, or a print has failed.
     fn begin(&mut self, text: &[u8])
         requires empty { self.old.has_failed ≡ false → self.old.used ≡ 0 }
         ensures same { self.new.host.ghost_name ≡ self.old.host.ghost_name }
@@ -133,7 +133,7 @@ impl<'a, H: Host> Page<'a, H> {
         }
     }
 
-    /// Prints what is still held. `Failed` comes where a print failed.
+    /// Prints what is still held. Returns `Failed` if a print failed.
     pub(crate) fn finish(&mut self) -> Result<(), Failed>
         ensures same { self.new.host.ghost_name ≡ self.old.host.ghost_name }
         ensures empty { self.new.has_failed ≡ false → self.new.used ≡ 0 }
@@ -146,7 +146,7 @@ impl<'a, H: Host> Page<'a, H> {
         if self.has_failed { Err(Failed) } else { Ok(()) }
     }
 
-    /// The host, given back.
+    /// Returns the host.
     pub(crate) fn into_host(self) -> &'a mut H
         ensures same { result.ghost_name ≡ self.entry.host.ghost_name }
         ensures now { result.now ≡ self.entry.host.now }

@@ -10,7 +10,7 @@ use mufom_host::{Failed, Host};
 use std::alloc::Global;
 use thiserror::Error;
 
-/// Why a text is not printed.
+/// The error of printing a text.
 #[derive(Clone, Copy, Debug, PartialEq, Eq, Error)]
 pub enum PrintStop {
     /// A print failed, and was counted.
@@ -21,7 +21,7 @@ pub enum PrintStop {
     NoMemory,
 }
 
-/// What has a text of lines.
+/// A value whose text is a list of lines.
 pub trait Lines {
     /// All its lines.
     ghost text: { Self → List ℕ };
@@ -57,8 +57,8 @@ fn print_all<H: Host, T: Lines>(room: Vec<u8>, host: &mut H, lines: &T) -> Resul
 
 /// Prints the lines, in chunks of about 65,536 bytes, the last of which may be shorter.
 ///
-/// `NoMemory` comes before anything is printed. `Fault` comes only where a print failed and the
-/// count of such faults rose; a prefix of the text may then be printed.
+/// `NoMemory` is returned before anything is printed. `Fault` is returned only if a print failed
+/// and the count of failed prints rose; a prefix of the text may then be printed.
 pub fn print_lines<H: Host, T: Lines>(
     alloc: Global,
     host: &mut H,

@@ -62,7 +62,7 @@ fn some_raw<K: Output>(out: &mut K, form: TextForm, name: &[u8], bytes: &[u8])
     out.put(b"\n");
 }
 
-/// The line of a part that is not read, where it has bytes.
+/// The line of a part that is not read, if it has bytes.
 pub(crate) fn raw_line<K: Output>(out: &mut K, form: TextForm, name: &[u8], bytes: &[u8])
     ensures { K.takes out.old out.new (raw_line form name.now bytes.now) }
 {

@@ -63,7 +63,7 @@ pub(crate) fn hex_bytes<K: Output>(out: &mut K, bytes: &[u8])
     }
 }
 
-// A byte that is not for itself.
+// A byte that is not printed as it is.
 fn escaped_byte<K: Output>(out: &mut K, byte: u8)
     ensures { K.takes out.old out.new (0x5C ∷ 0x78 ∷ encode_upper (byte ∷ [])) }
 {
@@ -89,7 +89,7 @@ fn quoted_bytes<K: Output>(out: &mut K, bytes: &[u8])
     }
 }
 
-/// A name in double quotes: a byte that is not for itself is a backslash, `x` and two digits.
+/// A name in double quotes: a byte that is not printed as it is becomes a backslash, `x` and two digits.
 pub fn quoted<K: Output>(out: &mut K, name: &[u8])
     ensures { K.takes out.old out.new (quoted name.now) }
 {

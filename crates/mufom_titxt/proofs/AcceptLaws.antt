@@ -72,7 +72,7 @@ before_end modulus count next (Some end_line ∷ lines) e =
     let r = after_end modulus (suc count) next lines e in
     record { inner = []; blanks = r.0; stated = ap (λ (l : List (Option Line)). Some end_line ∷ l) r.1; inside = tt; given = r.2 }
 
--- no address has two bytes where none gets a second one
+-- no address has two bytes if none gets a second one
 none_twice : (places : List Place) (taken : List ℕ) → first_second taken places ≡ None → first_twice taken (map (λ (place : Place). place.1) places) ≡ None
 none_twice [] taken e = refl
 none_twice (place ∷ places) taken e = by_case (none_twice places (place.1 ∷ taken)) (has_number taken place.1) e where

@@ -141,7 +141,7 @@ pub runs_low : (width : ℕ) (runs : List Run) → EndBelow width runs → All (
 runs_low width [] below = All-nil (λ (a : ℕ). a < 2 ^ width)
 runs_low width (run ∷ runs) below = cells_low width run.address run.bytes (run_cells runs) below.0 (runs_low width runs below.1)
 
--- rising addresses stand once
+-- rising addresses occur once
 rising_once : (from : ℕ) (cells : List Cell) (earlier : List ℕ) → AreRising from cells → ((m : ℕ) → from ≤ m → has_number earlier m ≡ false)
     → first_twice earlier (cell_addresses cells) ≡ None
 rising_once from [] earlier h none = refl

@@ -24,7 +24,7 @@ bytes_found (word ∷ words) bytes e = by_byte (bytes_found words) (byte_of word
   by_byte later None first e = absurd (cc e)
   by_byte later (Some n) first e = by_rest later n first (bytes_of words) refl e
 
--- the line of an address is no line with bytes
+-- the line of an address is not a line with bytes
 not_address : (words : List (List ℕ)) (o : Option ℕ) → shape_of (alone words (option_map address_line o)) ≡ Bytes → ⊥
 not_address [] None h = cc h
 not_address [] (Some a) h = cc h

@@ -98,7 +98,7 @@ second_line-line a modulus count s left text line rest watched hits n all is-lef
       λ few none. second_line-more a count n all s stop places few none here,
     )
 
--- what is no fault
+-- what is not an error
 pub none_of : (o : Option TxtReason) → is_some o ≡ false → o ≡ None
 none_of None e = refl
 none_of (Some reason) e = absurd (cc e)

@@ -32,11 +32,11 @@ return_absent (b ∷ []) (suc n) e h = absurd (omega (arith, e))
 return_absent (b ∷ c ∷ bytes) zero e h = absurd (omega (arith, e))
 return_absent (b ∷ c ∷ bytes) (suc n) e h = ap (λ t. b ∷ t) (return_absent (c ∷ bytes) n (omega (arith, e)) h)
 
--- where nothing passes, all is one piece
+-- if nothing passes, all is one piece
 pub split_whole : (p : ℕ → Bool) (xs : List ℕ) → position_or_len p xs ≡ length xs → slice_split p xs ≡ xs ∷ []
 split_whole p xs e = slice_split_none p xs (All-from_get_or (λ x. p x ≡ false) xs 0 (λ i h. fails_before_first p xs i 0 (rw e h)))
 
--- what is no line feed
+-- what is not a line feed
 fed_not : (text : List ℕ) (k : ℕ) → (Passes (is_byte 10) text k → ⊥) → (get_or text k 0 == 10) ≡ false
 fed_not text k none = by_test (get_or text k 0 == 10) refl where
   by_test : (t : Bool) → (get_or text k 0 == 10) ≡ t → t ≡ false
@@ -50,7 +50,7 @@ feed_at text n before passes =
     let high = before.high in
     position_or_len_is (λ b. b == 10) text n 0 (omega (arith, high)) (λ k less. fed_not text k (before.before k (omega arith) less)) (λ less. passes)
 
--- and where it finds none
+-- and if it finds none
 pub feed_none : (text : List ℕ) → Nowhere (Passes (is_byte 10) text) 0 (length text) → position_or_len (λ b. b == 10) text ≡ length text
 feed_none text nowhere =
     position_or_len_is (λ b. b == 10) text (length text) 0 (omega arith) (λ k less. fed_not text k (nowhere k (omega arith) less))
@@ -102,7 +102,7 @@ pub word_begins : (rest : List ℕ) → 0 < length rest → begins_with_space re
 word_begins [] some other = absurd (omega (arith, some))
 word_begins (b ∷ more) some other = word_some b more other
 
--- where a space ends the first word
+-- if a space ends the first word
 pub words_to_space : (rest : List ℕ) → 0 < position_or_len (λ c. c == 32) rest → position_or_len (λ c. c == 32) rest < length rest
     → words_of rest ≡ take (position_or_len (λ c. c == 32) rest) rest ∷ words_of (drop (position_or_len (λ c. c == 32) rest) rest)
 words_to_space rest some within =
@@ -115,7 +115,7 @@ words_to_space rest some within =
     ∙ (piece_first n rest (slice_split p (after_first p rest)) some (omega arith)
     ∙ (ap (λ k. take n rest ∷ words_of (drop k rest)) (add-one n) ∙ ap (λ ws. take n rest ∷ ws) (sym words)))
 
--- where the line ends with it
+-- if the line ends with it
 words_to_end : (rest : List ℕ) → 0 < length rest → position_or_len (λ c. c == 32) rest ≡ length rest → words_of rest ≡ rest ∷ []
 words_to_end [] some e = absurd (omega (arith, some))
 words_to_end (b ∷ more) some e = ap (filter has_bytes) (split_whole (λ c. c == 32) (b ∷ more) e)

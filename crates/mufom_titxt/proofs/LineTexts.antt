@@ -119,7 +119,7 @@ row_states (b ∷ row) some h =
 
 -- ---- the rows of a run
 
--- bytes in rows, of which `count` were before them: a row has 16, the last one fewer where needed
+-- bytes in rows, of which `count` were before them: a row has 16, the last one fewer if needed
 abbrev pub rows_at : ℕ → List ℕ → List (List ℕ)
 rows_at count [] = []
 rows_at count (b ∷ []) = (b ∷ []) ∷ []

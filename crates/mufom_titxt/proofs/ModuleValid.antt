@@ -59,7 +59,7 @@ plain-append n (One (Literal bytes) ∷ xs) ys p q = (p.0, plain-append n xs ys 
 plain-append n (One (Field kind size value) ∷ xs) ys p q = p
 plain-append n (Repeat count items ∷ xs) ys p q = p
 
--- a part is no longer than it may be
+-- a part has at most the length that it may have
 taken_most : (n : ℕ) (xs : List ℕ) → length (take n xs) ≤ n
 taken_most n xs = let e = length-take n xs in omega (arith, e)
 

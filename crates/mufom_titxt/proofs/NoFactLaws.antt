@@ -115,7 +115,7 @@ runs_loaded n (run ∷ runs) =
     ∙ (literals_loaded (length run.bytes) run.bytes (loads_from (n + 1) runs) (omega arith)
     ∙ (ap (λ k. length run.bytes + k) (runs_loaded (n + 1) runs) ∙ sym (sum_by-cons (λ (run : Run). length run.bytes) run runs))))
 
--- ---- no fact stands
+-- ---- no fact holds
 
 module _ (maus : ℕ) (runs : List Run) (h : HaveModule (8 * maus) runs) where
   abbrev ms : List Parts
@@ -144,7 +144,7 @@ module _ (maus : ℕ) (runs : List Run) (h : HaveModule (8 * maus) runs) where
         free = λ cell k l. l;
       }
 
-  -- a section stands at its address
+  -- a section is at its address
   not_unplaced : (n : ℕ) → ¬ IsUnplaced no_regions (flat_sections ms) n
   not_unplaced n f =
       let r = run_at runs n f.section f.found in

@@ -22,9 +22,9 @@ use Rattle.mufom_titxt.specs.TextModules.{EndBelow, HaveModule, HaveText}
 use Rattle.mufom_titxt.specs.Texts.{IsTxtOf, SoFar, cells_after, cells_at, cells_on, line_cells, nothing_stated, so_far, txt_cells}
 use Rattle.mufom_titxt.proofs.AcceptLaws.{accepted_is_map}
 
--- ---- distinct addresses are no more than the addresses among which they are
+-- ---- distinct addresses are at most as many as the addresses among which they are
 
--- the numbers but for one of them
+-- the numbers except one of them
 abbrev removed : (n : ℕ) (ns : List ℕ) → In n ns → List ℕ
 removed n [] there = absurd there
 removed n (m ∷ ns) (inl is) = ns

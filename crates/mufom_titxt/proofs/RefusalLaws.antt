@@ -214,7 +214,7 @@ second-later a taken place places absent = by_case (a == place.1) (place.1 == a)
   by_case true false e f = absurd (grind (arith, e, f))
   by_case false true e f = absurd (grind (arith, e, f))
 
--- where an address is the first with two bytes, it gets the second one at this line
+-- if an address is the first with two bytes, it gets the second one at this line
 pub second-some : (places : List Place) (taken : List ℕ) (a : ℕ) → first_twice taken (map (λ (place : Place). place.1) places) ≡ Some (loaded_twice a)
     → first_second taken places ≡ Some (refusal_at (second_line a (hits_of taken a) places) (Twice a))
 second-some [] taken a e = absurd (cc e)

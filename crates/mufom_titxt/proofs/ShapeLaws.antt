@@ -20,7 +20,7 @@ digits_fit n d i low digit few =
 
 -- ---- two digits and a space
 
--- a space is no digit
+-- a space is not a digit
 no_space : (b d : ℕ) → hex_digit b ≡ Some d → (b == 32) ≡ false
 no_space b d e = by_test (b == 32) refl where
   by_test : (t : Bool) → (b == 32) ≡ t → t ≡ false

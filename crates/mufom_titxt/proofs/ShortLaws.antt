@@ -34,7 +34,7 @@ module _ (words : List (List ℕ)) (bytes : List ℕ) where
   by_first b more e false at true end = absurd (none_first (b ∷ more) (no_more b more (b == 113 || b == 81) end) e)
   by_first b more e false at false end = ap (option_map byte_line) e
 
--- words that spell bytes are a line with these, where there is one
+-- words that spell bytes are a line with these, if there is one
 pub short_words : (words : List (List ℕ)) (bytes : List ℕ) → bytes_of words ≡ Some bytes → 0 < length bytes → line_of_words words ≡ Some (byte_line bytes)
 short_words [] [] e some = absurd (omega (arith, some))
 short_words [] (b ∷ bytes) e some = absurd (cc e)
@@ -60,7 +60,7 @@ open_fault-none modulus at [] h = refl
 open_fault-none modulus at (b ∷ bytes) h =
     rw (below at modulus (omega (arith, h))) (open_fault-none modulus (suc at) bytes (omega (arith, h)))
 
--- nothing is counted where no address is watched
+-- nothing is counted if no address is watched
 pub unwatched : (hits : ℕ) (cells : List Cell) → hits_after None hits cells ≡ hits
 unwatched hits [] = refl
 unwatched hits (cell ∷ cells) = unwatched hits cells

@@ -49,19 +49,19 @@ module _ (text : List ℕ) (width modulus : ℕ) (same : modulus ≡ 2 ^ width) 
       or_else stop_read modulus 0 nothing_stated (map line_of (lines_of text)))
   refusal_is = ap (λ m. refusal_after m 0 nothing_stated [] lines) (sym same) ∙ refusal-parts modulus lines 0 nothing_stated []
 
-  -- where no address has two bytes, the line that stopped the reading is wrong
+  -- if no address has two bytes, the line that stopped the reading is wrong
   pub refused_by_stop : first_twice [] (cell_addresses cells) ≡ None
       → txt_refusal text width ≡ stop_read modulus 0 nothing_stated (map line_of (lines_of text))
   refused_by_stop once = refusal_is
       ∙ ap (λ o. o or_else stop_read modulus 0 nothing_stated lines) (second-none places [] (ap (first_twice []) addresses ∙ once))
 
-  -- where one has, it is wrong at its second one
+  -- if one has, it is wrong at its second one
   pub refused_by_twice : (a : ℕ) → first_twice [] (cell_addresses cells) ≡ Some (loaded_twice a)
       → txt_refusal text width ≡ Some (refusal_at (second_line a 0 (places_read modulus 0 nothing_stated (map line_of (lines_of text)))) (Twice a))
   refused_by_twice a twice = refusal_is
       ∙ ap (λ o. o or_else stop_read modulus 0 nothing_stated lines) (second-some places [] a (ap (first_twice []) addresses ∙ twice))
 
-  -- where nothing stopped it either, the text is one of the rows
+  -- if nothing stopped it either, the text is one of the rows
   pub accepted_text : (runs : List Run) → first_twice [] (cell_addresses cells) ≡ None
       → None ≡ stop_read modulus 0 nothing_stated (map line_of (lines_of text)) → AreRowsOf cells runs → IsTxtOf text width runs
   accepted_text runs once whole rows = record {

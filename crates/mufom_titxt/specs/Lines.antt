@@ -12,7 +12,7 @@ without_return [] = []
 without_return (b ∷ []) = if b == 13 then [] else b ∷ []
 without_return (b ∷ c ∷ bytes) = b ∷ without_return (c ∷ bytes)
 
--- the lines of pieces, each of which ends at a line feed, but for the last one
+-- the lines of pieces, each of which, except the last one, ends at a line feed
 abbrev pub ended_lines : List (List ℕ) → List (List ℕ)
 ended_lines [] = []
 ended_lines (piece ∷ []) = piece ∷ []
@@ -81,7 +81,7 @@ line_from b more words =
     else if (b == 113 || b == 81) && not (has_bytes more) then alone words (Some end_line)
     else option_map byte_line (bytes_of ((b ∷ more) ∷ words))
 
--- what a line states by its words, and none where it states nothing that a text may have
+-- what a line states by its words, or none if it states nothing that a text may have
 abbrev pub line_of_words : List (List ℕ) → Option Line
 line_of_words [] = Some blank_line
 line_of_words ([] ∷ words) = None

@@ -29,7 +29,7 @@ abbrev pub open_fault : ℕ → ℕ → List ℕ → Option TxtReason
 open_fault modulus at [] = None
 open_fault modulus at (b ∷ bytes) = if nat_lt at modulus then open_fault modulus (suc at) bytes else Some Beyond
 
--- bytes go beyond it where none is the address after them
+-- bytes go beyond the end if there is no address after them
 abbrev pub fault_of : Option ℕ → Option TxtReason
 fault_of None = Some Beyond
 fault_of (Some at) = None

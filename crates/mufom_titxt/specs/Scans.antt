@@ -5,7 +5,7 @@ use Rattle.mufom_titxt.specs.Lines.{Line, blank_line, address_line, byte_line, e
 use Rattle.mufom_titxt.specs.declared.shape.Shape.{Shape}
 use Rattle.mufom_titxt.specs.declared.shape.Shape.TheVariants.{Blank, Address, Bytes, End, Bad}
 
--- the lines of what is after a line, where something is
+-- the lines of what is after a line, if there is anything
 abbrev pub lines_later : Option (List ℕ) → List (List ℕ)
 lines_later None = []
 lines_later (Some text) = lines_of text
@@ -15,7 +15,7 @@ abbrev pub begins_with_space : List ℕ → Bool
 begins_with_space [] = false
 begins_with_space (b ∷ bytes) = b == 32
 
--- what a line states, but for its bytes
+-- what a line states, without its bytes
 abbrev pub shape_of : Option Line → Shape
 shape_of None = Bad
 shape_of (Some blank_line) = Blank
@@ -23,7 +23,7 @@ shape_of (Some (address_line address)) = Address address
 shape_of (Some (byte_line bytes)) = Bytes
 shape_of (Some end_line) = End
 
--- a shape of a line that has no more words, and else a bad line
+-- this shape if the line has no more words, and otherwise a bad line
 abbrev pub alone_shape : List (List ℕ) → Shape → Shape
 alone_shape [] shape = shape
 alone_shape (word ∷ words) shape = Bad
@@ -33,6 +33,6 @@ abbrev pub bytes_left : Option (List ℕ) → ℕ
 bytes_left None = 0
 bytes_left (Some text) = suc (length text)
 
--- the bytes of words of which the first spells this byte, where it spells one
+-- the bytes of words of which the first spells this byte, if it spells one
 abbrev pub bytes_from : Option ℕ → Option (List ℕ) → Option (List ℕ)
 bytes_from first later = option_and_then (λ b. option_map (λ bytes. b ∷ bytes) later) first

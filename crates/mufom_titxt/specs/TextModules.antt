@@ -16,7 +16,7 @@ use Rattle.mufom_meaning.specs.AddressMap.{AreApart}
 abbrev pub run_section : Run → Section
 run_section run = record { name = codes "txt"; absolute = true; purpose = None; size = length run.bytes; align = 1; base = Some run.address }
 
--- bytes as literals of 65,535 bytes, the last one shorter where needed; no more of them than this many
+-- bytes as literals of 65,535 bytes, the last one shorter if needed; no more of them than this many
 abbrev pub literals : (most : ℕ) → List ℕ → List Load
 literals most [] = []
 literals zero (b ∷ bytes) = []

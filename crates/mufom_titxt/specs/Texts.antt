@@ -13,7 +13,7 @@ use Rattle.mufom_titxt.specs.Lines.{Line, blank_line, address_line, byte_line, e
 
 -- ---- what lines state together
 
--- the address of the next byte after a line, where one is set
+-- the address of the next byte after a line, if one is set
 abbrev pub next_after : Option ℕ → Line → Option ℕ
 next_after next blank_line = next
 next_after next (address_line address) = Some address
@@ -37,7 +37,7 @@ abbrev pub cells_of_lines : Option ℕ → List Line → List Cell
 cells_of_lines next [] = []
 cells_of_lines next (line ∷ lines) = line_cells next line ++ cells_of_lines (next_after next line) lines
 
--- a line other than the one that ends a text, and where it has bytes an address is set
+-- a line other than the one that ends a text, and if it has bytes, an address is set
 abbrev pub IsInside : Option ℕ → Line → Type 0
 IsInside next blank_line = Unit {0}
 IsInside next (address_line address) = Unit {0}
@@ -63,7 +63,7 @@ pub record TxtMap (text : List ℕ) (width : ℕ) (cells : List Cell) : Type 0 w
 
 -- ---- what is wrong with a text
 
--- what lines have stated so far: whether the text has ended, and the address of the next byte, where one is set
+-- what lines have stated so far: whether the text has ended, and the address of the next byte, if one is set
 pub record SoFar : Type 0 where
   pub ended : Bool
   pub next : Option ℕ
@@ -84,14 +84,14 @@ abbrev pub so_far : SoFar → Option Line → SoFar
 so_far s None = s
 so_far s (Some line) = so_far_after s line
 
--- what is wrong with the first bad byte of these, which begin at an address, where other addresses have bytes already
+-- what is wrong with the first bad byte of these, which begin at an address, if other addresses have bytes already
 abbrev pub byte_fault : ℕ → List ℕ → ℕ → List ℕ → Option TxtReason
 byte_fault modulus taken at [] = None
 byte_fault modulus taken at (b ∷ bytes) =
     if nat_lt at modulus then (if has_number taken at then Some (Twice at) else byte_fault modulus (at ∷ taken) (suc at) bytes)
     else Some Beyond
 
--- the same where an address may be set
+-- the same if an address may be set
 abbrev pub bytes_fault : ℕ → List ℕ → Option ℕ → List ℕ → Option TxtReason
 bytes_fault modulus taken None bytes = Some NoAddress
 bytes_fault modulus taken (Some at) bytes = byte_fault modulus taken at bytes
@@ -126,7 +126,7 @@ abbrev pub taken_after : List ℕ → List Cell → List ℕ
 taken_after taken [] = taken
 taken_after taken (cell ∷ cells) = taken_after (cell.0 ∷ taken) cells
 
--- a refusal at a line
+-- an error at a line
 abbrev pub refusal_at : ℕ → TxtReason → TxtRefusal
 refusal_at line reason = record { line = line; reason = reason }
 
@@ -134,7 +134,7 @@ refusal_at line reason = record { line = line; reason = reason }
 abbrev pub end_fault : ℕ → SoFar → Option TxtRefusal
 end_fault count s = if s.ended then None else Some (refusal_at count NoEnd)
 
--- the first line with a fault, of those after `count` others, and what is wrong with it
+-- the first line with an error, of those after `count` others, and what is wrong with it
 abbrev pub refusal_after : ℕ → ℕ → SoFar → List ℕ → List (Option Line) → Option TxtRefusal
 refusal_after modulus count s taken [] = end_fault count s
 refusal_after modulus count s taken (line ∷ lines) =

@@ -18,7 +18,7 @@ pub fn accepted_texts_are_texts()
     ensures { (text : List ℕ) (width : ℕ) → txt_refusal text width ≡ None → TxtMap text width (txt_cells text) }
 {}
 
-/// Nothing is wrong with a text that gives bytes to addresses, and these are the bytes that are read of it.
+/// Nothing is wrong with a text that gives bytes to addresses, and these are the bytes that are read from it.
 pub fn texts_are_accepted()
     ensures accepted { (text : List ℕ) (width : ℕ) (cells : List Cell) → TxtMap text width cells → txt_refusal text width ≡ None }
     ensures cells { (text : List ℕ) (width : ℕ) (cells : List Cell) → TxtMap text width cells → txt_cells text ≡ cells }
@@ -31,7 +31,7 @@ pub fn written_texts_are_read_back()
     ensures single { (width : ℕ) (runs other : List Run) → HaveText width runs → IsTxtOf (txt_text runs) width other → other ≡ runs }
 {}
 
-/// The module of runs that [`text_module`](crate::text_module) makes has these runs where it is located
+/// The module of runs that [`text_module`](crate::text_module) makes has these runs if it is located
 /// alone, by a plan without regions.
 pub fn located_texts_have_their_runs()
     ensures { (maus : ℕ) (runs : List Run) (r : LocatedParts) → HaveModule (8 * maus) runs
@@ -45,7 +45,7 @@ pub fn text_modules_are_located()
         → (r : LocatedParts) × IsLocation (text_parts maus runs ∷ []) no_regions r × (r.runs ≡ runs) }
 {}
 
-/// The runs of a text have a module, where the text is no longer than a file may be, and a text again.
+/// The runs of a text have a module, if the text is no longer than a file may be, and a text again.
 pub fn runs_of_texts_have_modules()
     ensures modules { (text : List ℕ) (width : ℕ) (runs : List Run) → length text ≤ MOST_FILE_BYTES → IsTxtOf text width runs
         → HaveModule width runs }

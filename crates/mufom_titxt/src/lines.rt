@@ -21,7 +21,7 @@ fn word_length(text: &[u8]) -> usize
     text.len()
 }
 
-// A line without the carriage return at its end, where it has one.
+// A line without the carriage return at its end, if it has one.
 fn without_return(line: &[u8]) -> &[u8]
     ensures { result.now ≡ without_return line.now }
 {

@@ -97,7 +97,7 @@ impl Page {
         &self.bytes[..self.used]
     }
 
-    /// Holds nothing any more.
+    /// Removes all text.
     pub(crate) fn clear(&mut self)
         ensures { self.new ≡ [] }
     {

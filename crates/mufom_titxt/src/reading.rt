@@ -19,7 +19,7 @@ use std::alloc::Global;
 pub struct Reading {
     /// Whether the text has ended.
     pub ended: bool,
-    /// The address of the next byte, where one is set.
+    /// The address of the next byte, if one is set.
     pub next: Option<u128>,
     pub store: Store,
 }

@@ -26,7 +26,7 @@ pub enum TxtReason {
     NoEnd,
 }
 
-/// Why a TI-TXT text is refused.
+/// The first error in a TI-TXT text.
 #[derive(Clone, Copy, Debug, PartialEq, Eq, Error)]
 #[error("line {line}: {reason}")]
 pub struct TxtRefusal {
@@ -38,7 +38,7 @@ pub struct TxtRefusal {
 /// Why no runs are read from a TI-TXT text.
 #[derive(Clone, Copy, Debug, PartialEq, Eq, Error)]
 pub enum TxtStop {
-    /// The text is not one.
+    /// The text is not a TI-TXT text.
     #[error(transparent)]
     Refused(TxtRefusal),
     /// Out of memory.

@@ -89,7 +89,7 @@ fn spaced_byte(line: &[u8]) -> Option<(u8, &[u8])>
     }
 }
 
-// The byte that the first word of a line spells, with what is after the word, and no byte where it spells none.
+// The byte that the first word of a line spells, with what is after the word, and no byte if it spells none.
 fn next_byte(line: &[u8]) -> Option<(Option<u8>, &[u8])>
     ensures bytes { MatchOption result (words_of line.now ≡ []) (λ r. bytes_of (words_of line.now) ≡ bytes_from r.0 (bytes_of (words_of r.1.now))) }
     ensures rest { IfSome result (λ r. length r.1.now < length line.now) }
@@ -137,7 +137,7 @@ fn has_bytes_alone(line: &[u8]) -> bool
     true
 }
 
-// A shape of a line that has no more words, and else a bad line.
+// This shape if the line has no more words, and otherwise a bad line.
 fn alone(after: &[u8], shape: Shape) -> Shape
     ensures { result ≡ alone_shape (words_of after.now) shape }
 {

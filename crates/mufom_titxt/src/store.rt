@@ -83,7 +83,7 @@ impl Store {
     }
 
     /// Adds bytes from an address on, as far as their addresses are below the modulus. Returns the address
-    /// after them, and none where one of them is not below it.
+    /// after them, or none if one of them is not below it.
     pub(crate) fn place_bytes(
         &mut self,
         modulus: u128,
@@ -111,7 +111,7 @@ impl Store {
     }
 
     /// Adds the bytes of a line from an address on, as far as these are below the modulus. Returns the
-    /// address after them, and none where one is not below it.
+    /// address after them, or none if one is not below it.
     pub(crate) fn place_line(
         &mut self,
         modulus: u128,

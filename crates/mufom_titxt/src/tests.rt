@@ -7,14 +7,14 @@ use mufom_numbers::{Bytes, List};
 use std::alloc::Global;
 use std::process::Abort;
 
-// The runs of a text, where addresses have four units.
+// The runs of a text, if addresses have four units.
 fn read(rt: &impl Abort, alloc: Global, text: &str) -> List<TextRun> {
     let text = text.as_bytes();
     assert!(rt; text.len() < 100);
     read_txt(alloc, text, 4).ok().expect(rt, "runs")
 }
 
-// The refusal of a text, where addresses have four units.
+// The error of a text, if addresses have four units.
 fn refusal(rt: &impl Abort, alloc: Global, text: &str) -> TxtRefusal {
     let text = text.as_bytes();
     assert!(rt; text.len() < 100);

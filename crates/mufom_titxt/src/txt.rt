@@ -86,7 +86,7 @@ fn second_line(alloc: Global, modulus: u128, text: &[u8], address: u64) -> Resul
     Ok(0)
 }
 
-// The refusal of a text in which an address has two bytes.
+// The error of a text in which an address has two bytes.
 fn twice_refusal(
     alloc: Global,
     modulus: u128,

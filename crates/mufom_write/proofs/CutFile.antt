@@ -157,7 +157,7 @@ module _ (m : Parts) (fits : IsFittingModule m) where
       (subst (λ (parts : List (List ℕ)). StandAt (w.offsets shortest m) (w.header_length shortest m) parts) (parts-same m)
       (stand-at (w.header_length shortest m) (w.parts shortest m))))
 
-  -- ---- what stands after each part
+  -- ---- what is after each part
 
   after_trailer : IsCode (first_of (from_trailer (file_of m)) None)
   after_trailer = part-code trailer_part (start_records m.start) module_end (start-records m.start fits.start) (omega arith)

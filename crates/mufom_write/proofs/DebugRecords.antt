@@ -20,7 +20,7 @@ use Rattle.mufom_write.proofs.DebugRows.{tail_for, end_for, IsSpelledHead, IsSpe
 use Rattle.mufom_write.proofs.Indexed.{IsFittingTree, indexed, expression-spells}
 use Rattle.mufom_write.proofs.Laying.{spelled as the_record, IsRecord}
 
--- the row of a mark before which n names stand
+-- the row of a record with n names before it
 abbrev pub mark_row : ℕ → DebugMark → Record
 mark_row n (block_begin head name) = r.BlockBegin (kind_number head) 0 (text_at 3 name) (tail_for name head)
 mark_row n (block_end value) = r.BlockEnd (end_for value)
@@ -52,7 +52,7 @@ abbrev pub IsFittingEnd : Option Tree → Type 0
 IsFittingEnd None = Unit {0}
 IsFittingEnd (Some value) = IsFittingTree value
 
--- what keeps a mark before which n names stand within the bounds of the form
+-- what keeps a record with n names before it within the bounds of the form
 abbrev pub IsFittingMark : ℕ → DebugMark → Type 0
 IsFittingMark n (block_begin head name) = (is_long name ≡ false) × AreBytes name × IsFittingHead head
 IsFittingMark n (block_end value) = IsFittingEnd value

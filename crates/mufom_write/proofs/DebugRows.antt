@@ -19,11 +19,11 @@ use Rattle.mufom_module.specs.Written as w
 use Rattle.mufom_module.specs.Defects.{is_long}
 use Rattle.mufom_write.proofs.Rows.{IsCode, IsWhole, stops-number, stops-token, spells, spells_index, spells_numbers, spells_string, spells_expression, text_at}
 
--- where what the kind of a block adds stands, after its name
+-- the place of what the kind of a block adds, after its name
 abbrev pub tail_place : List ℕ → ℕ
 tail_place name = 3 + length (w.string shortest name)
 
--- where the offset of a block stands, after two numbers
+-- the place of the offset of a block, after two numbers
 abbrev pub offset_at : List ℕ → ℕ → ℕ → Tree → Span
 offset_at name a b offset = span_at (tail_place name + length (w.number shortest a) + length (w.number shortest b)) (length (w.expression shortest offset))
 
@@ -170,7 +170,7 @@ abbrev pub end_for : Option Tree → Option Span
 end_for None = None
 end_for (Some value) = Some (span_at 1 (length (w.expression shortest value)))
 
--- it is spelled, where there is one
+-- it is spelled, if there is one
 abbrev pub IsSpelledEnd : Option Tree → Type 0
 IsSpelledEnd None = Unit {0}
 IsSpelledEnd (Some value) = IsSpelled value

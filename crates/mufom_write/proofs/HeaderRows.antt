@@ -17,7 +17,7 @@ use Rattle.mufom_module.specs.Written as w
 use Rattle.mufom_module.specs.Defects.{is_long}
 use Rattle.mufom_write.proofs.Rows.{spells, spells_string, text_at}
 
--- where the module's name stands, after the processor
+-- the place of the module's name, after the processor
 abbrev pub module_name_at : List ℕ → List ℕ → Span
 module_name_at processor name = text_at (1 + length (w.string shortest processor)) name
 

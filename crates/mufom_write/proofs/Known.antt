@@ -102,7 +102,7 @@ pub record IsPlain (p : SpelledRecord) : Type 0 where
   pub declares : declared_by p.row ≡ None
   pub states : assigned_by p.row ≡ None
 
--- such a record keeps to what stands before it, where the indexes that it names are declared
+-- such a record keeps to what is before it, if the indexes that it names are declared
 pub plain-follows : (before : List SpelledRecord) (p : SpelledRecord) → IsPlain p → list_all (is_declared before) (named_at_once p) ≡ true
     → has_no_section before p.row ≡ false → Follows before p
 plain-follows before p its known placed = record {

@@ -32,7 +32,7 @@ bytes_of-records_from lay write same n (x ∷ xs) =
     let rest = bytes_of-records_from lay write same (n + 1) xs in
     bytes_of-append (lay n x) (records_from (n + 1) lay xs) ∙ (λ i. first i ++ rest i)
 
--- a record of a part that is no LR and no item, whole where a record follows it
+-- a record of a part that is neither LR nor an item is whole if a record follows it
 pub record IsRecord (part : Part) (p : SpelledRecord) : Type 0 where
   pub whole : IsWhole p.row p.bytes
   pub code : IsCode (first_of p.bytes None)

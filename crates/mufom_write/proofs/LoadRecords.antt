@@ -160,7 +160,7 @@ mode-plain : (items : Bool) (bytes : List ℕ) → IsCode (first_of bytes None) 
 mode-plain items [] code = absurd code
 mode-plain items (b ∷ bytes) code = chosen items (begins_number b || is_one_of opening_brackets b) (no_item b code)
 
--- records and items are whole whether or not items may stand first, and a record follows
+-- records and items are whole whether or not items may come first, and a record follows
 record AreLaid (records : List SpelledRecord) (after : List ℕ) : Type 0 where
   whole : (items : Bool) → AreWhole items records after
   code : IsCode (first_of (bytes_of records ++ after) None)
@@ -177,7 +177,7 @@ plain-first p rest after whole code next rest_whole = record {
   code = code-first (p.bytes ++ bytes_of rest) after (code-first p.bytes (bytes_of rest) code);
 }
 
--- a record after which items may stand, which need no record after them
+-- a record after which items may come, which need no record after them
 open-first : (p : SpelledRecord) (rest : List SpelledRecord) (after : List ℕ) → ((next : Option ℕ) → IsWholeRecord mode.Body p.row p.bytes next)
     → IsCode (first_of p.bytes None)
     → AreWhole (opens_items p.row) rest after → AreLaid (p ∷ rest) after
@@ -264,7 +264,7 @@ loads-laid : (loads : List Load) (after : List ℕ) → AllByRecursion IsFitting
 loads-laid [] after fit code = record { whole = λ items. tt; code = code }
 loads-laid (load ∷ loads) after fit code = load-laid load (loads_records loads) after fit.0 (loads-laid loads after fit.1 code)
 
--- ---- they stand in their parts
+-- ---- they are in their parts
 
 items-own : (items : List Item) → list_all (λ p. stands_in data_part p.row) (item_records items) ≡ true
 items-own [] = refl

@@ -29,7 +29,7 @@ set_section-whole i hi next code =
 count-fits : (n : ℕ) → nat_lt 65535 n ≡ false → (n < 2 ^ 64) × (nat_lt n 65536 ≡ true)
 count-fits n short = let few = ltb-false 65535 n short in (omega (arith, few), lt-ltb n 65536 (omega (arith, few)))
 
--- where the bytes of a run stand after their count, which begins at a place
+-- the place of the bytes of a run after their count, which begins at a place
 abbrev pub run_at : ℕ → List ℕ → Span
 run_at at bytes = span_at (at + length (w.number shortest (length bytes))) (length bytes)
 

@@ -196,6 +196,6 @@ sections-follow before n (s ∷ sections) state =
     follow-append before (section_records n s) (records_from (n + 1) section_records sections) (section-follows before n s state)
     (sections-follow (before ++ section_records n s) (n + 1) sections (next-section before n s state))
 
--- each record of the section part keeps to what stands before it
+-- each record of the section part keeps to what is before it
 pub section_part-follows : (sections : List Section) → FollowFrom [] (records_from 0 section_records sections)
 section_part-follows sections = sections-follow [] 0 sections (record { indexes = refl; alignments = λ i h. refl; sizes = λ i h. refl; bases = λ i h. refl })

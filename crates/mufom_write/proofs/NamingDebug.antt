@@ -204,7 +204,7 @@ marks-follow m before n (value_mark name value ∷ ms) state fit inside sound =
       marks-follow m (before ++ p ∷ []) n ms (next-silent m before n p refl state) fit.1 insides.1 step.1,
     )
 
--- each record of the debug part keeps to what stands before it
+-- each record of the debug part keeps to what is before it
 pub debug_part-follows : (m : Parts) (before : List SpelledRecord) (ms : List DebugMark) → DeclareEntries m before → declared debug_name before ≡ []
     → AreFittingMarks 0 ms → list_any (has_bad_mark (counts_of m)) ms ≡ false
     → is_none (declared_after 0 ms) ≡ false → FollowFrom before (mark_records 0 ms)

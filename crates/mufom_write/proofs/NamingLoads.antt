@@ -193,7 +193,7 @@ module _ (m : Parts) where
       without true loading is h = sym is ∙ h
       without false loading is h = refl
 
-  -- each record of the data part keeps to what stands before it
+  -- each record of the data part keeps to what is before it
   pub data_part-follows : (before : List SpelledRecord) → DeclareEntries m before → AllByRecursion IsFittingLoad m.loads
       → list_any (has_bad_place (counts_of m)) m.loads ≡ false
       → list_any loads_nowhere (placed_from None m.loads) ≡ false → FollowFrom before (loads_records m.loads)

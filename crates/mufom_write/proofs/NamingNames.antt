@@ -225,7 +225,7 @@ sections-unstated once sections none = entries-unstated section_records once non
 public-silent : (n : ℕ) (p : Public) (once : Once) → is_same_statement once (value_of_public (n + 32)) ≡ false → is_assigned (public_records n p) once ≡ false
 public-silent n p once other = ap (list_any (is_same_statement once)) (public-states n p) ∙ ap (λ (b : Bool). b || false) other
 
--- each record of the external part keeps to what stands before it
+-- each record of the external part keeps to what is before it
 pub external_part-follows : (sections : List Section) (publics : List Public) (references : List Reference)
     → FollowFrom (records_from 0 section_records sections) (external_records publics references)
 external_part-follows sections publics references =

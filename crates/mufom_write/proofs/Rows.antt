@@ -1,4 +1,4 @@
--- The records of a written form: each is a whole one where the first byte of a record stands after it.
+-- The records of a written form: each is a whole one if the first byte of a record follows it.
 use Rattle.std.proofs.Common.{◌≡◌, ℕ, ◌+◌, ◌^◌, ◌<◌, ◌≤◌, ◌==◌, Bool, true, false, nat_lt, List, [], ◌∷◌, ◌++◌, length, Option, Some, None, refl, sym}
 use Rattle.std.proofs.Common.{inl, inr, cond, arith}
 use Rattle.std.specs.Prelude.{if◌then◌else◌}
@@ -30,7 +30,7 @@ use Rattle.mufom_module.specs.Written.{shortest, each_from}
 use Rattle.mufom_module.specs.Written as w
 use Rattle.mufom_module.specs.Defects.{is_long}
 
--- a byte stands next with which a record begins
+-- the next byte is one with which a record begins
 abbrev pub IsCode : Option ℕ → Type 0
 IsCode None = ⊥
 IsCode (Some b) = 0xE0 ≤ b
@@ -216,12 +216,12 @@ named_section-spells i absolute (Some purpose.Data) name at next code short byte
 named_section-spells i absolute (Some purpose.Rom) name at next code short bytes =
     (Some 0xD2, 0xD2 ∷ [], w.string shortest name, (refl, refl), section_name-spells i absolute (Some 0xD2) name (at + 1) next code short bytes, refl)
 
--- where the letter of a section's purpose stands, or would stand
+-- the place of the letter of a section's purpose, or where it would be
 abbrev pub purpose_place : ℕ → Bool → ℕ
 purpose_place i true = 1 + length (w.number shortest i) + 1 + 1
 purpose_place i false = 1 + length (w.number shortest i) + 1
 
--- where its name stands
+-- the place of its name
 abbrev pub section_name_at : ℕ → Section → Span
 section_name_at i s = text_at (purpose_place i s.absolute + length (w.purpose_letter s.purpose)) s.name
 
@@ -301,7 +301,7 @@ index_and_string-spells row i name next hi short bytes = (
   refl,
 )
 
--- where a name stands after its index
+-- the place of a name after its index
 abbrev pub name_at : ℕ → List ℕ → Span
 name_at i name = text_at (1 + length (w.number shortest i)) name
 
@@ -342,7 +342,7 @@ index_and_expression-spells row i tree text next hi spelled code = (
   refl,
 )
 
--- where an expression stands after its index
+-- the place of an expression after its index
 abbrev pub value_at : ℕ → List ℕ → Span
 value_at i text = span_at (2 + length (w.number shortest i)) (length text)
 

@@ -1,4 +1,4 @@
--- The written form is no longer than the module weighs.
+-- The written form is at most as long as the weight of the module.
 use Rattle.std.proofs.Common.{◌≡◌, ℕ, zero, suc, ◌+◌, ◌*◌, ◌^◌, ◌<◌, ◌≤◌, ◌==◌, Bool, true, false, cond, nat_lt, List, [], ◌∷◌, ◌++◌, length, sum_by}
 use Rattle.std.proofs.Common.{Option, Some, None, arith, length-append}
 use Rattle.std.proofs.lemmas.List.Sums.{sum_by-cons}
@@ -34,7 +34,7 @@ use Rattle.mufom_module.specs.Defects.{IsValid}
 use Rattle.mufom_module.proofs.Valid.{weighs_less}
 use Rattle.mufom_module.proofs.WeightLaws.{length-offsets_from, weight-sum}
 
--- entries whose forms are at most so long, wherever they stand
+-- entries whose forms have at most this length, wherever they are
 each-within : {X : Type 0} (write : ℕ → X → List ℕ) (size : X → ℕ) → ((n : ℕ) (x : X) → length (write n x) ≤ size x)
     → (n : ℕ) (xs : List X) → length (w.each_from n write xs) ≤ sum_by size xs
 each-within write size each n [] = omega arith

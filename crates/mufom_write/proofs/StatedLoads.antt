@@ -39,7 +39,7 @@ module _ (m : Parts) (k : ℕ) where
       let back = comma ∷ (w.number shortest size ++ closing kind ∷ []) in
       tree-back m k value _ fits inside (text-between (opening kind ∷ (e ++ back)) (opening kind ∷ []) e back 1 refl refl)
 
-  -- items, with what stands after them
+  -- items, with what is after them
   items-prefix : (items : List Item) (rest : List SpelledRecord) → AllByRecursion IsFittingItem items
       → list_any (item_any (names_outside (counts_of m))) items ≡ false
       → items_at_prefix (written_indexes m k) m.maus (item_records items ++ rest) ≡ items ++ items_at_prefix (written_indexes m k) m.maus rest

@@ -198,7 +198,7 @@ quiet-more ask i of before n p high none =
 public_name-back : (i : ℕ) (name : List ℕ) → text_in (public_name_record i name) (name_at i name) ≡ name
 public_name-back i name = let a = w.number shortest i in string-last (0xE8 ∷ (a ++ w.string shortest name)) (0xE8 ∷ a) name (1 + length a) refl (omega arith)
 
--- what stands after publics: further ones, and references
+-- what is after publics: further ones, and references
 after-publics : {Y : Type 0} (ask : SpelledRecord → Option Y) (i : ℕ) → IsOfPublic ask i
     → (n : ℕ) (publics : List Public) (references : List Reference) → i < n + 32
     → filter_map ask (records_from n public_records publics ++ records_from 0 reference_records references) ≡ []

@@ -136,7 +136,7 @@ own-base n s =
     ∙ (λ k. first k ++ (filter_map-append ask (size_spellings i s.size) (base_spellings i s.base)
     ∙ (λ j. second j ++ filter_map ask (base_spellings i s.base))) k)
 
--- what is not stated where it is the usual value, is that value
+-- what is left out because it has the usual value has that value
 stated-or-usual : (x usual : ℕ) → unwrap_or (slice_get (cond (x == usual) [] (x ∷ [])) 0) usual ≡ x
 stated-or-usual x usual = by_case (x == usual) refl where
   by_case : (b : Bool) → (x == usual) ≡ b → unwrap_or (slice_get (cond b [] (x ∷ [])) 0) usual ≡ x

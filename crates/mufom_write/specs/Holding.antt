@@ -1,4 +1,4 @@
--- What putting bytes does where some of them are held, and not yet in the file.
+-- What putting bytes does if some of them are held, and not yet in the file.
 use Rattle.std.specs.Prelude.{◌≡◌, ℕ, List, ◌++◌, Result, Ok, Err, Option}
 use Rattle.mufom_host.specs.declared.world.Failed.{Failed}
 use Rattle.mufom_host.specs.World.{NamedFile, Meaning, Faults, MakingGrowsBy, MakingGrowsByPrefix, HasCause, KeepsAllButMaking, KeepsAllButWrites}

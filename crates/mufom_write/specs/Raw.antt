@@ -6,7 +6,7 @@ use Rattle.mufom_meaning.specs.declared.located.Run.{Run}
 abbrev pub run_end : Run → ℕ
 run_end run = run.address + length run.bytes
 
--- the address of the first run, and 0 where there is none
+-- the address of the first run, or 0 if there is none
 abbrev pub first_address : List Run → ℕ
 first_address [] = 0
 first_address (run ∷ runs) = run.address

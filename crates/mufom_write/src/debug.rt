@@ -18,7 +18,7 @@ use mufom_host::Failed;
 use mufom_names::Note;
 use mufom_numbers::{Bytes, codes};
 
-// Two numbers, and the expression of a block's begin.
+// Two numbers, and the expression of a block's start.
 fn scope<K: Output>(out: &mut K, first: u64, second: u64, offset: &Postfix) -> Result<(), Failed>
     ensures { K.takes out.old out.new
         (written.number shortest first ++ (written.number shortest second ++ written.expression shortest offset.now)) result }
@@ -28,7 +28,7 @@ fn scope<K: Output>(out: &mut K, first: u64, second: u64, offset: &Postfix) -> R
     expression(out, offset)
 }
 
-// What the kind of a block adds to its begin.
+// What the kind of a block adds to the record of its start.
 fn head_fields<K: Output>(out: &mut K, head: &BlockHead) -> Result<(), Failed>
     ensures { K.takes out.old out.new (written.head_fields shortest head.now) result }
 {
@@ -53,7 +53,7 @@ fn head_fields<K: Output>(out: &mut K, head: &BlockHead) -> Result<(), Failed>
     }
 }
 
-// BB, with the size 0.
+// The BB record, with the size 0.
 fn block_begin<K: Output>(out: &mut K, head: &BlockHead, name: &Bytes) -> Result<(), Failed>
     requires { is_long name.now ≡ false }
     ensures { (n : ℕ) → K.takes out.old out.new (written.debug_record shortest n (block_begin head.now name.now)) result }
@@ -64,7 +64,7 @@ fn block_begin<K: Output>(out: &mut K, head: &BlockHead, name: &Bytes) -> Result
     head_fields(out, head)
 }
 
-// The expression at the end of a block, where there is one.
+// The expression at the end of a block, if there is one.
 fn end_expression<K: Output>(out: &mut K, end: &Option<Postfix>) -> Result<(), Failed>
     ensures { K.takes out.old out.new (written.end_expression shortest end.now) result }
 {
@@ -74,7 +74,7 @@ fn end_expression<K: Output>(out: &mut K, end: &Option<Postfix>) -> Result<(), F
     }
 }
 
-// BE.
+// The BE record.
 fn block_end<K: Output>(out: &mut K, end: &Option<Postfix>) -> Result<(), Failed>
     ensures { (n : ℕ) → K.takes out.old out.new (written.debug_record shortest n (block_end end.now)) result }
 {
@@ -82,7 +82,7 @@ fn block_end<K: Output>(out: &mut K, end: &Option<Postfix>) -> Result<(), Failed
     end_expression(out, end)
 }
 
-// ASN.
+// The ASN record.
 fn value_record<K: Output>(out: &mut K, name: u32, value: &Postfix) -> Result<(), Failed>
     ensures { (n : ℕ) → K.takes out.old out.new (written.debug_record shortest n (value_mark name value.now)) result }
 {

@@ -9,7 +9,7 @@ use crate::output::Output;
 use mufom_host::{Block, Failed, Sink, write_all};
 use mufom_numbers::number_spelling;
 
-/// Bytes on their way to a sink: some of them are held, and are written once there is no room for more
+/// A buffer in front of a sink: it holds some bytes, and writes them once there is no room for more
 /// or the next record begins.
 #[derive(Drop)]
 pub(crate) struct Held<'a, K: Sink> {
@@ -42,7 +42,7 @@ impl<'a, K: Sink> Held<'a, K> {
         Ok(())
     }
 
-    // Takes bytes where nothing is held.
+    // Takes bytes when nothing is held.
     fn begin(&mut self, bytes: &[u8]) -> Result<(), Failed>
         requires { self.old.block ≡ [] }
         ensures same { self.new.sink.ghost_name ≡ self.old.sink.ghost_name }
@@ -77,7 +77,7 @@ impl<'a, K: Sink> Held<'a, K> {
         self.turn(bytes)
     }
 
-    /// The sink, given back.
+    /// Returns the sink.
     pub(crate) fn into_sink(self) -> &'a mut K
         ensures same { result.ghost_name ≡ self.entry.sink.ghost_name }
         ensures now { result.now ≡ self.entry.sink.now }

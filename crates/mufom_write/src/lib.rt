@@ -1,7 +1,7 @@
 //! The writer of object modules: a module's written form goes to a file, record by record.
 //!
 //! It depends on the crates of a module's entries, `mufom_module`, `mufom_meaning` for raw images,
-//! `mufom_host`, `thiserror` and, in its proofs, `arrayvec`. It allocates nothing. All records are written by functions
+//! `mufom_host`, `thiserror` and, in its proofs, `arrayvec`. It does not allocate. All records are written by functions
 //! over one trait, whose two implementations pass bytes to a sink record by record, and count bytes. The
 //! main clause is that of [`write_module`]: the file being made grows by exactly the written form, or a
 //! write failed, its error counter increased, and the file grew by a prefix of that form; and the form,

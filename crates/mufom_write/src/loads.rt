@@ -48,7 +48,7 @@ fn items<K: Output>(out: &mut K, items: &[Item]) -> Result<(), Failed>
     Ok(())
 }
 
-// LD.
+// The LD record.
 fn literal_record<K: Output>(out: &mut K, bytes: &Bytes) -> Result<(), Failed>
     ensures { K.takes out.old out.new (CONSTANT ∷ written.counted shortest bytes.now) result }
 {
@@ -56,7 +56,7 @@ fn literal_record<K: Output>(out: &mut K, bytes: &Bytes) -> Result<(), Failed>
     counted(out, bytes)
 }
 
-// LR of one field.
+// The LR record of one field.
 fn field_record<K: Output>(
     out: &mut K,
     kind: FieldKind,
@@ -69,7 +69,7 @@ fn field_record<K: Output>(
     field(out, kind, value, size)
 }
 
-// LD of a literal, or LR of a field.
+// The LD record of a literal, or the LR record of a field.
 fn single<K: Output>(out: &mut K, item: &Item) -> Result<(), Failed>
     ensures { K.takes out.old out.new (written.single shortest item.now) result }
 {
@@ -79,7 +79,7 @@ fn single<K: Output>(out: &mut K, item: &Item) -> Result<(), Failed>
     }
 }
 
-// LR of items.
+// The LR record of items.
 fn items_record<K: Output>(out: &mut K, list: &[Item]) -> Result<(), Failed>
     ensures { K.takes out.old out.new (RELOCATE ∷ each (λ _. written.item shortest) list.now) result }
 {
@@ -97,7 +97,7 @@ fn repeated<K: Output>(out: &mut K, list: &[Item]) -> Result<(), Failed>
     }
 }
 
-// ASP.
+// The ASP record.
 fn counter_record<K: Output>(out: &mut K, section: u32, value: &Postfix) -> Result<(), Failed>
     ensures { K.takes out.old out.new
         (ASSIGNMENT ∷ LETTER_P ∷ (written.number shortest (written.section_index section) ++ written.expression shortest value.now)) result }
@@ -110,7 +110,7 @@ fn counter_record<K: Output>(out: &mut K, section: u32, value: &Postfix) -> Resu
     expression(out, value)
 }
 
-// RE, and what is repeated.
+// The RE record, and what is repeated.
 fn repeat<K: Output>(out: &mut K, count: u64, items: &[Item]) -> Result<(), Failed>
     ensures { K.takes out.old out.new (REPEAT ∷ (written.number shortest count ++ written.repeated shortest items.now)) result }
 {
@@ -143,7 +143,7 @@ pub(crate) fn loads<K: Output>(out: &mut K, loads: &[Load]) -> Result<(), Failed
     Ok(())
 }
 
-// ASG, with the expression in brackets.
+// The ASG record, with the expression in brackets.
 fn start_record<K: Output>(out: &mut K, value: &Postfix) -> Result<(), Failed>
     ensures { K.takes out.old out.new (written.start shortest (Some value.now)) result }
 {
@@ -152,7 +152,7 @@ fn start_record<K: Output>(out: &mut K, value: &Postfix) -> Result<(), Failed>
     out.put(&[codes::CLOSE_EITHER])
 }
 
-/// ASG, where there is a start.
+/// The ASG record, if there is a start.
 pub(crate) fn start<K: Output>(out: &mut K, start: &Option<Postfix>) -> Result<(), Failed>
     ensures { K.takes out.old out.new (written.start shortest start.now) result }
 {

@@ -1,4 +1,4 @@
-//! How many bytes the parts of a file have.
+//! The lengths of the parts of a file, in bytes.
 
 ghost use Rattle.std.specs.Prelude.{◌≡◌, ◌<◌, ◌^◌, [], All, length, get_or};
 ghost use Rattle.mufom_module.specs.Written as form;
@@ -53,7 +53,7 @@ pub(crate) fn layout_of(parts: &Parts) -> FileLayout
     }
 }
 
-/// The offsets of the parts in the written form, and its length. Does not allocate.
+/// The offsets of the parts in the written form, and its length, in bytes. Does not allocate.
 pub fn layout(module: &Module) -> FileLayout
     ensures offsets { result.offsets ≡ form.offsets shortest «module».now }
     ensures length { result.length ≡ length (form.written «module».now) }

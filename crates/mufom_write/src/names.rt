@@ -14,7 +14,7 @@ use mufom_host::Failed;
 use mufom_names::{Note, Public, Reference, Weak};
 use mufom_numbers::{Bytes, codes};
 
-/// ATI, ATX or ATN, by the letter of the kind of the name.
+/// The ATI, ATX or ATN record, by the letter of the kind of the name.
 pub(crate) fn note<K: Output>(
     out: &mut K,
     letter: u8,
@@ -54,7 +54,7 @@ pub(crate) fn name_record<K: Output>(
     string(out, name)
 }
 
-// ASI.
+// The ASI record.
 fn value_record<K: Output>(out: &mut K, index: u64, value: &Postfix) -> Result<(), Failed>
     ensures { K.takes out.old out.new (ASSIGNMENT ∷ LETTER_I ∷ (written.number shortest index ++ written.expression shortest value.now)) result }
 {
@@ -86,7 +86,7 @@ pub(crate) fn publics<K: Output>(out: &mut K, publics: &[Public]) -> Result<(), 
 
 // ---- references
 
-// The default of a weak reference, where it is not 0.
+// The default of a weak reference, if it is not 0.
 fn default_number<K: Output>(out: &mut K, default: u64) -> Result<(), Failed>
     ensures { K.takes out.old out.new (written.default_number shortest default) result }
 {
@@ -96,7 +96,7 @@ fn default_number<K: Output>(out: &mut K, default: u64) -> Result<(), Failed>
     number(out, default)
 }
 
-// WX.
+// The WX record.
 fn weak_record<K: Output>(out: &mut K, index: u64, weak: Weak) -> Result<(), Failed>
     ensures { K.takes out.old out.new (written.weak shortest index (Some weak)) result }
 {
@@ -105,7 +105,7 @@ fn weak_record<K: Output>(out: &mut K, index: u64, weak: Weak) -> Result<(), Fai
     default_number(out, weak.default)
 }
 
-// WX, where the reference is weak.
+// The WX record, if the reference is weak.
 fn weak<K: Output>(out: &mut K, index: u64, weak: Option<Weak>) -> Result<(), Failed>
     ensures { K.takes out.old out.new (written.weak shortest index weak) result }
 {

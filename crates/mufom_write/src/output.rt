@@ -1,4 +1,4 @@
-//! What the bytes of a file are put on: a counter, or a file.
+//! Destinations for the bytes of a file: a counter, or a file.
 
 ghost use Rattle.std.specs.Prelude.{◌≡◌, ◌+◌, ℕ, List, [], ◌++◌, length, Result, Ok, Err, IsErr};
 ghost use Rattle.mufom_host.specs.declared.world.Failed.{Failed};
@@ -9,9 +9,9 @@ ghost use Rattle.mufom_write.specs.Chains.{Counts-nothing, Counts-then, Counts-s
 use mufom_host::Failed;
 use mufom_numbers::number_length;
 
-/// Where the bytes of a file go.
+/// A destination for the bytes of a file.
 pub(crate) trait Output {
-    /// What is before and after bytes that are put, with the answer.
+    /// How putting bytes changes the output, with the result.
     ghost takes: { Self → Self → List ℕ → Result (Unit {0}) Failed → Type 0 };
 
     /// Adds all of the bytes, or on a failure a prefix of them.
@@ -36,7 +36,7 @@ pub(crate) trait Output {
         → all ≡ xs ++ ys → takes a b all r };
 }
 
-/// Counts the bytes of a file and keeps none. The count stops at the greatest of 64 bits.
+/// Counts the bytes of a file without keeping them. The count stops at the greatest 64-bit number.
 #[derive(Drop)]
 pub(crate) struct Counter {
     pub(crate) bytes: u64,

@@ -28,7 +28,7 @@ fn order_letter(order: Order) -> u8
     }
 }
 
-// MB.
+// The MB record.
 fn begin_record<K: Output>(out: &mut K, parts: &Parts) -> Result<(), Failed>
     requires { IsValid parts.now }
     ensures { K.takes out.old out.new (MODULE_BEGIN ∷ written.string shortest parts.now.processor ++ written.string shortest parts.now.name) result }
@@ -38,7 +38,7 @@ fn begin_record<K: Output>(out: &mut K, parts: &Parts) -> Result<(), Failed>
     string(out, &parts.name)
 }
 
-// AD.
+// The AD record.
 fn descriptor_record<K: Output>(out: &mut K, parts: &Parts) -> Result<(), Failed>
     ensures { K.takes out.old out.new
         (DESCRIPTOR ∷ (written.number shortest 8 ++ (written.number shortest parts.now.maus ++ written.order_letter parts.now.order ∷ []))) result }
@@ -48,7 +48,7 @@ fn descriptor_record<K: Output>(out: &mut K, parts: &Parts) -> Result<(), Failed
     out.put(&[order_letter(parts.order)])
 }
 
-/// MB and AD.
+/// The MB and AD records.
 pub(crate) fn module_begin<K: Output>(out: &mut K, parts: &Parts) -> Result<(), Failed>
     requires { IsValid parts.now }
     ensures { K.takes out.old out.new (written.module_begin shortest parts.now) result }
@@ -57,7 +57,7 @@ pub(crate) fn module_begin<K: Output>(out: &mut K, parts: &Parts) -> Result<(), 
     descriptor_record(out, parts)
 }
 
-// ASW of one part.
+// The ASW record of one part.
 fn offset_record<K: Output>(out: &mut K, part: usize, offset: u64) -> Result<(), Failed>
     requires { offset < 2 ^ 32 }
     ensures { K.takes out.old out.new (written.offset_record shortest part offset) result }

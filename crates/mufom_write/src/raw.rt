@@ -11,7 +11,7 @@ use crate::write::WriteStop;
 use mufom_host::{Failed, Sink};
 use mufom_meaning::Run;
 
-/// How many bytes between runs are put at once at most.
+/// The greatest number of bytes between runs that are put at once.
 const BLOCK: usize = 256;
 
 // As many bytes of one value as there are addresses between two runs.
@@ -34,7 +34,7 @@ fn run_end(run: &Run) -> u128
     run.address as u128 + run.bytes.len() as u128
 }
 
-// The address of the first run; 0 where there is none.
+// The address of the first run; 0 if there is none.
 fn first_address(runs: &[Run]) -> u128
     ensures { result ≡ first runs.now }
 {
@@ -44,7 +44,7 @@ fn first_address(runs: &[Run]) -> u128
     }
 }
 
-// The gap before a run, where the one before it ended at `end`.
+// The gap before a run, if the previous run ended at `end`.
 fn gap_length(end: u128, run: &Run) -> u64
     ensures { result ≡ run.now.address - end }
 {
@@ -72,7 +72,7 @@ fn rows<K: Output>(out: &mut K, fill: u8, runs: &[Run]) -> Result<(), Failed>
     Ok(())
 }
 
-// All bytes of the image, where nothing was held; nothing of it is held then.
+// All bytes of the image, if nothing was held before; afterwards nothing of it is held.
 fn write_through<K: Sink>(held: &mut Held<K>, fill: u8, runs: &[Run]) -> Result<(), Failed>
     requires { held.old.block ≡ [] }
     ensures same { held.new.sink.ghost_name ≡ held.old.sink.ghost_name }
@@ -93,8 +93,8 @@ fn write_held<K: Sink>(sink: &mut K, fill: u8, runs: &[Run]) -> Result<(), Faile
     answer
 }
 
-/// How many bytes the raw image of these runs has: one for each address from the first of the first
-/// run to the last of the last one, where they are in the order of their addresses. Allocates nothing.
+/// The length in bytes of the raw image of these runs: one byte for each address from the first of the first
+/// run to the last of the last one, if they are in the order of their addresses. Does not allocate.
 pub fn raw_length(runs: &[Run]) -> u128
     ensures { (fill : ℕ) → result ≡ length (raw_image fill runs.now) }
 {
@@ -108,11 +108,11 @@ pub fn raw_length(runs: &[Run]) -> u128
 }
 
 /// Writes the raw image of the runs to the file being made: the bytes of each run, and between two
-/// runs `fill` for each address. Allocates nothing.
+/// runs `fill` for each address. Does not allocate.
 ///
 /// The runs are in the order of their addresses, as those of a location are. The sink gets large
-/// chunks, about 65,536 bytes each. `Fault` comes only where a write failed and the count of such
-/// faults rose; a prefix of the image may then be in the file.
+/// chunks, about 65,536 bytes each. `Fault` is returned only if a write failed and the count of
+/// failed writes rose; a prefix of the image may then be in the file.
 pub fn write_raw<K: Sink>(runs: &[Run], fill: u8, sink: &mut K) -> Result<(), WriteStop>
     ensures whole { OnOk result (MakingGrowsBy (K.meaning sink.old).making (K.meaning sink.new).making (raw_image fill runs.now)) }
     ensures prefix { OnErr result (MakingGrowsByPrefix (K.meaning sink.old).making (K.meaning sink.new).making (raw_image fill runs.now)) }

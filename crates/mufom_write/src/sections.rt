@@ -33,7 +33,7 @@ fn purpose_letter<K: Output>(out: &mut K, purpose: Option<Purpose>) -> Result<()
     }
 }
 
-// ST.
+// The ST record.
 fn section_record<K: Output>(out: &mut K, index: u64, section: &Section) -> Result<(), Failed>
     requires { is_long section.now.name ≡ false }
     ensures { K.takes out.old out.new (written.section_record shortest index section.now) result }
@@ -53,7 +53,7 @@ fn setting<K: Output>(out: &mut K, command: &[u8], index: u64, value: u64) -> Re
     number(out, value)
 }
 
-// SA, where the alignment is not 1.
+// The SA record, if the alignment is not 1.
 fn alignment_record<K: Output>(out: &mut K, index: u64, align: u64) -> Result<(), Failed>
     ensures { K.takes out.old out.new (written.alignment_record shortest index align) result }
 {
@@ -63,7 +63,7 @@ fn alignment_record<K: Output>(out: &mut K, index: u64, align: u64) -> Result<()
     setting(out, &[codes::SECTION_ALIGNMENT], index, align)
 }
 
-// ASS, where the size is not 0.
+// The ASS record, if the size is not 0.
 fn size_record<K: Output>(out: &mut K, index: u64, size: u64) -> Result<(), Failed>
     ensures { K.takes out.old out.new (written.size_record shortest index size) result }
 {
@@ -73,7 +73,7 @@ fn size_record<K: Output>(out: &mut K, index: u64, size: u64) -> Result<(), Fail
     setting(out, &[codes::ASSIGNMENT, codes::LETTER_S], index, size)
 }
 
-// ASL, where there is a base.
+// The ASL record, if there is a base.
 fn base_record<K: Output>(out: &mut K, index: u64, base: Option<u64>) -> Result<(), Failed>
     ensures { K.takes out.old out.new (written.base_record shortest index base) result }
 {

@@ -16,7 +16,7 @@ use mufom_module::{Module, Parts};
 use mufom_numbers::codes;
 use thiserror::Error;
 
-/// Why a module is not written.
+/// The error of writing a module.
 #[derive(Clone, Copy, Debug, PartialEq, Eq, Error)]
 pub enum WriteStop {
     /// A write failed, and was counted.
@@ -36,7 +36,7 @@ fn write_form<K: Output>(out: &mut K, parts: &Parts) -> Result<(), Failed>
     out.record(&[codes::MODULE_END])
 }
 
-// The whole file, where nothing was held; nothing of it is held then.
+// The whole file, if nothing was held before; afterwards nothing of it is held.
 fn write_through<K: Sink>(held: &mut Held<K>, parts: &Parts) -> Result<(), Failed>
     requires valid { IsValid parts.now }
     requires empty { held.old.block ≡ [] }
@@ -64,8 +64,8 @@ fn write_held<K: Sink>(sink: &mut K, parts: &Parts) -> Result<(), Failed>
 /// The sink gets each record in a write of its own, or in several if the record is longer than 65,536
 /// bytes; no clause counts writes.
 ///
-/// The written form, where it is no longer than a file may be, is a file of this module. `Fault` comes
-/// only where a write failed and the count of such faults rose; a prefix of the written form may then be
+/// If the written form is no longer than a file may be, it is a file of this module. `Fault` is returned
+/// only if a write failed and the count of failed writes rose; a prefix of the written form may then be
 /// in the file.
 pub fn write_module<K: Sink>(module: &Module, sink: &mut K) -> Result<(), WriteStop>
     ensures whole { OnOk result (MakingGrowsBy (K.meaning sink.old).making (K.meaning sink.new).making (written «module».now)) }

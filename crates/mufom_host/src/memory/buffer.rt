@@ -6,7 +6,7 @@ use mufom_numbers::NoMemory;
 use std::alloc::Global;
 use std::marker::Model;
 
-/// Bytes in room that is taken at the start: none is taken later.
+/// Bytes in a buffer that is allocated at the start and does not grow later.
 #[derive(Drop)]
 pub struct Buffer {
     bytes: Vec<u8>,
@@ -39,7 +39,7 @@ impl Buffer {
         self.bytes.as_slice()
     }
 
-    /// Whether `count` further bytes have room.
+    /// Whether there is room for `count` more bytes.
     pub fn has_room_for(&self, count: usize) -> bool
         ensures { IsTrue result ↔ (length self.now.bytes + count ≤ self.now.room) }
     {
@@ -50,7 +50,7 @@ impl Buffer {
         requires { length self.old.bytes + length text.now ≤ self.old.room }
         ensures { self.new ≡ record self.old { bytes = self.old.bytes ++ text.now } }
     {
-        // It is done, since the room is there.
+        // This succeeds, since there is room.
         let _ = self.bytes.extend_from_slice(text);
     }
 

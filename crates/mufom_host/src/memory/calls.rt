@@ -6,7 +6,7 @@ ghost use Rattle.mufom_host.specs.Kept.{is_listed};
 
 use mufom_numbers::List;
 
-/// Numbers calls from 0, and knows which of them fail. The number stays at the last `u64`.
+/// Numbers calls from 0, and knows which of them fail. The number stops at the greatest `u64`.
 #[derive(Drop)]
 pub struct Calls {
     pub failing: List<u64>,

@@ -8,8 +8,8 @@ ghost use Rattle.mufom_host.specs.Kept.{has_file, left_of, opened_file};
 use mufom_numbers::{Bytes, List, Text};
 use std::marker::Model;
 
-/// The files that may be opened, the position of the open one among them, and the offset in it
-/// from which on its bytes are not read yet.
+/// The files that may be opened, the position of the open one among them, and the offset in it, in
+/// bytes, of the first byte that has not been read yet.
 #[derive(Drop)]
 pub struct Files {
     files: List<(Text, Bytes)>,
@@ -32,7 +32,7 @@ fn position_of(files: &[(Text, Bytes)], name: &str) -> Option<usize>
     files.iter().position(|file| file.0.as_str() == name)
 }
 
-// What is left of the open file from the offset on.
+// The bytes of the open file from the offset on.
 fn rest(files: &[(Text, Bytes)], place: Option<usize>, at: usize) -> &[u8]
     ensures value { result.now ≡ left_of files.now place at }
     ensures fits { at + length result.now < 2 ^ 64 }
@@ -58,8 +58,8 @@ impl Files {
         }
     }
 
-    /// Opens the first file with this name, and returns whether there is one. Where there is none
-    /// all stays.
+    /// Opens the first file with this name, and returns whether there is one. If there is none, nothing
+    /// changes.
     pub fn open(&mut self, name: &str) -> bool
         ensures answer { result ≡ has_file name.now self.old.files }
         ensures after { self.new ≡ opened_file self.old name.now }
@@ -72,7 +72,7 @@ impl Files {
         true
     }
 
-    /// Takes the first bytes of what is left to the start of the buffer, as much as there is room for.
+    /// Moves the next bytes of the open file to the start of the buffer, as many as fit, and returns their count.
     pub fn read(&mut self, buffer: &mut [u8]) -> usize
         ensures count { result ≡ min (length buffer.new) (length self.old.left) }
         ensures bytes { take result buffer.new ≡ take result self.old.left }

@@ -7,8 +7,8 @@ use mufom_numbers::NoMemory;
 use std::alloc::Global;
 use std::marker::Model;
 
-/// Names in room that is taken at the start, where each counts its bytes and 8 more. The first
-/// that passes the room ends the list: from then on it is not known.
+/// Names in a buffer that is allocated at the start; each counts as its length in bytes plus 8. Once a
+/// name exceeds the room, the list is no longer known.
 #[derive(Drop)]
 pub struct Names {
     bytes: Vec<u8>,
@@ -43,7 +43,7 @@ impl Names {
         })
     }
 
-    /// Adds a name, and returns whether the names are known now.
+    /// Adds a name, and returns whether the list of names is still known.
     pub fn add(&mut self, name: &[u8]) -> bool
         ensures after { self.new ≡ record self.old { names = names_with self.old.room self.old.names name.now } }
         ensures known { result ≡ is_some self.new.names }
@@ -56,7 +56,7 @@ impl Names {
             self.is_known = false;
             return false;
         }
-        // It is done, since the room is there.
+        // This succeeds, since there is room.
         let _ = self.bytes.extend_from_slice(name);
         self.lengths.push_reserved(name.len());
         true

@@ -16,7 +16,7 @@ enum Stage {
     Made,
 }
 
-/// The one file that is made, in room that is taken at the start.
+/// The one file that is made, in a buffer that is allocated at the start.
 #[derive(Drop)]
 pub struct Output {
     name: Buffer,
@@ -84,7 +84,7 @@ impl Output {
         }
     }
 
-    /// Begins the file with this name and no bytes.
+    /// Starts the file with this name and no bytes.
     pub fn create(&mut self, name: &[u8])
         requires unmade { self.old.made ≡ [] }
         requires room { length name.now ≤ self.old.room }
@@ -96,8 +96,8 @@ impl Output {
         self.stage = Stage::Making;
     }
 
-    /// Whether the file being made has room for `count` further bytes. While none is being made
-    /// there is room for any.
+    /// Whether the file being made has room for `count` more bytes. While no file is being made, there
+    /// is room for any number.
     pub fn has_room_for(&self, count: usize) -> bool
         ensures { not result ≡ passes_file self.now.making self.now.room count }
     {
@@ -107,7 +107,7 @@ impl Output {
         }
     }
 
-    /// Adds the bytes to the file being made. While none is being made nothing changes.
+    /// Adds the bytes to the file being made. While no file is being made, nothing changes.
     pub fn add(&mut self, chunk: &[u8])
         requires { passes_file self.old.making self.old.room (length chunk.now) ≡ false }
         ensures { self.new ≡ record self.old { making = with_bytes self.old.making chunk.now } }
@@ -118,7 +118,7 @@ impl Output {
         }
     }
 
-    /// Finishes the file being made. While none is being made nothing changes.
+    /// Finishes the file being made. While no file is being made, nothing changes.
     pub fn finish(&mut self)
         ensures { self.new ≡ finished self.old }
     {

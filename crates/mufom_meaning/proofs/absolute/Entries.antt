@@ -115,7 +115,7 @@ public-located p = refl
 pub public-lighter : (s : Setting) (q : SitedPublic) → reading_weight (public_reading s q) ≤ public_weight q.entry
 public-lighter s q = let own = at_least_number q.entry.value in omega (arith, own)
 
--- what a debug mark weighs, where it is located
+-- the weight of a debug record as it is located; 0 if it has none
 abbrev pub located_weight : Option DebugMark → ℕ
 located_weight None = 0
 located_weight (Some mark) = mark_weight mark
@@ -231,7 +231,7 @@ weightless (SetPc n t ∷ loads) e = let a = sum_by-cons load_weight (SetPc n t)
 weightless (One item ∷ loads) e = let a = sum_by-cons load_weight (One item) loads in absurd (omega (arith, a, e))
 weightless (Repeat count items ∷ loads) e = let a = sum_by-cons load_weight (Repeat count items) loads in absurd (omega (arith, a, e))
 
--- the loads of a section, which is made the current one where it has cells
+-- the loads of a section, which is made the current one if it has cells
 with-lighter : (n room cells : ℕ) (loads : List Load) → sum_by load_weight loads ≤ 31 * cells → (cells ≡ 0) ⊎ (10 ≤ room)
     → sum_by load_weight (with_section n loads) ≤ room + 31 * cells
 with-lighter n room cells [] light some = omega arith

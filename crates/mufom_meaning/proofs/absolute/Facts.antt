@@ -1,4 +1,4 @@
--- A walk that sets counters to numbers and loads literals inside their sections meets no fact, where no two of its cells have one
+-- A walk that sets counters to numbers and loads literals inside their sections meets no fact, if no two of its cells have one
 -- address.
 use Rattle.std.proofs.Common.{◌≡◌, ℕ, zero, suc, ◌+◌, ◌<◌, ◌≤◌, ◌⊎◌, inl, inr, List, [], ◌∷◌, ◌++◌, length, Option, Some, None, true, false, refl}
 use Rattle.std.proofs.Common.{sym, ◌∙◌, ap, subst, arith}
@@ -52,7 +52,7 @@ module _ (order : Order) (s : Setting) where
     pub inside : (cell : Cell) → In cell (cells_after earlier more) → cell.0 < s.modulus
     pub free : (cell : Cell) → In cell (cells_after earlier more) → In (cell.0 % s.modulus) (loaded_addresses s earlier) → ⊥
 
-  -- the cells of a literal stand before the others
+  -- the cells of a literal come before the others
   literal_prefix : (earlier : List Step) (site : Sited) (section : ℕ) (item : Item) (more : List Step) (p : IsPlainItem s earlier section item)
       → cells_after earlier (item_step site section item ∷ more) ≡ cells_from p.at p.bytes ++ cells_after (item_step site section item ∷ earlier) more
   literal_prefix earlier site section item more p = by_item item p.is p.counted where
@@ -115,7 +115,7 @@ module _ (order : Order) (s : Setting) where
     clear_there : (earlier : List Step) (step : Step) (more : List Step) → steps ms ≡ put_back earlier (step ∷ more) → IsClear earlier (step ∷ more)
     clear_there earlier step more e = clear_at earlier (step ∷ more) (subst (IsClear []) e all)
 
-    -- no field stands in it
+    -- no field is in it
     no_field : (earlier : List Step) (site : Sited) (section : ℕ) (kind : FieldKind) (t : Tree) (size : ℕ)
         → ¬ IsStepAfter ms earlier (item_step site section (Field kind size t))
     no_field earlier site section kind t size at = let p = (clear_there earlier (item_step site section (Field kind size t)) at.0 at.1).plain.0 in

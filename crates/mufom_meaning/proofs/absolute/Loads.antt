@@ -108,7 +108,7 @@ placed-In current [] p h = absurd h
 placed-In current (load ∷ loads) p (inl e) = inl (ap (λ (x : Option ℕ × Load). x.1) e)
 placed-In current (load ∷ loads) p (inr h) = inr (placed-In _ loads p h)
 
--- ---- no load stands before a section is set
+-- ---- no load comes before a section is set
 
 somewhere : (n : ℕ) (loads : List Load) → list_any loads_nowhere (placed_from (Some n) loads) ≡ false
 somewhere n [] = refl

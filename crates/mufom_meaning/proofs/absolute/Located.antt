@@ -58,7 +58,7 @@ starts_few : (o : Option ℕ) → length (option_to_list (option_map (λ n. numb
 starts_few None = omega arith
 starts_few (Some n) = omega arith
 
--- sections that are absolute and stand at the bases are placed as themselves
+-- sections that are absolute and are at the bases are placed as themselves
 placed_as_they_are : (bs : List ℕ) (k : ℕ) (sections : List Section)
     → ((i : ℕ) (x : Section) → slice_get sections i ≡ Some x → record x { absolute = true; base = slice_get bs (k + i) } ≡ x)
     → map (placed_section bs) (enumerate_from k sections) ≡ sections

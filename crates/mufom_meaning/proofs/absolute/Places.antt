@@ -1,4 +1,4 @@
--- Sections that stand at their bases are placed there again, by a plan without regions.
+-- Sections that are at their bases are placed there again, by a plan without regions.
 use Rattle.std.proofs.Common.{◌≡◌, ℕ, ◌+◌, ◌^◌, ◌<◌, ◌≤◌, ◌⊎◌, inl, inr, List, [], ◌++◌, Option, Some, None, true, refl, sym, ◌∙◌, ap, subst, arith, append-nil}
 use Rattle.std.specs.Prelude.{slice_get, option_map}
 use Rattle.std.proofs.lemmas.Option.{slice_get-map}
@@ -51,7 +51,7 @@ module _ (plan : Plan) (sections asked : List Section) where
       ∙ (let same : 0 + n ≡ n = omega arith in λ i. Some (same i, section)))
       ∙ ap (λ o. Some (record section { absolute = true; base = o })) (base_there n section e)
 
-  -- where it stands again
+  -- where it is placed again
   again : (n : ℕ) (section : Section) (p : IsPlacing n section) → site_of no_regions placed [] (n, section)
       ≡ record { base = (site_of plan sections asked (n, p.first)).base; region = None }
   again n section p = ap (λ (x : Section). site_with x.base (placing_of (placings no_regions placed []) n)) p.same

@@ -1,4 +1,4 @@
--- The module of a location has no defect, where it is not too heavy.
+-- The module of a location has no defect, if it is not too heavy.
 use Rattle.std.proofs.Common.{◌≡◌, ◌≢◌, ◌⊎◌, inl, inr, ℕ, ◌^◌, ◌<◌, List, [], ◌∷◌, map, length, Option, Some, None, Bool, true, false, not, ◌||◌}
 use Rattle.std.proofs.Common.{◌&&◌, refl, sym, ◌∙◌, ap, subst, cond}
 use Rattle.std.specs.Prelude.{slice_get, nat_lt, ◌==◌, option_map, is_none}

@@ -210,7 +210,7 @@ module _ (order : Order) (s : Setting) (site : Sited) where
       let b = append_assoc (cells_from row.address row.bytes) (cells_within base (base + size) runs) cells in
       subst (λ (x : List Load × List Cell). GoodWalk earlier (steps_of site (Some n) x.0) x.1) (λ i. (sym a i, sym b i)) whole
 
-  -- where nothing is loaded there are no cells
+  -- if nothing is loaded, there are no cells
   run_empty : (n base to : ℕ) (run : Run) → loads_of_bytes n (run_within base to run) (run_within base to run).bytes ≡ []
       → cells_from (run_within base to run).address (run_within base to run).bytes ≡ []
   run_empty n base to run e = by_bytes (run_within base to run).bytes e where

@@ -61,7 +61,7 @@ two-filters {X} w p q (x ∷ xs) = by_case (q x) (p x) refl (two-filters w p q x
 
 -- ---- the commons
 
--- what a common weighs at most, where it is located
+-- a bound on the weight of a common, once it is located
 abbrev common_weight : List ℕ → ℕ
 common_weight name = 74 + length name
 
@@ -79,7 +79,7 @@ module _ (ms : List Parts) (plan : Plan) where
   abbrev pub asking : List Reference
   asking = filter is_common (flat_references ms)
 
-  -- what goes by the names of the commons comes to no more than for all these references
+  -- what goes by the names of the commons adds up to no more than for all these references
   pub names-lighter : (w : List ℕ → ℕ) → sum_by w (distinct bytes_eq (common_names ms)) ≤ sum_by (λ (r : Reference). w r.name) asking
   names-lighter w =
       let pairs = map (λ (reference : Reference). (reference.name, common_size reference.weak)) (filter is_common (unresolved_references ms)) in

@@ -382,7 +382,7 @@ module _ (M : Parts) (ms before after : List Parts) (name : List ℕ) (j : IsJoi
       or_else (image_limit_at (total i)
       or_else walk i))))
 
--- what is answered in place of a link or a location is what is answered for the flat list
+-- what is returned in place of a link or a location is what is returned for the flat list
 pub answers_agree : (M : Parts) (ms before after : List Parts) (name : List ℕ) (plan : Plan)
     → IsJoined M ms name → AreValid (before ++ (ms ++ after)) → HaveDescriptor M (before ++ (ms ++ after))
     → AreDistinct (public_names (before ++ (ms ++ after)))

@@ -71,7 +71,7 @@ before_walk_like ms ns h plan b (load_outside section address) f = absurd f
 before_walk_like ms ns h plan b (loaded_twice address) f = absurd f
 before_walk_like ms ns h plan b (overflow section at kind size v) f = absurd f
 
--- a fact stands where the sections and commons have these bases
+-- a fact holds if the sections and commons have these bases
 abbrev StandsAt : List Parts → Plan → Bases → LocateFact → Type 0
 StandsAt ms plan b fact =
     StandsBeforeWalk ms plan (setting ms b) fact

@@ -1,4 +1,4 @@
--- The answers are about the facts.
+-- The results are about the facts.
 use Rattle.std.proofs.Common.{◌≡◌, ℕ, zero, suc, ◌<◌, ◌⊎◌, inl, inr, List, [], ◌∷◌, map, length, Option, Some, None, Bool, true, false, not, refl}
 use Rattle.std.proofs.Common.{sym, ◌∙◌, ap, subst, arith}
 use Rattle.std.specs.Prelude.{slice_get, option_map, nat_lt, if◌then◌else◌, IsTrue}
@@ -47,7 +47,7 @@ module _ (ms : List Parts) (plan : Plan) where
   abbrev no_refusal : Type 0
   no_refusal = refusal ≡ None
 
-  -- what stands where all that comes before the walk answers nothing
+  -- what holds if all that comes before the walk returns nothing
   pub before_complete : no_refusal → option_map undefined (first_undefined ms) ≡ None → option_map common_unplaced (first_unplaced_common ms plan) ≡ None
       → first_some (cycle_at ms) (public_names ms) ≡ None → image_limit_at (loaded_total ms) ≡ None → (fact : LocateFact) → ¬ StandsBeforeWalk ms plan s fact
   before_complete a d e f g (placement fact) h = refusal_complete (width ms) plan (flat_sections ms) (placed_commons ms plan) fact a h
@@ -82,7 +82,7 @@ module _ (ms : List Parts) (plan : Plan) where
   before_complete a d e f g (loaded_twice address) h = h
   before_complete a d e f g (overflow section at kind size v) h = h
 
-  -- a fact stands where no link fact does
+  -- a fact holds if no link fact does
   abbrev Stands : LocateFact → Type 0
   Stands fact = ((other : LinkFact) → ¬ LinkFactStands ms other) → LocateFactStands ms plan fact
 
@@ -200,7 +200,7 @@ module _ (ms : List Parts) (plan : Plan) where
         by_case before walk (inl h) = before fact h
         by_case before walk (inr h) = walk fact h.2
 
--- the answers are about the facts
+-- the results are about the facts
 pub answers_are_facts : (ms : List Parts) (plan : Plan) → AnswersAreFacts ms plan
 answers_are_facts ms plan = record {
   link_sound = link_sound ms;

@@ -1,4 +1,4 @@
--- What is answered in place of a link or a location is a fact, and facts are answered.
+-- What is returned in place of a link or a location is a fact, and facts are returned.
 use Rattle.std.proofs.Common.{◌||◌, ◌≡◌, ℕ, zero, suc, ◌<◌, ◌⊎◌, inl, inr, List, [], ◌∷◌, length, Option, Some, None, Bool, true, false, not, ◌&&◌}
 use Rattle.std.proofs.Common.{refl, sym, ◌∙◌, ap, cond, arith, rules}
 use Rattle.std.specs.Prelude.{slice_get, find, option_map, ◌==◌, if◌then◌else◌}
@@ -121,7 +121,7 @@ mismatch_complete (m ∷ ms) h d e f =
       first_is m ms none n (suc i) at = same_descriptor-there m n
           (not_false (same_descriptor m n) (find_none (λ other. not (same_descriptor m other)) ms none n i at))
 
--- a name that stands in the names before, or earlier among these
+-- a name that is among the names before, or earlier among these
 abbrev StandsEarlier : List (List ℕ) → List (List ℕ) → List ℕ → ℕ → Type 0
 StandsEarlier before names s j = (has_name before s ≡ true) ⊎ ((i : ℕ) × (i < j) × (slice_get names i ≡ Some s))
 
@@ -195,7 +195,7 @@ starts_complete [] e h = omega arith
 starts_complete (x ∷ []) e h = omega arith
 starts_complete (x ∷ y ∷ ts) e h = cc
 
--- what is answered in place of a link stands
+-- what is returned in place of a link holds
 pub link_sound : (ms : List Parts) (fact : LinkFact) → link_answer ms ≡ Some fact → LinkFactStands ms fact
 link_sound ms fact e = first (or_else_some (first_mismatch ms) _ fact e) where
   starts : (fact : LinkFact) → two_starts (flat_starts ms) ≡ Some fact → LinkFactStands ms fact
@@ -224,7 +224,7 @@ link_sound ms fact e = first (or_else_some (first_mismatch ms) _ fact e) where
   first (inl h) = mismatch_sound ms fact h
   first (inr h) = second (or_else_some _ _ fact h.1)
 
--- where nothing is answered in place of a link, no link fact stands
+-- if nothing is returned in place of a link, no link fact holds
 pub link_complete : (ms : List Parts) → link_answer ms ≡ None → (fact : LinkFact) → ¬ LinkFactStands ms fact
 link_complete ms e (mismatch d f) h = mismatch_complete ms (or_else_none (first_mismatch ms) _ e).0 d f h
 link_complete ms e (duplicate s) h =

@@ -1,4 +1,4 @@
--- Names lead in circles in the list with a link where they do in the list with the group.
+-- Names form cycles in the list with a link if they do in the list with the group.
 use Rattle.std.proofs.Common.{◌≡◌, ℕ, zero, suc, ◌+◌, List, [], ◌∷◌, map, length, Option, Some, None, Bool, true, false, ◌||◌, refl, sym, ◌∙◌, ap}
 use Rattle.std.proofs.Common.{subst, add_assoc}
 use Rattle.std.specs.Prelude.{slice_get, if◌then◌else◌}

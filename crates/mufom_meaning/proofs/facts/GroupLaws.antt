@@ -1,4 +1,4 @@
--- What is answered in place of the link of a list goes by its groups.
+-- What is returned in place of the link of a list goes by its groups.
 use Rattle.std.proofs.Common.{◌≡◌, List, [], ◌∷◌, ◌++◌, flat_map, inl, inr, refl, sym, ◌∙◌, ap, subst, append-nil, append_assoc}
 use Rattle.mufom_module.specs.declared.module.Parts.{Parts}
 use Rattle.mufom_meaning.specs.Facts.{LinkFact}

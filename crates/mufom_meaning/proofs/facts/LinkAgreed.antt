@@ -1,4 +1,4 @@
--- What is answered in place of an outer link is the same with a group linked.
+-- What is returned in place of an outer link is the same with a group linked.
 use Rattle.std.proofs.Common.{◌≡◌, ℕ, ◌+◌, List, [], ◌∷◌, ◌++◌, length, Option, Some, Bool, true, false, not, ◌&&◌, refl, sym, ◌∙◌, ap, cond, length-append}
 use Rattle.std.specs.Prelude.{option_map, option_to_list, find, ◌==◌}
 use Rattle.std.proofs.lemmas.Grind.{flat_map-append}

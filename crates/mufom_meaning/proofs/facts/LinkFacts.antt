@@ -32,7 +32,7 @@ get_within : {A : Type 0} (before xs after : List A) (i : ℕ) (x : A) → slice
     → slice_get (before ++ (xs ++ after)) (position_after before i) ≡ Some x
 get_within before xs after i x e = get_after before (xs ++ after) i ∙ get_prefix xs after i x e
 
--- the name stands at a place where it repeats
+-- the name is at a place where it repeats
 abbrev pub IsRepeated : List (List ℕ) → List ℕ → Type 0
 IsRepeated names name = (place : ℕ) × (slice_get names place ≡ Some name) × RepeatsAt names place
 

@@ -1,4 +1,4 @@
--- The link facts about a list with a link are those about the flat list, where the group alone has one descriptor.
+-- The link facts about a list with a link are those about the flat list, if the group alone has one descriptor.
 use Rattle.std.proofs.Common.{◌≡◌, ℕ, zero, suc, ◌<◌, ◌⊎◌, inl, inr, List, [], ◌∷◌, ◌++◌, Some, refl, sym, ◌∙◌, ap, subst}
 use Rattle.std.specs.Prelude.{slice_get}
 use Rattle.mufom_module.specs.declared.module.Parts.{Parts}

@@ -1,4 +1,4 @@
--- What it means that nothing is answered in place of a link.
+-- What it means that nothing is returned in place of a link.
 use Rattle.std.proofs.Common.{◌≡◌, ◌≢◌, ℕ, zero, suc, ◌<◌, ◌≤◌, ◌⊎◌, inl, inr, List, [], ◌∷◌, length, Option, Some, None, Bool, true, false, refl, ap}
 use Rattle.std.proofs.Common.{arith, rules}
 use Rattle.std.specs.Prelude.{◌==◌}

@@ -18,7 +18,7 @@ use Rattle.mufom_meaning.specs.Counts.{loaded_total, step_length, lengths_of_ste
 use Rattle.mufom_meaning.specs.Staging.{AreValid}
 use Rattle.mufom_meaning.specs.FactLaws.{CountsAgree}
 
--- where none passes, this one does not
+-- if none passes, this one does not
 not_found : {X : Type 0} (p : X → Bool) (xs : List X) (x : X) (ys : List X) → find p (xs ++ x ∷ ys) ≡ None → p x ≡ false
 not_found p [] x ys e = by_case (p x) e where
   by_case : (b : Bool) → cond b (Some x) (find p ys) ≡ None → b ≡ false
@@ -29,7 +29,7 @@ not_found p (y ∷ xs) x ys e = not_found p xs x ys (by_case (p y) e) where
   by_case true e = absurd cc
   by_case false e = e
 
--- no load of a valid module stands before the first section
+-- no load of a valid module comes before the first section
 pub loads_somewhere : (m : Parts) → IsValid m → list_any loads_nowhere (placed_from None m.loads) ≡ false
 loads_somewhere m valid =
     not_found (has_defect m) (d.Depth ∷ d.LongId ∷ d.BadMaus ∷ d.BadAlign ∷ d.MissingBase ∷ d.Position ∷ d.MisplacedP ∷ []) d.NoSection
@@ -48,7 +48,7 @@ length-repeated (suc n) xs =
     let split = sum_by-append step_length xs (repeated n xs) in
     grind (arith, rest, split)
 
--- where a section is current
+-- if a section is current
 length-steps_of : (site : Sited) (section : ℕ) (loads : List Load) → lengths_of_steps (steps_of site (Some section) loads) ≡ lengths_loaded loads
 length-steps_of site section [] = refl
 length-steps_of site section (SetSection n ∷ loads) =
@@ -75,7 +75,7 @@ length-steps_of site section (Repeat count items ∷ loads) =
     λ i. own i + rest i)
     ∙ sym (sum_by-cons length_loaded (Repeat count items) loads)
 
--- where none is current yet
+-- if none is current yet
 length-from_none : (site : Sited) (loads : List Load) → list_any loads_nowhere (placed_from None loads) ≡ false
     → lengths_of_steps (steps_of site None loads) ≡ lengths_loaded loads
 length-from_none site [] h = refl

@@ -1,4 +1,4 @@
--- What the walk answers is a fact, and facts of the walk are answered.
+-- What the walk returns is a fact, and facts of the walk are returned.
 use Rattle.std.proofs.Common.{◌≡◌, ℕ, zero, suc, ◌+◌, ◌<◌, ◌≤◌, ◌⊎◌, inl, inr, List, [], ◌∷◌, map, Option, Some, None, Bool, true, false, ◌||◌, refl}
 use Rattle.std.proofs.Common.{sym, ◌∙◌, ap, subst, arith}
 use Rattle.std.specs.Prelude.{slice_get, nat_lt, nat_le, ◌%◌, ◌==◌, if◌then◌else◌, IsTrue}
@@ -60,7 +60,7 @@ at_number (m ∷ ms) n (suc i) e = after (m == n) (at_number ms n i e) where
   after true h = refl
   after false h = h
 
--- an address that stands before, or earlier among these
+-- an address that is before these, or earlier among them
 abbrev Earlier : List ℕ → List ℕ → ℕ → ℕ → Type 0
 Earlier before xs a q = (has_number before a ≡ true) ⊎ ((p : ℕ) × (p < q) × (slice_get xs p ≡ Some a))
 
@@ -81,7 +81,7 @@ twice_at before (x ∷ xs) fact e = by_case (has_number before x) refl e (twice_
     earlier q a (inl h) = among q a (x == a) refl h
     earlier q a (inr h) = let less : suc h.0 < suc q = omega (arith, h.1) in inr (suc h.0, less, h.2)
 
--- where none stands twice, none stands before
+-- if none occurs twice, none occurs before
 none_before : (before xs : List ℕ) → first_twice before xs ≡ None → (q a : ℕ) → slice_get xs q ≡ Some a → has_number before a ≡ false
 none_before before [] e q a h = absurd cc
 none_before before (x ∷ xs) e q a h = by_case (has_number before x) refl e q h (none_before (x ∷ before) xs) where
@@ -209,7 +209,7 @@ module _ (ms : List Parts) (s : Setting) where
         by_case (inl h) later = step_sound earlier step (more, all) fact h
         by_case (inr h) later = later h.1
 
-  -- what the walk answers stands
+  -- what the walk returns holds
   pub walk_sound : (fact : LocateFact) → walk_answer ms s ≡ Some fact → Walk fact
   walk_sound fact e = first (or_else_some _ _ fact e) where
     third : (first_some (start_fact s) (start_trees ms) ≡ Some fact)
@@ -332,7 +332,7 @@ module _ (ms : List Parts) (s : Setting) where
   walk_none a b c d (cycle name) h = h
   walk_none a b c d (image_limit count) h = h
 
-  -- where the walk answers nothing, no fact of the walk stands
+  -- if the walk returns nothing, no fact of the walk holds
   pub walk_complete : walk_answer ms s ≡ None → (fact : LocateFact) → ¬ StandsInWalk ms s fact
   walk_complete e fact h =
       let a = or_else_none (first_some (public_fact s) s.publics) _ e in

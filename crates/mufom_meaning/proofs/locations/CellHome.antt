@@ -1,4 +1,4 @@
--- Where no byte lies outside its section, each cell of the address map lies in a section.
+-- If no byte lies outside its section, each cell of the address map lies in a section.
 use Rattle.std.proofs.Common.{◌≡◌, ℕ, ◌+◌, ◌<◌, ◌≤◌, inl, inr, List, [], Option, Some, None, refl, sym, ap, subst, arith}
 use Rattle.std.specs.Prelude.{slice_get, option_map, unwrap_or, ◌%◌}
 use Rattle.mufom_sections.specs.declared.section.Section.{Section}

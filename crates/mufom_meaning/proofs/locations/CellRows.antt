@@ -1,4 +1,4 @@
--- The maximal rows of an address map: there are such rows where no address stands twice, and only one list of them.
+-- The maximal rows of an address map: there are such rows if no address occurs twice, and only one list of them.
 use Rattle.std.proofs.Common.{◌≡◌, ℕ, suc, ◌+◌, ◌<◌, ◌≤◌, ◌↔◌, inl, inr, List, [], ◌∷◌, ◌++◌, length, Bool, true, false, refl, sym, ◌∙◌, ap, subst}
 use Rattle.std.proofs.Common.{arith, rules}
 use Rattle.std.specs.Prelude.{◌==◌, nat_lt, if◌then◌else◌}
@@ -237,7 +237,7 @@ in_place-rises [] h = tt
 in_place-rises (cell ∷ cells) h = let low : 0 ≤ cell.0 = omega arith in
     placed_cell-rises cell 0 (in_place cells) low (in_place-rises cells h.1) (λ other m. h.0 other (in_place-In other cells m))
 
--- where no two cells have one address there are maximal rows
+-- if no two cells have one address there are maximal rows
 pub rows_exist : (cells : List Cell) → HaveOwnAddresses cells → (runs : List Run) × AreRowsOf cells runs
 rows_exist cells h =
     let back = rows_of-cells (in_place cells) in (

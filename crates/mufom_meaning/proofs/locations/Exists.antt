@@ -1,4 +1,4 @@
--- Where no fact stands there is a location.
+-- If no fact holds, there is a location.
 use Rattle.std.proofs.Common.{◌≡◌, ℕ, suc, ◌+◌, ◌<◌, inl, inr, List, [], ◌∷◌, ◌++◌, map, length, Option, Some, None, refl, sym, ◌∙◌, ap, subst, arith}
 use Rattle.std.proofs.Common.{length-append}
 use Rattle.std.specs.Prelude.{option_map, option_to_list, unwrap_or, flat_map}
@@ -59,7 +59,7 @@ module _ (ms : List Parts) (s : Setting) (h : HaveValues ms s) where
         λ i. record { name = q.entry.name; notes = q.entry.notes; value = sym here.1 i } ∷ later.1 i,
       )
 
-  -- a debug mark of a module with numbers in place of its expressions
+  -- a debug record of a module with numbers in place of its expressions
   abbrev pub number_there : Sited → Tree → Tree
   number_there site t = number (unwrap_or (value s site None t) 0)
 

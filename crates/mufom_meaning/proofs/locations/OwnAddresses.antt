@@ -1,4 +1,4 @@
--- Where no address is loaded twice, no two cells of the address map have one address.
+-- If no address is loaded twice, no two cells of the address map have one address.
 use Rattle.std.proofs.Common.{◌≡◌, ℕ, zero, suc, ◌+◌, ◌<◌, ◌⊎◌, inl, inr, List, [], ◌∷◌, ◌++◌, map, length, Option, Some, None, refl, ◌∙◌, ap, subst, arith}
 use Rattle.std.specs.Prelude.{◌%◌, ◌/◌}
 use Rattle.std.proofs.lemmas.List.{length-reverse}

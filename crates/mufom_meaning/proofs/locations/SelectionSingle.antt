@@ -1,4 +1,4 @@
--- The selected members are determined: two least closed choices have the same members, and both stand in order.
+-- The selected members are determined: two least closed choices have the same members, and both are in order.
 use Rattle.std.proofs.Common.{◌≡◌, ℕ, zero, suc, ◌<◌, ◌⊎◌, inl, inr, List, [], ◌∷◌, length, refl, sym, arith}
 use Rattle.std.specs.Prelude.{Contains}
 use Rattle.std.specs.List.{AllPairs, slice_index_or}

@@ -1,4 +1,4 @@
--- Commons of concrete modules: where they are placed, the values of their references, and the error where they are not placed.
+-- Commons of concrete modules: where they are placed, the values of their references, and the error if they are not placed.
 use Rattle.std.proofs.Common.{◌≡◌, ℕ, List, [], ◌∷◌, length, Some, None, true, false, refl, ap, arith}
 use Rattle.std.specs.Prelude.{codes}
 use Rattle.mufom_expr.specs.declared.token.FieldKind.TheVariants.{Either}
@@ -129,7 +129,7 @@ default_not_used : image_of default_beside (with_commons 64) ≡ common_image
 unfolding readings counter value_within
 default_not_used = refl
 
--- A common that two modules ask for is not placed twice: what has it twice is no location of them.
+-- A common that two modules ask for is not placed twice: what has it twice is not a location of them.
 abbrev common_at : ℕ → ℕ → Section
 common_at size base = record { name = codes "c"; absolute = true; purpose = None; size = size; align = 8; base = Some base }
 

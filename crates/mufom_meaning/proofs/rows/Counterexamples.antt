@@ -1,4 +1,4 @@
--- Wrong links of concrete modules: none of them is the link of its list, and those whose readings differ do not stand for it.
+-- Wrong links of concrete modules: none of them is the link of its list, and those whose readings differ cannot replace it.
 use Rattle.std.proofs.Common.{◌+◌, ◌≡◌, ℕ, List, [], ◌∷◌, ◌++◌, length, map, Option, Some, None, refl, sym, ◌∙◌, ap, arith, rules}
 use Rattle.std.specs.Prelude.{codes, slice_get, option_map, option_and_then, unwrap_or, ◌+◌}
 use Rattle.mufom_expr.specs.declared.token.FieldKind.TheVariants.{Unsigned, Either}
@@ -27,7 +27,7 @@ use Rattle.mufom_meaning.proofs.facts.Answers.{distinct_places}
 use Rattle.mufom_meaning.proofs.rows.Built.{a_module, relocatable, public_of, strong, weak, sections_at}
 use Rattle.mufom_meaning.proofs.rows.Names.{crossed_a, crossed_b, crossed_link, with_default}
 
--- where no name is found twice, the names are distinct
+-- if no name is found twice, the names are distinct
 distinct_of : (names : List (List ℕ)) → first_duplicate [] names ≡ None → AreDistinct names
 distinct_of names e place h = distinct_places [] names e h.1 h.0 place h.2 h.3 h.4
 
@@ -37,7 +37,7 @@ alone : (m : Parts) (ms : List Parts) (bases : Bases) → first_duplicate [] (pu
 alone m ms bases names placed =
     record { before_valid = tt; after_valid = tt; descriptor = tt; names = distinct_of (public_names ((m ∷ ms) ++ [])) names; placed = placed }
 
--- what the readings state of a public, and of a field, where they state a value
+-- what the readings state of a public, and of a field, if they state a value
 abbrev public_value : ℕ → Readings → ℕ
 public_value n r = unwrap_or (option_and_then (λ p. p.value) (slice_get r.publics n)) 0
 

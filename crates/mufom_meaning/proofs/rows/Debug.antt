@@ -1,4 +1,4 @@
--- A worked debug part: its marks, what they mean where the section stands at 256, and the marks of the location.
+-- A worked debug part: its records, what they mean if the section is at 256, and the records of the location.
 use Rattle.std.proofs.Common.{◌≡◌, List, [], ◌∷◌, ◌++◌, map, Some, None, refl, ap, rules}
 use Rattle.std.specs.Prelude.{codes}
 use Rattle.mufom_expr.specs.declared.token.Letter.TheVariants.{R}
@@ -32,7 +32,7 @@ outer = block_case (record { head = heads.Module; name = codes "prog"; items = n
 abbrev debugged : Parts
 debugged = record (a_module (relocatable (codes "code") 16 ∷ []) [] [] []) { debug = outer ∷ [] }
 
--- the marks, where the expressions are made from those of the section's base
+-- the records, if the expressions are made from those of the section's base
 abbrev its_marks : List DebugMark
 its_marks = block_begin heads.Module (codes "prog") ∷ name_mark (codes "x") ∷ block_begin (heads.Global 0 0 (variable R 0)) (codes "main") ∷ name_mark
     (codes "l")

@@ -1,4 +1,4 @@
--- Lists that go over the modules of a list, where a group of the list is linked.
+-- Lists that go over the modules of a list, if a group of the list is linked.
 use Rattle.std.proofs.Common.{◌≡◌, ℕ, zero, suc, ◌+◌, List, [], ◌∷◌, ◌++◌, map, length, Some, refl, sym, ◌∙◌, ap, subst, add_assoc, add-zero}
 use Rattle.std.proofs.Common.{flat_map, length-append}
 use Rattle.std.specs.Prelude.{slice_get}
@@ -19,7 +19,7 @@ abbrev pub AllSites : (Sited → Type 0) → List Sited → Type 0
 AllSites P [] = Unit {0}
 AllSites P (site ∷ sites) = P site × AllSites P sites
 
--- where a link maps each entry of each module, and the entries correspond, the lists over all modules do
+-- if a link maps each entry of each module, and the entries correspond, the lists over all modules do
 module _ {X Y U V : Type 0} (R : U → V → Type 0) (entries : Sited → List X) (change : Sited → X → Y) (f : Y → U) (g : Sited → X → V) (P : Sited → Type 0)
     (moved : (site : Sited) → P site → (x : X) → R (f (change site x)) (g site x)) where
   paired_entries : (site : Sited) → P site → (xs : List X) → Paired R (map f (map (change site) xs)) (map (g site) xs)

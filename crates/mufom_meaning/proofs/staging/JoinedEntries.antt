@@ -25,7 +25,7 @@ pub list_any-mapped : {X Y : Type 0} (p : Y → Bool) (f : X → Y) (xs : List X
 list_any-mapped p f [] = refl
 list_any-mapped p f (x ∷ xs) = ap (λ b. p (f x) || b) (list_any-mapped p f xs)
 
--- a test passes no entry of a link where it passes none that a module gives it
+-- a test passes no entry of a link if it passes none that a module gives it
 pub none-joined : {X : Type 0} (test : X → Bool) (own : Parts → List X) (into : Sited → X → X) (sites : List Sited)
     → ((site : Sited) → In site sites → (x : X) → In x (own site.parts) → test (into site x) ≡ false)
     → list_any test (flat_map (λ site. map (into site) (own site.parts)) sites) ≡ false

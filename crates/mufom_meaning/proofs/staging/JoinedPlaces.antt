@@ -32,7 +32,7 @@ use Rattle.mufom_meaning.proofs.References.{Among-distinct, get-position_of, sam
 use Rattle.mufom_meaning.proofs.staging.Renamed.{variables_of-with_variables}
 use Rattle.mufom_meaning.proofs.staging.JoinedEntries.{list_any-mapped}
 
--- the entries of a module of the list stand within those of its link M
+-- the entries of a module of the list are within those of its link M
 pub record Fits (M : Parts) (ms : List Parts) (site : Sited) : Type 0 where
   pub there : In site (sited ms)
   pub sections : site.first_section + length site.parts.sections ≤ length M.sections
@@ -52,7 +52,7 @@ position_of-within : {A : Type 0} (test : A → Bool) (x : A) (xs : List A) → 
 position_of-within test x xs h passes =
     let there = at-In x xs h in let found = get-position_of test x passes xs there.0 there.1 in get-within xs (position_of test xs) found.0 found.1
 
--- a name that stands in a list is found there
+-- a name that is in a list is found there
 name-within : (names : List (List ℕ)) (name : List ℕ) → has_name names name ≡ true → position_of (λ other. bytes_eq other name) names < length names
 name-within [] name e = absurd cc
 name-within (first ∷ names) name e = by_case (bytes_eq name first) refl e (name-within names name) where
@@ -236,7 +236,7 @@ module _ (M : Parts) (ms : List Parts) (site : Sited) (fits : Fits M ms site) wh
 
   -- ---- the current section
 
-  -- the section that is current in the link, where this one is in the module; any may be where none is
+  -- the section that is current in the link, where this one is in the module; any may be if none is
   abbrev Runs : Option ℕ → Option ℕ → Type 0
   Runs None now = Unit {0}
   Runs (Some k) now = now ≡ Some (site.first_section + k)

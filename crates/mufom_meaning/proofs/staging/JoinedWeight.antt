@@ -77,7 +77,7 @@ module _ (ms : List Parts) where
 
 -- ---- lists of entries
 
--- what the entries of all modules weigh together, where a link has them one after another
+-- the weight of the entries of all modules together, if a link has them one after another
 sum-sited : {X : Type 0} (w : X → ℕ) (own : Parts → List X) (into : Sited → X → X) → ((site : Sited) (x : X) → w (into site x) ≡ w x)
     → (s p d : ℕ) (ms : List Parts) → sum_by w (flat_map (λ site. map (into site) (own site.parts)) (sited_from s p d ms)) ≡ sum_by (λ m. sum_by w (own m)) ms
 sum-sited w own into same s p d [] = refl
@@ -161,7 +161,7 @@ split_weights (m ∷ ms) =
     let g = sum_by-cons (λ (n : Parts). sum_by (λ t. 4 + expression_weight t) (option_to_list n.start)) m ms in
     omega (arith, rest, whole, own, start, a, b, c, d, e, f, g)
 
--- a link weighs no more than its list, but for its name in the place of the first module's
+-- a link weighs no more than its list, with its name in place of the first module's
 pub joined_weighs : (M : Parts) (ms : List Parts) (name : List ℕ) → IsJoined M ms name → weight M + first_name_length ms ≤ total_weight ms + length name
 joined_weighs M ms name j =
     let all = split_weights ms in

@@ -18,7 +18,7 @@ use Rattle.mufom_expr.proofs.ValueLaws.{value_at-renamed}
 use Rattle.mufom_meaning.proofs.staging.Renamed.{value_at-agrees}
 use Rattle.mufom_meaning.proofs.References.{Among, Among-filter, Among-distinct, get-position_of, get-length, same_reference-decides}
 
--- the place that a module of a group has in a list where the group stands at home
+-- the place that a module of a group has in a list where the group is at home
 abbrev pub shifted : Sited → Sited → Sited
 shifted home site = record {
   parts = site.parts;
@@ -161,7 +161,7 @@ module _ (ms : List Parts) (home : Sited) (s other : Setting) (h : AreSettings m
       ap (λ place. valuation_of w (slice_get s.publics place)) (sym (add_assoc home.first_public site.first_public n)) ∙ same_public _
   same_inside site within pc letters.X n = same_reference_variable site within pc n (slice_get site.parts.names.references n) refl
 
-  -- one step of names: where the publics agree, the expressions do
+  -- one step of names: if the publics agree, the expressions do
   pub same_step : (pc : Option ℕ) (site : Sited) (t : Tree) (site' : Sited) (t' : Tree) → MovedTree ms home site t site' t'
       → value_at s.modulus (environment s w site pc) t ≡ value_at other.modulus (environment other v site' pc) t'
   same_step pc _ _ _ _ (stays site t) =

@@ -1,4 +1,4 @@
--- The value of an expression where its variables are renamed, and where two environments agree.
+-- The value of an expression if its variables are renamed, and if two environments agree.
 use Rattle.std.proofs.Common.{◌≡◌, ℕ, ◌++◌, map, refl, sym, ◌∙◌, ap}
 use Rattle.std.specs.Prelude.{option_map, ◌%◌}
 use Rattle.std.proofs.lemmas.List.{map-append}

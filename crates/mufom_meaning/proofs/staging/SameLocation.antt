@@ -53,7 +53,7 @@ module _ (ms leaves : List Parts) (plan : Plan) (link : link_answer ms ≡ link_
     rows = subst (λ cells. AreRowsOf cells r.runs) (λ i. address_map r.order (2 ^ widths i) (there i).steps) h.rows;
   }
 
--- the first module of a list where a group is linked
+-- the first module of a list in which a group is linked
 pub same_first_header : (M : Parts) (ms : List Parts) → HasFirstHeader M ms → (before after : List Parts) → NameStays before M ms
     → first_header (before ++ (M ∷ after)) ≡ first_header (before ++ (ms ++ after))
 same_first_header M [] h [] after stay = absurd h

@@ -1,4 +1,4 @@
--- The setting of a list with a link, and that of the list with the group that the link stands for.
+-- The setting of a list with a link, and that of the list with the group that the link replaces.
 use Rattle.std.proofs.Common.{◌≡◌, ℕ, ◌+◌, ◌*◌, List, [], ◌∷◌, ◌++◌, map, length, Some, true, false, refl, sym, ◌∙◌, ap, subst, zero-add, flat_map}
 use Rattle.std.specs.Prelude.{slice_get, ◌^◌}
 use Rattle.std.specs.Str.{bytes_eq}

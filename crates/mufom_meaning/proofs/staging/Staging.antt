@@ -1,4 +1,4 @@
--- A partial link stands for its list.
+-- A partial link can replace its list.
 use Rattle.std.proofs.Common.{◌≡◌, ℕ, ◌+◌, List, [], ◌∷◌, ◌++◌, map, Option, Some, None, refl, sym, ◌∙◌, ap, subst, add_assoc, flat_map}
 use Rattle.std.specs.Prelude.{option_to_list, option_map}
 use Rattle.mufom_expr.specs.Tree.{Tree}
@@ -145,7 +145,7 @@ module _ (M : Parts) (ms : List Parts) (name : List ℕ) (j : IsJoined M ms name
       let f = same_needs M ms name j before after in let g = same_commons M ms name j before after in
       λ i. record { sections = a i; publics = b i; steps = c i; starts = d i; debug = e i; needs = f i; commons = g i }
 
--- a partial link stands for its list
+-- a partial link can replace its list
 pub joined_stands_for : JoinedStandsFor
 joined_stands_for M ms name j v = (
   λ before after bases context. same_readings_there M ms name j v before after context.names bases,

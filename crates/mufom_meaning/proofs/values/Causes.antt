@@ -73,7 +73,7 @@ module _ (f g : Tree → Option ℕ) (keeps : (t : Tree) (v : ℕ) → f t ≡ S
 divides_by_zero-same : (f g : Tree → Option ℕ) → ((t : Tree) → f t ≡ g t) → (t : Tree) → divides_by_zero f t ≡ true → divides_by_zero g t ≡ true
 divides_by_zero-same f g same = divides_by_zero-keeps f g (λ t v e. sym (same t) ∙ e)
 
--- a variable that has no value stands in the tree
+-- a variable that has no value is in the tree
 lacking : (env : Environment) (t : Tree) → LacksAValue env t → (v : Letter × ℕ) × In v (variables_of t) × (env v.0 v.1 ≡ None)
 lacking env (number n) h = absurd h
 lacking env (variable l n) h = ((l, n), inl refl, h)

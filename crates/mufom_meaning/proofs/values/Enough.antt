@@ -72,7 +72,7 @@ value_within-ends s (suc k) d site pc t ends =
     ap (λ n. value_within s n site pc t) next
     ∙ same_value s (valuation_below s (suc (d + k))) (valuation_below s (suc k)) site pc t (λ q m. value_within-ends s k d q.site None q.entry.value (ends q m))
 
--- where no name stands twice and none leads back to itself, as many steps as there are publics are enough
+-- if no name occurs twice and none leads back to itself, as many steps as there are publics are enough
 pub value_is_settled : (ms : List Parts) (bs : Bases) → ((name : List ℕ) → ¬ LinkFactStands ms (duplicate name)) → ((name : List ℕ) → ¬ IsOnCycle ms name)
     → (d : ℕ) (site : Sited) (pc : Option ℕ) (t : Tree) → value_within (setting ms bs) (d + length (flat_publics ms)) site pc t
     ≡ value (setting ms bs) site pc t

@@ -1,4 +1,4 @@
--- Where an expression of a list has no value, it or a public or a counter that it goes through divides by 0.
+-- If an expression of a list has no value, it or a public or a counter that it goes through divides by 0.
 use Rattle.std.proofs.Common.{◌≡◌, ℕ, zero, suc, ◌+◌, ◌≤◌, ◌⊎◌, inl, inr, List, [], ◌∷◌, length, Option, Some, None, Bool, true, false, refl, sym}
 use Rattle.std.proofs.Common.{◌∙◌, ap, subst, arith}
 use Rattle.std.specs.Prelude.{slice_get, option_map, if◌then◌else◌, IsTrue, ◌==◌, ◌%◌}
@@ -35,7 +35,7 @@ IsWellStep s (counter_step site section t) = HasBase s section × IsWellNamed s 
 IsWellStep s (item_step site section (Literal bytes)) = HasBase s section
 IsWellStep s (item_step site section (Field kind size t)) = HasBase s section × IsWellNamed s site t
 
--- what the modules of a list without a defect have, where the facts of names do not stand
+-- what the modules of a list without a defect have, if no fact of names holds
 pub record HasAllNamed (ms : List Parts) (s : Setting) : Type 0 where
   pub single : (q : SitedPublic) → StandsIn q s.publics → first_named s.publics q.entry.name ≡ Some q
   pub acyclic : (name : List ℕ) (k : ℕ) → ¬ IsTrue (leads_from s k name (first_named s.publics name))
@@ -52,7 +52,7 @@ pub step-In : (ms : List Parts) (earlier : List Step) (st : Step) (more : List S
 step-In ms earlier st more e = subst (In st) (sym e) (put_back-In st earlier (st ∷ more) (inl refl))
 
 module _ (ms : List Parts) (s : Setting) (h : HasAllNamed ms s) where
-  -- with enough steps left a public has no value only where a zero divisor is met
+  -- with enough steps left a public has no value only if a zero divisor is found
   publics_meet : (k : ℕ) → k ≤ length s.publics → (q : SitedPublic) → StandsIn q s.publics → EndsWithin s k q.site q.entry.value
       → value_within s k q.site None q.entry.value ≡ None
       → MeetsZeroDivisor s None q.site q.entry.value

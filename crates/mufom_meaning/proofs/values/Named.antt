@@ -1,4 +1,4 @@
--- A list of modules without a defect has all that its expressions name, where the facts of names do not stand.
+-- A list of modules without a defect has all that its expressions name, if no fact of names holds.
 use Rattle.std.proofs.Common.{◌≡◌, ℕ, zero, suc, ◌+◌, ◌<◌, ◌≤◌, ◌⊎◌, inl, inr, List, [], ◌∷◌, ◌++◌, map, length, Option, Some, None, Bool, true}
 use Rattle.std.proofs.Common.{false, not, ◌||◌, refl, sym, ◌∙◌, ap, subst, arith, rules, length-append}
 use Rattle.std.specs.Prelude.{slice_get, filter, option_to_list, is_none, nat_lt, nat_le, ◌==◌, if◌then◌else◌}
@@ -46,7 +46,7 @@ use Rattle.mufom_meaning.proofs.WithoutDefect.{mark_free, load_inside}
 use Rattle.mufom_meaning.proofs.values.Causes.{IsWellNamed}
 use Rattle.mufom_meaning.proofs.values.Lacks.{IsPlain, HasBase, IsWellStep, HasAllNamed}
 
--- ---- the modules of a list, and where their entries stand
+-- ---- the modules of a list, and the places of their entries
 
 pub site_module : (a b d : ℕ) (ms : List Parts) (site : Sited) → In site (sited_from a b d ms) → In site.parts ms
 site_module a b d [] site h = absurd h
@@ -108,7 +108,7 @@ named_at (p ∷ qs) (suc i) q e = named_at qs i q e
 name_there : (ms : List Parts) (i : ℕ) (q : SitedPublic) → slice_get (flat_publics ms) i ≡ Some q → slice_get (public_names ms) i ≡ Some q.entry.name
 name_there ms i q e = ap (λ names. slice_get names i) (sym (names_of-sited_publics 0 0 0 ms)) ∙ named_at (flat_publics ms) i q e
 
--- where no name stands twice, a public is the first of its name
+-- if no name occurs twice, a public is the first of its name
 pub single_name : (ms : List Parts) → ((name : List ℕ) → ¬ LinkFactStands ms (duplicate name)) → (q : SitedPublic) → StandsIn q (flat_publics ms)
     → first_named (flat_publics ms) q.entry.name ≡ Some q
 single_name ms once q a = by_first (first_named (flat_publics ms) q.entry.name) refl where
@@ -161,7 +161,7 @@ same_common-decides c d e =
       equal : (m n : ℕ) → (m == n) ≡ true → m ≡ n
       equal m n e = search rules
 
--- A reference that no public meets has the base of its common or a default, where nothing is undefined and each common has a base.
+-- A reference whose name no public has has the base of its common or a default, if nothing is undefined and each common has a base.
 met_or_default : (ms : List Parts) (bs : Bases) → ((name : List ℕ) → ¬ (StandsIn name (needs ms) × (has_name (common_names ms) name ≡ false)))
     → ((name : List ℕ) → has_name (common_names ms) name ≡ true → bs.commons name ≡ None → ⊥)
     → (r : Reference) → In r (flat_references ms) → first_named (flat_publics ms) r.name ≡ None → unresolved_value (setting ms bs) r ≡ None → ⊥

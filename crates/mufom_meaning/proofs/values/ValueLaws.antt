@@ -1,4 +1,4 @@
--- Where an expression has a value: the laws.
+-- When an expression has a value: the laws.
 use Rattle.std.proofs.Common.{◌≡◌, ◌≢◌, ℕ, ◌+◌, inl, inr, List, [], ◌∷◌, map, Option, Some, None, Bool, true, false, refl, ap, subst}
 use Rattle.std.specs.Prelude.{option_map, option_to_list}
 use Rattle.mufom_expr.specs.Tree.{Tree, number}
@@ -50,7 +50,7 @@ pub none_by_division : NoneByDivision
 none_by_division ms plan v link before c site t at =
     (none_meets ms (placed ms plan) (all_named ms plan v link before) refl c site t at, meets_none (placed ms plan) c site t)
 
--- where nothing is answered no fact stands
+-- if nothing is returned no fact holds
 pub no_link_fact : (ms : List Parts) → link_answer ms ≡ None → (fact : LinkFact) → ¬ LinkFactStands ms fact
 no_link_fact ms e = (answers_are_facts ms (record { regions = [] })).link_complete e
 
@@ -89,7 +89,7 @@ module _ (ms : List Parts) (s : Setting) (h : HaveValues ms s) where
     some_of (value s site (counter s before section) t) (h.expressions (Some (before, section)) site t (inr (kind, size, at))),
   )
 
-  -- an expression of a debug mark
+  -- an expression of a debug record
   in_debug_trees : (site : Sited) → In site (sited ms) → (mark : DebugMark) → In mark (marks_of site.parts.debug) → (t : Tree)
       → In t (mark_expressions mark) → In (site, t) (debug_trees ms)
   in_debug_trees site k mark m t e =

@@ -1,4 +1,4 @@
--- Where no fact of names and no zero divisor stands, each expression has a value.
+-- If no fact of names holds and there is no zero divisor, each expression has a value.
 use Rattle.std.proofs.Common.{◌≡◌, ◌≢◌, ℕ, inl, inr, List, [], ◌∷◌, Option, Some, None, Bool, true, false, refl, sym, ◌∙◌, ap, subst}
 use Rattle.std.specs.Prelude.{slice_get, option_map, if◌then◌else◌, ◌==◌, ◌%◌, ◌+◌}
 use Rattle.mufom_expr.specs.declared.token.FieldKind.{FieldKind}
@@ -46,7 +46,7 @@ module _ (ms : List Parts) (s : Setting) (h : HasAllNamed ms s) (flat : s.public
       step_meets ms s h c.0 c.1 site t w.1 w.0 (item_step site c.1 item ∷ p.2.0) p.2.1 e
 
   module _ (clear : (place : Site) → ¬ HasZeroDivisor ms s place) where
-    -- from a public no zero divisor is met
+    -- from a public no zero divisor is found
     public_clear : (c : CounterPlace) (site : Sited) (t : Tree) → MeetsZeroDivisor s c site t → c ≡ None → (q : SitedPublic) → StandsIn q s.publics
         → q.site ≡ site → q.entry.value ≡ t → ⊥
     public_clear _ _ _ (itself c site t d) none q a e f =

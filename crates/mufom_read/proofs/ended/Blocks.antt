@@ -49,7 +49,7 @@ closes_all ix (k ∷ kinds) [] judged none = cc
 closes_all ix kinds (p ∷ records) judged none = closes_row ix kinds p p.row (marks ix records) judged.0
     (closes_all ix (kinds_after kinds p.row) records judged.2 none)
 
--- Where no block is open before or after the records, their marks end each block that they begin, and no other.
+-- If no block is open before or after the records, their debug records end each block that they begin, and no other.
 pub debug_closes : (ix : Indexes) (part : Part) (before records : List SpelledRecord) → open_kinds before ≡ [] → KeptFrom part before records
     → open_kinds (before ++ records) ≡ [] → closes 0 (marks ix records) ≡ true
 debug_closes ix part before records none own closed =

@@ -59,7 +59,7 @@ layout-first begin descriptor ps b d counted =
     (λ k. slice_get (cons_option (layout_by (b.2 k)) (cons_option (layout_by (d.3 k)) (filter_map (λ p. layout_by p.row) ps))) 0)
     ∙ (λ k. Some (record { maus = least_units d.1 (few_units d.1 counted) k; order = order_of d.2 }))
 
--- one start at most is the first of those that the records give
+-- if there is at most one start address, it is the first that the records state
 first-start : (o : Option Tree) (starts : List Tree) → option_to_list o ≡ starts → slice_get starts 0 ≡ o
 first-start None starts e = ap (λ l. slice_get l 0) (sym e)
 first-start (Some tree) starts e = ap (λ l. slice_get l 0) (sym e)

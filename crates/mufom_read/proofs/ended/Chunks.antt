@@ -69,7 +69,7 @@ pub record Chunk (reads_debug : Bool) (part : Part) (w to : ℕ) (before steps :
   pub stands : ((w ≡ size_of before) × (w ≡ 0 → ⊥)) ⊎ ((w ≡ 0) × (cut.own ≡ []))
   pub faultless : (cut.own ≡ []) ⊎ (whole_fault part (before ++ cut.own) ≡ None)
 
--- the record that ends the module, where the last offset states
+-- the record that ends the module, at the last offset
 pub record EndsThere (before : List Step) (offsets : List ℕ) (steps : List Step) : Type 0 where
   pub offset : offsets ≡ size_of before ∷ []
   pub spelled : SpelledRecord
@@ -84,7 +84,7 @@ Chunks reads_debug (part ∷ parts) [] before steps = ⊥
 Chunks reads_debug (part ∷ parts) (w ∷ offsets) before steps = (c : Chunk reads_debug part w (first_present offsets) before steps)
     × Chunks reads_debug parts offsets (before ++ c.cut.own) c.cut.later
 
--- what holds where a part begins
+-- what holds at the start of a part
 record Begun (reads_debug : Bool) (all : List ℕ) (parts : List Part) (earlier offsets : List ℕ) (before steps : List Step) : Type 0 where
   count : length offsets ≡ suc (length parts)
   own : list_all (λ p. not (number_of p == 7)) parts ≡ true
@@ -165,7 +165,7 @@ is_after w at to high = last_false (not (w == 0)) (nat_le w at) (nat_lt at to) (
   last_false true false z h = refl
   last_false false y z h = refl
 
--- the fault of a part that ends where a prefix does, and is not empty
+-- the error of a part that ends where a prefix does and is not empty
 pub whole_of : (part : Part) (from to : ℕ) (all : List ℕ) (prefix : List Step) → AllInside part from to all → offsets_of prefix ≡ all → size_of prefix
     ≡ to → from < to → ended_part_fault prefix ≡ None → whole_fault part prefix ≡ None
 whole_of part from to all prefix within offsets size some h =

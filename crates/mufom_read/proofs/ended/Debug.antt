@@ -33,7 +33,7 @@ use Rattle.mufom_read.proofs.ended.Loads.{its_tree, below_test}
 
 -- ---- one mark
 
--- a mark without a defect of its own
+-- a debug record without a defect of its own
 pub record IsGoodMark (m : Parts) (mark : DebugMark) : Type 0 where
   pub short : d.has_long_name mark ≡ false
   pub place : d.has_bad_mark (d.counts_of m) mark ≡ false
@@ -154,7 +154,7 @@ used_below n position rest below h =
     ap (λ b. is_none (option_and_then (λ k. d.declared_after k rest) (cond b (Some n) None))) (lt-ltb position n below)
     ∙ ap (λ (k : ℕ). is_none (d.declared_after k rest)) (plus_none n) ∙ h
 
--- how many names a record declares
+-- the number of names that a record declares
 abbrev names_by : Record → ℕ
 names_by row = length (cons_option (of_kind debug_name (declared_by row)) [])
 

@@ -78,7 +78,7 @@ pub sections_short : (part : List SpelledRecord) → AllByRecursion (λ p. IsSho
 sections_short part h = none_passes (λ (s : Section). d.is_long s.name) (λ p. section_by part p p.row) part
     (map_all (λ p. IsShort p.row) (λ p. any_of (λ (s : Section). d.is_long s.name) (section_by part p p.row) ≡ false) (λ p. short_section part p p.row) part h)
 
--- an alignment that may stand
+-- an alignment that is allowed
 abbrev IsAligned : ℕ → Type 0
 IsAligned n = ((n == 0) || nat_lt MOST_ALIGNMENT n) ≡ false
 

@@ -28,7 +28,7 @@ pub unplaced : (part : Part) (o : Option Part) → is_none o ≡ true → is_thi
 unplaced part None h = refl
 unplaced part (Some it) h = cc
 
--- a question that only records of a part answer
+-- a function that finds something only in records of this part
 abbrev pub IsAskedOf : {X : Type 0} → Part → (SpelledRecord → Option X) → Type 0
 IsAskedOf part ask = (p : SpelledRecord) → stands_in part p.row ≡ false → ask p ≡ None
 

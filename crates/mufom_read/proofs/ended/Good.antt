@@ -27,7 +27,7 @@ use Rattle.mufom_read.proofs.ended.Trees.{tree_counter, declared_below}
 
 -- ---- trees
 
--- in place of its indexes the tree has positions that are there, and no counter but of the section that it may name
+-- with positions in place of its indexes, the tree has only positions of entries, and no counter except of the section that it may use
 pub record IsGoodTree (m : Parts) (ix : Indexes) (allowed : Option ℕ) (tree : Tree) : Type 0 where
   pub inside : names_outside (counts_of m) (positioned ix tree) ≡ false
   pub counter : has_other_counter (placed_section ix allowed) (positioned ix tree) ≡ false
@@ -107,7 +107,7 @@ passes_next : {X : Type 0} (test : X → Bool) (o : Option X) (rest : List X) �
 passes_next test None rest e h = h
 passes_next test (Some x) rest e h = or_from (test x) _ e h
 
--- none of the gathered entries passes the test, where that of no record does
+-- none of the gathered entries passes the test, if that of no record does
 pub none_passes : {X : Type 0} (test : X → Bool) (ask : SpelledRecord → Option X) (records : List SpelledRecord)
     → AllByRecursion (λ p. any_of test (ask p) ≡ false) records → list_any test (filter_map ask records) ≡ false
 none_passes test ask [] h = refl
@@ -118,7 +118,7 @@ first_next : {X : Type 0} (Q : X → Type 0) (o : Option X) (rest : List X) (oth
 first_next Q None rest other e h = h
 first_next Q (Some x) rest other e h = e
 
--- the first answer has what each answer has
+-- what holds of every value found, and of the default, holds of the first
 pub first_has : {X : Type 0} (Q : X → Type 0) (ask : SpelledRecord → Option X) (other : X) → Q other → (records : List SpelledRecord)
     → AllByRecursion (λ p. IfSome (ask p) Q) records → Q (unwrap_or (slice_get (filter_map ask records) 0) other)
 first_has Q ask other h [] all = h

@@ -28,7 +28,7 @@ pub last-append : {X : Type 0} (o : Option X) (xs : List X) (x : X) → last_or 
 last-append o [] x = refl
 last-append o (y ∷ xs) x = last-append (Some y) xs x
 
--- a prefix that goes on with a record ends where the record ends the module
+-- a prefix with one more record has ended exactly if the record ends the module
 pub ended-read : (before : List Step) (start : ℕ) (p : SpelledRecord) → is_ended (before ++ read start p ∷ []) ≡ is_module_end p.row
 ended-read before start p = ap (λ ps. ends_with (last_or None ps)) (records-append before (read start p ∷ []))
     ∙ ap (λ o. ends_with o) (last-append None (records_of before) p)
@@ -74,7 +74,7 @@ after_header prefix many =
     le-false : (a b : ℕ) → b ≤ a → nat_lt a b ≡ false
     le-false a b h = grind arith
 
--- the record of the header that stands next
+-- the next record of the header
 pub record HeaderStep (reads_debug : Bool) (k : ℕ) (before steps : List Step) : Type 0 where
   pub spelled : SpelledRecord
   pub later : List Step
@@ -117,7 +117,7 @@ abbrev pub modes_from : ℕ → ℕ → List Mode
 modes_from k zero = []
 modes_from k (suc n) = mode.Offset k ∷ modes_from (suc k) n
 
--- the given number of offset records from a number on
+-- this number of offset records, from a number on
 pub record OffsetRun (reads_debug : Bool) (n k : ℕ) (earlier : List ℕ) (before steps : List Step) : Type 0 where
   pub own : List Step
   pub later : List Step
@@ -176,7 +176,7 @@ offset_facts earlier w start end h =
       gap = no_fault_if (leaves_gap (earlier ++ w ∷ []) end) end _ first.1;
     }
 
--- the gap is judged after the last offset
+-- the gap is checked after the last offset
 gap_of : (n : ℕ) (earlier : List ℕ) (w : ℕ) (offsets : List ℕ) (end : ℕ) (before : List Step) (it : Step) (own : List Step) → length offsets ≡ n
     → length own ≡ n
     → leaves_gap (earlier ++ w ∷ []) end ≡ false → size_of (before ++ it ∷ []) ≡ end

@@ -52,7 +52,7 @@ set_there o [] (inl h) = h
 set_there o [] (inr h) = cc
 set_there o (p ∷ records) h = set_next o p.row records (λ n e. set_there n records e) h
 
--- where a record loads, a section is set
+-- if a record loads, there is a current section
 loads_there : (before : List SpelledRecord) (row : Record) → is_loading row ≡ true → has_no_section before row ≡ false
     → is_none (current_section before) ≡ false
 loads_there before row loading h = set_there None before (inr
@@ -139,7 +139,7 @@ literal_good m current p run h = record { inside = refl; counter = refl; short =
 within_size : (n : ℕ) → 1 ≤ n → n ≤ 8 → ((n == 0) || nat_lt 8 n) ≡ false
 within_size n a b = grind arith
 
--- a field without a size has that of an address
+-- a field without a size has the size of an address
 sized : (maus : ℕ) (o : Option ℕ) → d.is_unit_count maus ≡ true → IsFieldSize o → ((unwrap_or o maus == 0) || nat_lt 8 (unwrap_or o maus)) ≡ false
 sized maus (Some n) units h = within_size n h.0 h.1
 sized maus None units h = let both = and_parts (nat_le 1 maus) (nat_le maus 8) units in within_size maus (leb-true 1 maus both.0) (leb-true maus 8 both.1)
@@ -147,7 +147,7 @@ sized maus None units h = let both = and_parts (nat_le 1 maus) (nat_le maus 8) u
 pub below_test : (n position : ℕ) → position < n → nat_le n position ≡ false
 below_test n position h = grind arith
 
--- the tree of a record, where it may name this section's counter
+-- the tree of a record that may use the program counter of this section
 pub its_tree : (m : Parts) (ix : Indexes) (before : List SpelledRecord) (p : SpelledRecord) (row : Record) (span : Span) → p.row ≡ row
     → IsGood m ix before p → expression_of row ≡ Some span → is_public_value row ≡ false → IsGoodTree m ix (counter_allowed before row) (tree_in p span)
 its_tree m ix before p row span e is has other =

@@ -1,4 +1,4 @@
--- The loads of a whole prefix: those that the records of its data part give by the indexes of the file.
+-- The loads of a whole prefix: those that the records of its data part state, by the indexes of the file.
 use Rattle.std.proofs.Common.{◌≡◌, ℕ, ◌==◌, Bool, true, false, cond, true≢false, not, List, [], ◌∷◌, ◌++◌, map, Option, Some, is_none, unwrap_or}
 use Rattle.std.proofs.Common.{refl, sym, ap, ◌∙◌, append-nil, append_assoc}
 use Rattle.std.specs.List.{list_all, AllByRecursion}
@@ -42,7 +42,7 @@ is_other row = not (stands_in data_part row)
 abbrev pub AreOther : List SpelledRecord → Type 0
 AreOther records = AllByRecursion (λ p. is_other p.row ≡ true) records
 
--- records of another part are none of it
+-- records of another part are not of the data part
 pub others-other : (part : Part) → (number_of data_part == number_of part) ≡ false → (records : List SpelledRecord)
     → list_all (λ p. stands_in part p.row) records ≡ true → AreOther records
 others-other part differ [] h = tt
@@ -50,7 +50,7 @@ others-other part differ (p ∷ records) h =
     let both = and_parts (stands_in part p.row) _ h in
     (ap not (other_part data_part part (part_of p.row) differ both.0), others-other part differ records both.1)
 
--- and those of the header
+-- the same for records of the header
 pub silent-other : (records : List SpelledRecord) → IsSilent records → AreOther records
 silent-other [] h = tt
 silent-other (p ∷ records) h = let both = and_parts (is_none (part_of p.row)) _ h in
@@ -144,8 +144,8 @@ data_loads maus ix before (p ∷ records) after s same given kept =
 
 -- ---- the whole
 
--- The loads that all records of a file give, where these are the records before the data part, those of it, those after it and
--- the end of the module.
+-- The loads that all records of a file state. `before`, `loads` and `after` are the records before, in and after the data part,
+-- and `end` is the end of the module.
 pub loads-whole : (maus : ℕ) (ix : Indexes) (before loads after : List SpelledRecord) (end : SpelledRecord) → AreOther before → AreOther after
     → is_other end.row ≡ true
     → indexes_in (((before ++ loads) ++ after) ++ end ∷ []) ≡ ix → units_in before ≡ Some maus → KeptFrom data_part before loads

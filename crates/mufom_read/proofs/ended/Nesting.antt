@@ -1,4 +1,4 @@
--- The ends of blocks, judged by a stack over marks, are the ends of the blocks of the items that have these marks.
+-- The ends of blocks, found with a stack over debug records, are the ends of the blocks of the items that have these records.
 use Rattle.std.proofs.Common.{◌≡◌, ℕ, ◌||◌, Bool, false, List, [], ◌∷◌, ◌++◌, map, Option, refl, ap, ◌∙◌, rules, append-nil}
 use Rattle.std.specs.List.{list_any, AllByRecursion}
 use Rattle.std.proofs.lemmas.Bool.{or_parts}
@@ -15,7 +15,7 @@ use Rattle.mufom_debug.proofs.Rebuilt.{Begun, block_item, rebuilt}
 use Rattle.mufom_module.specs.Contents.{blocks_of_item, blocks_of}
 use Rattle.mufom_module.specs.Defects.{has_bad_end}
 
--- where these heads are begun, the innermost first, an end has an expression after a head that has none
+-- an end has an expression although the head of its block allows none; `heads` are the open blocks, the innermost first
 abbrev pub ends_badly_from : List BlockHead → List DebugMark → Bool
 ends_badly_from heads [] = false
 ends_badly_from heads (block_begin head name ∷ marks) = ends_badly_from (head ∷ heads) marks

@@ -114,7 +114,7 @@ pub record Ready (reads_debug : Bool) (from to : ℕ) (all : List ℕ) (items : 
   pub flag : (not (size_of before == from) && awaits_items (last_or None (records_of before))) ≡ true → items ≡ true
   pub walk : IsWalk reads_debug before steps
 
--- the steps of a part that is not read, or those of one that is
+-- the steps of a part that is not read as records, or those of one that is
 abbrev pub IsOwn : Bool → Part → Bool → List SpelledRecord → List Step → List ℕ → Type 0
 IsOwn reads_debug part items before own after = ((is_raw reads_debug part ≡ true) × (records_of own ≡ []))
     ⊎ ((is_raw reads_debug part ≡ false) × (bytes_of (records_of own) ≡ prefix_bytes own) × AreWhole items (records_of own) after
@@ -172,7 +172,7 @@ location_inside part from to all before inside many offsets begun below =
     after_header before many ∙ ap (λ ws. location_by (part_among parts_in_order ws (size_of before))) offsets
     ∙ ap location_by (inside (size_of before) begun below)
 
--- a record is whole where it stands
+-- a record is complete in the mode of its location
 whole_by : (items test : Bool) (p : SpelledRecord) (after : List ℕ) → (test ≡ true → items ≡ true)
     → IsWholeRecord (cond test mode.Items mode.Body) p.row p.bytes (first_of after None)
     → IsWholeRecord (mode_of items p.bytes) p.row p.bytes (first_of after None)
@@ -195,7 +195,7 @@ may_by false b c items may h = cc
 abbrev pub extent : Part → ℕ → ℕ → Extent
 extent part from to = record { part = part; from = from; to = to }
 
--- a byte that is not read
+-- a byte that is not read as a record
 raw_ready : (reads_debug : Bool) (from to : ℕ) (all : List ℕ) (items : Bool) (before : List Step) (b : ℕ) (steps : List Step)
     → Ready reads_debug from to all items before (raw b ∷ steps) → size_of before < to
     → Ready reads_debug from to all true (before ++ raw b ∷ []) steps

@@ -260,8 +260,8 @@ is_valid reads_debug prefix s small =
 
 -- ---- the law
 
--- The bytes of a prefix that is cut into its parts are the file of what these state, where what a file states weighs at most ten
--- times the file.
+-- The bytes of a prefix that is cut into its parts are the file of the module that these parts state, provided that what a file
+-- states weighs at most ten times the file.
 spelled_by : FilesWeighTenfold → (reads_debug : Bool) (prefix : List Step) (bytes : List ℕ) → AreBytes bytes → length bytes ≤ file_limit → bytes
     ≡ prefix_bytes prefix
     → (s : Sliced reads_debug prefix) → SpellsModule (stated_by reads_debug prefix s) bytes reads_debug

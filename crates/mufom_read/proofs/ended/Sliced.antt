@@ -81,14 +81,14 @@ pub read_records : (reads_debug : Bool) (part : Part) (before : List SpelledReco
 read_records reads_debug part before own after is (inl its) = absurd (both_ways (is_raw reads_debug part) is its.0)
 read_records reads_debug part before own after is (inr its) = record { bytes = its.1; are_whole = its.2; keeps = its.3 }
 
--- the debug part: its records where it is read, and else the bytes that are passed over
+-- the debug part: its records if it is read, otherwise the bytes that are skipped
 pub record DebugPart (reads_debug : Bool) (before : List SpelledRecord) (own : List Step) (after skipped : List ℕ) : Type 0 where
   pub bytes : bytes_of (records_of own) ++ skipped ≡ prefix_bytes own
   pub are_whole : AreWhole false (records_of own) after
   pub keeps : KeptFrom debug_part before (records_of own)
   pub read : MatchBool reads_debug (skipped ≡ []) (records_of own ≡ [])
 
--- the bytes that are passed over
+-- the bytes that are skipped
 abbrev pub skipped_of : Bool → List Step → List ℕ
 skipped_of true own = []
 skipped_of false own = prefix_bytes own
@@ -150,7 +150,7 @@ pub record Sliced (reads_debug : Bool) (prefix : List Step) : Type 0 where
   pub records : records_of prefix ≡ (((((header_of f ++ f.sections) ++ f.externals) ++ f.debug) ++ f.loads) ++ f.trailer) ++ end ∷ []
   pub offsets : offsets_of prefix ≡ offsets_in f.offsets
 
--- the place of a part, or none where it is empty
+-- the place of a part, or none if it is empty
 pub stands_of : (w at : ℕ) (own : List Step) (bytes : List ℕ) → prefix_bytes own ≡ bytes → ((w ≡ at) × (w ≡ 0 → ⊥)) ⊎ ((w ≡ 0) × (own ≡ []))
     → (w ≡ at) ⊎ ((w ≡ 0) × (bytes ≡ []))
 stands_of w at own bytes e (inl there) = inl there.0

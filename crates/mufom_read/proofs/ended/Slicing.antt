@@ -21,18 +21,18 @@ use Rattle.mufom_read.proofs.ended.Chunks.{Chunk, EndsThere, Chunks, chunks_of, 
 use Rattle.mufom_read.proofs.ended.Sliced.{ReadPart, raw_records, read_records, DebugPart, skipped_of, debug_records, debug_closed, IsGiven}
 use Rattle.mufom_read.proofs.ended.Sliced.{all_based, all_given, Sliced, stands_of}
 
--- the place of a part, or none where it is empty
+-- the place of a part, or none if it is empty
 abbrev Stands : ℕ → List Step → List Step → Type 0
 Stands w before own = ((w ≡ size_of before) × (w ≡ 0 → ⊥)) ⊎ ((w ≡ 0) × (own ≡ []))
 
--- a part that is not read, after a prefix
+-- a part that is not read as records, after a prefix
 record RawChunk (w : ℕ) (before own later steps : List Step) : Type 0 where
   split : steps ≡ own ++ later
   none : records_of own ≡ []
   stands : Stands w before own
   offsets : offsets_of own ≡ []
 
--- a part that is read
+-- a part that is read as records
 record ReadChunk (part : Part) (w : ℕ) (before own later steps : List Step) : Type 0 where
   split : steps ≡ own ++ later
   is_read : ReadPart part (records_of before) own (prefix_bytes later)

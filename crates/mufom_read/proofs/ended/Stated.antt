@@ -96,7 +96,7 @@ module_by f processor name maus letter = record {
 abbrev pub stated_by : (reads_debug : Bool) (prefix : List Step) → Sliced reads_debug prefix → Parts
 stated_by reads_debug prefix s = module_by s.f s.begins.0 s.begins.1 s.describes.1 s.describes.2
 
--- what a descriptor without a fault states
+-- what a descriptor without an error states
 pub units_of : (bits maus : ℕ) (letter : Option ℕ) → is_bad_descriptor (r.Descriptor bits maus letter) ≡ false → (bits ≡ 8) × (is_unit_count maus ≡ true)
 units_of bits maus letter h = let both = and_parts (bits == 8) (is_unit_count maus) (not-false ((bits == 8) && is_unit_count maus) h) in
     (eqb-true bits 8 both.0, both.1)
@@ -131,7 +131,7 @@ states reads_debug prefix s = record {
   start = one_start (indexes_of s.f) _ s.f.trailer s.keep_trailer;
 }
 
--- ---- the bytes of parts that are not read
+-- ---- the bytes of parts that are not read as records
 
 pub stand_parts : (w : ℕ) (offsets : List ℕ) (n : ℕ) (x : List ℕ) (parts : List (List ℕ)) → StandAt (w ∷ offsets) n (x ∷ parts)
     → ((w ≡ n) ⊎ ((w ≡ 0) × (x ≡ []))) × StandAt offsets (n + length x) parts

@@ -1,4 +1,4 @@
--- Trees with positions in place of indexes: no position lies outside, and a program counter stays that of its section.
+-- Trees with positions in place of indexes: each position is that of an entry, and a program counter stays that of its section.
 use Rattle.std.proofs.Common.{◌≡◌, ℕ, ◌<◌, ◌≤◌, Bool, true, false, cond, not, ◌==◌, nat_lt, nat_le, List, [], ◌∷◌, ◌++◌, length, map, position}
 use Rattle.std.proofs.Common.{Option, Some, None, option_map, option_to_list, unwrap_or, refl, sym, ap, subst, ◌∙◌, arith, append-nil, eqb-true}
 use Rattle.std.proofs.Common.{eq-eqb, ltb-true}
@@ -147,7 +147,7 @@ all_declared-append a b (index ∷ indexes) h =
 pub known-append : (a b : List SpelledRecord) (p : SpelledRecord) → names_unknown a p ≡ false → names_unknown (a ++ b) p ≡ false
 known-append a b p h = not_from_true _ (all_declared-append a b (named_at_once p) (not-false (list_all (is_declared a) (named_at_once p)) h))
 
--- the index that it names is declared
+-- the index that it refers to is declared
 pub named_known : (all : List SpelledRecord) (p : SpelledRecord) (index : FileIndex) → named_by p.row ≡ Some index → names_unknown all p ≡ false
     → is_declared all index ≡ true
 named_known all p index e h =
@@ -168,7 +168,7 @@ known_named all p span e h =
     ap (λ vs. list_all (is_declared all) (map index_of_variable vs)) (sym (append-nil (variables_of (tree_in p span))))
     ∙ ap (list_all (is_declared all)) (sym its) ∙ h
 
--- the variables of its expression are declared, where it is no value of a public
+-- the variables of its expression are declared, unless it is the value of a public
 pub tree_known : (all : List SpelledRecord) (p : SpelledRecord) (span : Span) → expression_of p.row ≡ Some span → is_public_value p.row ≡ false
     → names_unknown all p ≡ false → IsKnown all (tree_in p span)
 tree_known all p span e other h =
@@ -178,7 +178,7 @@ tree_known all p span e other h =
     subst (λ (b : Bool). list_all (is_declared all) (option_to_list (named_by p.row) ++ cond b [] (named_in_expression p)) ≡ true) other whole in
     known_named all p span e (and_second (is_declared all) (option_to_list (named_by p.row)) (named_in_expression p) there)
 
--- its program counter is that of the section that it may name
+-- its program counter is that of the section whose counter it may use
 pub tree_counter : (before : List SpelledRecord) (p : SpelledRecord) (span : Span) → expression_of p.row ≡ Some span → misplaces_counter before p
     ≡ false → has_other_counter (counter_allowed before p.row) (tree_in p span) ≡ false
 tree_counter before p span e h = subst (λ (o : Option Span). any_of (has_other_counter (counter_allowed before p.row)) (option_map (tree_in p) o) ≡ false) e h

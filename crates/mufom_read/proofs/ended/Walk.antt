@@ -1,4 +1,4 @@
--- A sound prefix as a walk: each step with what stands after it, read by the place where it stands.
+-- A sound prefix as a walk: each step with the bytes from it on, read at its location.
 use Rattle.std.proofs.Common.{◌≡◌, ◌⊎◌, ℕ, zero, suc, ◌+◌, ◌≤◌, Bool, true, false, List, [], ◌∷◌, ◌++◌, length, take, drop, Option, Some, None, refl}
 use Rattle.std.proofs.Common.{sym, ap, subst, ◌∙◌, inl, inr, arith, append_assoc, append-nil}
 use Rattle.std.specs.Option.{option_or}
@@ -121,8 +121,8 @@ pub no_fault : (a b : Option Fault) → option_or a b ≡ None → (a ≡ None) 
 no_fault None b h = (refl, h)
 no_fault (Some fault) b h = absurd cc
 
--- Each step is what stands after those before it, has no fault, and no part that ends before it has one; the module
--- has not ended before it.
+-- Each step is the one that is read after those before it, and has no error; no part that ends before it has one; and the
+-- module has not ended before it.
 abbrev pub IsWalk : Bool → List Step → List Step → Type 0
 IsWalk reads_debug before [] = Unit {0}
 IsWalk reads_debug before (step ∷ steps) = (is_ended before ≡ false) × (ended_part_fault before ≡ None)

@@ -32,7 +32,7 @@ drop_inside zero a b inside = refl
 drop_inside (suc n) [] b inside = absurd (omega (arith, inside))
 drop_inside (suc n) (x ∷ a) b inside = drop_inside n a b (omega (arith, inside))
 
--- the steps of a longer stream, of which no more is judged than the limit allows
+-- the steps of a longer stream, whose bytes beyond the limit are not checked
 record IsLonger (reads_debug : Bool) (prefix : List Step) (stream chunk judged rest : List ℕ) : Type 0 where
   pub all : within_limit (stream ++ chunk) ≡ judged
   pub sound : IsSoundPrefix reads_debug prefix judged
@@ -60,7 +60,7 @@ more_steps reads_debug prefix steps judged rest sound here more = (
   ap (drop (size_of steps)) here ∙ drop-drop (size_of prefix) (size_of steps) judged ∙ ap (λ n. drop n judged) (sym (size-append prefix steps)),
 )
 
--- a fault after them is one of the stream
+-- an error after them is one of the stream
 pub chunk-refused : (r : State) (stream chunk w : List ℕ) (is : IsReading r stream) (new : Prefix) (f : ReadRefusal) → AreBytes (stream ++ chunk) → w
     ≡ take (file_limit - (r.prefix.size + length r.rest.items)) chunk
     → HasTakenAll r.reads_debug is.prefix (r.rest.items ++ w) new (Err (stop.Refused f)) → IsRefusedAt r.reads_debug (stream ++ chunk) f.place f.reason
@@ -77,11 +77,11 @@ chunk-refused r stream chunk w is new f bytes cut (steps, sound, unended, fault)
 
 -- ---- what a chunk makes known
 
--- how many bytes may still be read
+-- the number of bytes that may still be read
 abbrev room_of : State → ℕ
 room_of r = file_limit - (r.prefix.size + length r.rest.items)
 
--- a reader has as many bytes as the stream
+-- a reader counts as many bytes as the stream has
 pub read-length : (r : State) (stream : List ℕ) → IsReading r stream → r.prefix.size + length r.rest.items ≡ length stream
 read-length r stream is = omega (arith, is.kept.size, ap length is.rest, length-drop (size_of is.prefix) stream, is.inside)
 
@@ -93,7 +93,7 @@ reading-no-step r stream is = by_case is.waits where
   by_case (inl end) = inl (end.0, nil_from_length r.rest.items (omega (arith, ap length is.rest, length-drop (size_of is.prefix) stream, end.1)))
   by_case (inr want) = inr want
 
--- the steps that a reader has taken of a stream with one record more, and what stands after them
+-- the steps that a reader has taken of a stream and one more chunk, and the bytes after them
 record HasGoneAfter (r : State) (stream chunk : List ℕ) (prefix : List Step) (n : ℕ) (rest : List ℕ) : Type 0 where
   pub sound : IsSoundPrefix r.reads_debug prefix (within_limit (stream ++ chunk))
   pub after : drop n rest ≡ drop (size_of prefix) (within_limit (stream ++ chunk))
@@ -162,7 +162,7 @@ still-reading r stream chunk prefix n rest new gone same is waits short left non
     by_case (inr want) = inr (subst (λ (b : Bool). IsIncomplete b prefix new.rest.items) (sym same)
         (subst (λ (l : List ℕ). IsIncomplete r.reads_debug prefix l) (sym left) want))
 
--- a byte stands after the end
+-- a byte follows the end of the module
 after-end : (r : State) (stream chunk : List ℕ) (prefix : List Step) (n : ℕ) (rest : List ℕ) (offset : ℕ) (reason : Reason)
     → HasGoneAfter r stream chunk prefix n rest → is_ended prefix ≡ true → offset ≡ size_of prefix → reason ≡ why.AfterEnd
     → (nat_lt (room_of r) (length chunk) ≡ true) ⊎ (drop n rest ≢ []) → IsRefusedAt r.reads_debug (stream ++ chunk) offset reason
@@ -225,7 +225,7 @@ rest-bytes r stream chunk n bytes is fits =
     AreBytes-append r.rest.items (take n chunk) (subst (λ (l : List ℕ). AreBytes l) (sym is.rest) (AreBytes-drop (size_of is.prefix) stream bytes))
     (AreBytes-take n chunk (fits-bytes chunk fits))
 
--- what a chunk makes known, where all that it has with the pending bytes was taken
+-- what is known after a chunk, if all complete steps of it and of the pending bytes were taken
 pub known-taken : (r new : State) (stream chunk w : List ℕ) (longer_ : Bool) (result : Option ReadStop) → IsReading r stream
     → AreBytes (stream ++ chunk) → w ≡ take (file_limit - (r.prefix.size + length r.rest.items)) chunk
     → longer_ ≡ nat_lt (file_limit - (r.prefix.size + length r.rest.items)) (length chunk) → new.reads_debug ≡ r.reads_debug
@@ -242,7 +242,7 @@ known-taken r new stream chunk w longer_ result is bytes cut test same taken end
     (gone-after r stream chunk is its.0 all.0 bytes its.2 its.3 its.4) same test its.1 its.5
     (subst (λ (l : List ℕ). HasEndedChunk (is_ended prefix) new.prefix.size longer_ l new result) all.2 (ended prefix its.1))
 
--- and where there is a fault in it, or no memory
+-- the same if it has an error, or memory runs out
 pub known-stopped : (r new : State) (stream chunk w : List ℕ) (s : ReadStop) → IsReading r stream → AreBytes (stream ++ chunk) → w
     ≡ take (file_limit - (r.prefix.size + length r.rest.items)) chunk → new.reads_debug ≡ r.reads_debug
     → ((before : List Step) → IsPrefixOf r.prefix before → HasNoStep r.reads_debug before r.rest.items
@@ -252,7 +252,7 @@ known-stopped r new stream chunk w (stop.Refused f) is bytes cut same taken =
     (chunk-refused r stream chunk w is new.prefix f bytes cut (taken is.prefix is.kept (reading-no-step r stream is)))
 known-stopped r new stream chunk w stop.NoMemory is bytes cut same taken = tt
 
--- ---- how many bytes are pending
+-- ---- the number of pending bytes
 
 pub pending-is : (r : State) (stream : List ℕ) → IsReading r stream → IsPending r.reads_debug stream (length r.rest.items)
 pending-is r stream is = by_case is.waits where

@@ -1,4 +1,4 @@
--- Records of which the first bytes were pending, and all that a chunk has after them.
+-- Records whose first bytes were pending, and all that a chunk has after them.
 use Rattle.std.proofs.Common.{◌≡◌, ◌⊎◌, inl, inr, ℕ, ◌+◌, ◌-◌, ◌<◌, ◌≤◌, ◌==◌, Bool, true, false, true≢false, cond, List, [], ◌∷◌, ◌++◌, length, take}
 use Rattle.std.proofs.Common.{drop, Option, Some, None, Ok, Err, Result, refl, sym, ap, subst, ◌∙◌, arith, append-nil, append_assoc, length-append}
 use Rattle.std.proofs.Common.{length-drop, length-take}
@@ -125,13 +125,13 @@ front-bytes pending chunk used fits = AreBytes-prefix (pending
 front-inside : (pending chunk : List ℕ) (used : ℕ) → length (pending ++ take used chunk) ≤ length (pending ++ chunk)
 front-inside pending chunk used = omega (arith, length-append pending (take used chunk), length-append pending chunk, length-take used chunk)
 
--- The first bytes of the chunk, as many as these, were added to the pending ones, and more are wanted.
+-- The first `used` bytes of the chunk were added to the pending ones, and more bytes are needed.
 pub record HasWaited (reads_debug : Bool) (before : List Step) (pending chunk : List ℕ) (used : ℕ) (now : State) : Type 0 where
   pub kept : IsPrefixOf now.prefix before
   pub rest : now.rest.items ≡ pending ++ take used chunk
   pub waits : IsIncomplete reads_debug before (pending ++ take used chunk)
 
--- no part that ends with a prefix that waits has a fault
+-- no part that ends with an unfinished prefix has an error
 pub whole-waiting : (reads_debug : Bool) (prefix : List Step) (rest : List ℕ) → IsIncomplete reads_debug prefix rest → ended_part_fault prefix ≡ None
 whole-waiting reads_debug prefix rest want = no_part (ended_part_fault prefix) _ want.faultless where
   no_part : (o p : Option Fault) → option_or o p ≡ None → o ≡ None
@@ -164,7 +164,7 @@ advanced-there reads_debug before pending chunk after given used added now next_
     ∙ added-here pending chunk now.rest.items after next_.rest.items used added waited.rest left more)
     (step before its want.unended (whole-waiting reads_debug before pending want)))
 
--- still more bytes are wanted
+-- still more bytes are needed
 pub waiting-still : (reads_debug : Bool) (before : List Step) (rest : List ℕ) (prefix : Prefix) → is_ended before ≡ false → ended_part_fault before
     ≡ None → HasAdvanced reads_debug before rest prefix next.More → IsIncomplete reads_debug before rest
 waiting-still reads_debug before rest prefix unended whole done = record {
@@ -284,13 +284,13 @@ none-pending rest count size none = nil_from_length rest (size ∙ eqb-true coun
 pub some-pending : (rest : List ℕ) (count : ℕ) → length rest ≡ count → (count == 0) ≡ false → 0 < length rest
 some-pending rest count size some = elim (cases_lt 0 (length rest)) [ inl is ↦ is | inr none ↦ absurd (eqb-false count 0 some (omega (arith, none, size))) ]
 
--- where bytes are pending, more are wanted
+-- if bytes are pending, more bytes are needed
 pub some-waiting : (reads_debug : Bool) (prefix : List Step) (rest : List ℕ) → 0 < length rest → HasNoStep reads_debug prefix rest
     → IsIncomplete reads_debug prefix rest
 some-waiting reads_debug prefix rest some (inl end) = absurd (omega (arith, some, ap length end.1))
 some-waiting reads_debug prefix rest some (inr want) = want
 
--- where none are pending then, a step was taken
+-- if none are pending afterwards, a step was taken
 pub completed-gone : (reads_debug : Bool) (before : List Step) (pending chunk : List ℕ) (n : ℕ) (new : State) → 0 < length pending → new.rest.items
     ≡ [] → HasCompleted reads_debug before pending chunk new (Ok n)
     → HasGoneOn reads_debug before (pending ++ chunk) new.prefix (length pending + n)
@@ -298,7 +298,7 @@ completed-gone reads_debug before pending chunk n new some none (inl waits) =
     absurd (omega (arith, some, ap length (sym none ∙ waits.1), length-append pending chunk))
 completed-gone reads_debug before pending chunk n new some none (inr gone) = gone.1
 
--- and where some are, all of the chunk is
+-- if some are pending afterwards, the whole chunk is
 pub chunk-pending : (reads_debug : Bool) (before : List Step) (pending chunk : List ℕ) (n : ℕ) (new : State) → 0 < length new.rest.items
     → HasCompleted reads_debug before pending chunk new (Ok n) → HasTakenChunk reads_debug before (pending ++ chunk) new (Ok tt)
 chunk-pending reads_debug before pending chunk n new some (inl waits) = chunk-waits reads_debug before (pending ++ chunk) new waits.0 waits.1 waits.2

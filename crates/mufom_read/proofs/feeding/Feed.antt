@@ -1,4 +1,4 @@
--- What a reader answers is what the stream so far is.
+-- What a reader returns follows from the stream so far.
 use Rattle.std.proofs.Common.{◌≡◌, ◌≢◌, ◌⊎◌, ◌↔◌, inl, inr, ℕ, ◌<◌, Bool, List, [], ◌++◌, length, Option, Some, None, Result, Err, refl, sym, ap}
 use Rattle.std.proofs.Common.{subst, ◌∙◌, arith}
 use Rattle.mufom_numbers.specs.declared.reason.Reason.{Reason}
@@ -48,7 +48,7 @@ knows-moved a b stream None flag prefix rest known = reading-moved a b stream fl
 knows-moved a b stream (Some (stop.Refused f)) flag prefix rest known = subst (λ (d : Bool). IsRefusedAt d stream f.place f.reason) (sym flag) known
 knows-moved a b stream (Some stop.NoMemory) flag prefix rest known = tt
 
--- what is read on has no refusal
+-- a stream that may be read on has no error
 pub reading-not-refused : (r : State) (stream : List ℕ) (offset : ℕ) (reason : Reason) → IsReading r stream → IsRefusedAt r.reads_debug stream offset reason → ⊥
 reading-not-refused r stream offset reason is refused = by_case (pending-is r stream is) refused where
   by_case : (((pending : List ℕ) × IsWaiting r.reads_debug stream pending × (length pending ≡ length r.rest.items))
@@ -60,7 +60,7 @@ reading-not-refused r stream offset reason is refused = by_case (pending-is r st
       let less : offset < length stream = after.2 in omega (arith, same, less)
   by_case (inr ends) (inr (inr long)) = let more : file_limit < length stream = long.2 in omega (arith, more, is.within)
 
--- A reader that has read a stream answers its refusal, where it has one.
+-- A reader that has read a stream returns its error, if it has one.
 pub answers-refusal : (r : State) (stream : List ℕ) (s : Option ReadStop) (offset : ℕ) (reason : Reason) → AreBytes stream → Knows r stream s
     → s ≢ Some stop.NoMemory
     → (answer_of s ≡ Err (stop.Refused (the_refusal offset reason))) ↔ IsRefusedAt r.reads_debug stream offset reason
@@ -83,7 +83,7 @@ pub stop-stays : (r : State) (stream chunk : List ℕ) (s : ReadStop) → AreByt
 stop-stays r stream chunk (stop.Refused f) bytes known = refusal_stays r.reads_debug stream chunk f.place f.reason bytes known
 stop-stays r stream chunk stop.NoMemory bytes known = tt
 
--- the answer to a chunk
+-- the result for a chunk
 pub feed-refused : (r : State) (stream : List ℕ) (result : Result (Unit {0}) ReadStop) (reads_debug : Bool) (offset : ℕ) (reason : Reason)
     → AreBytes stream → Knows r stream r.stop → r.stop ≢ Some stop.NoMemory
     → result ≡ answer_of r.stop → r.reads_debug ≡ reads_debug → (result ≡ Err (stop.Refused (the_refusal offset reason)))

@@ -1,4 +1,4 @@
--- What a reader answers for a whole stream.
+-- What a reader returns for a complete stream.
 use Rattle.std.proofs.Common.{◌≡◌, ◌≢◌, ◌⊎◌, ◌↔◌, inl, inr, ℕ, Bool, true, false, true≢false, List, length, drop, Some, Result, Ok, Err, refl, sym}
 use Rattle.std.proofs.Common.{ap, subst, ◌∙◌}
 use Rattle.std.specs.Prelude.{IfOk}
@@ -24,7 +24,7 @@ use Rattle.mufom_read.proofs.feeding.Feed.{the_refusal, reading-not-refused}
 sound-within : (r : State) (stream : List ℕ) (is : IsReading r stream) → IsSoundPrefix r.reads_debug is.prefix (within_limit stream)
 sound-within r stream is = subst (λ (l : List ℕ). IsSoundPrefix r.reads_debug is.prefix l) (sym (whole-within stream is.within)) is.sound
 
--- where the module has not ended, the stream is cut off
+-- if the module has not ended, the stream is cut off
 cut-off : (r : State) (stream : List ℕ) (is : IsReading r stream) → is_ended is.prefix ≡ false → IsTruncated r.reads_debug stream
 cut-off r stream is unended = (is.within, r.rest.items, by_case is.waits) where
   by_case : (((is_ended is.prefix ≡ true) × (size_of is.prefix ≡ length stream)) ⊎ IsIncomplete r.reads_debug is.prefix r.rest.items)
@@ -39,7 +39,7 @@ cut-off r stream is unended = (is.within, r.rest.items, by_case is.waits) where
     after = is.rest ∙ ap (drop (size_of is.prefix)) (sym (whole-within stream is.within));
   }
 
--- where it has, the prefix is the whole stream
+-- if the module has ended, the prefix is the whole stream
 whole-size : (r : State) (stream : List ℕ) (is : IsReading r stream) → is_ended is.prefix ≡ true → size_of is.prefix ≡ length stream
 whole-size r stream is ended = by_case is.waits where
   by_case : (((is_ended is.prefix ≡ true) × (size_of is.prefix ≡ length stream)) ⊎ IsIncomplete r.reads_debug is.prefix r.rest.items)
@@ -59,7 +59,7 @@ is-whole r stream is bytes ended = record {
       whole-size r stream is ended;
 }
 
--- the answer of a reader that has stopped
+-- the result of a reader that has stopped
 pub finish-stopped : {M : Type 0} (r : State) (stream : List ℕ) (s : ReadStop) (offset : ℕ) (reason : Reason) → AreBytes stream
     → Knows r stream (Some s) → ◌≢◌ {A = Result M ReadStop} (Err s) (Err stop.NoMemory)
     → (◌≡◌ {A = Result M ReadStop} (Err s) (Err (stop.Refused (the_refusal offset reason)))) ↔ IsJudged r.reads_debug stream (refusal offset reason)
@@ -76,7 +76,7 @@ finish-stopped {M} r stream (stop.Refused f) offset reason bytes known memory = 
   back (inr cut) = absurd (not_cut r.reads_debug stream f.place f.reason cut.2 known)
 finish-stopped r stream stop.NoMemory offset reason bytes known memory = absurd (memory refl)
 
--- the answer where the module has not ended
+-- the result if the module has not ended
 pub finish-cut : {M : Type 0} (r : State) (stream : List ℕ) (is : IsReading r stream) (s : ReadStop) (size offset : ℕ) (reason : Reason)
     → is_ended is.prefix ≡ false → s ≡ stop.Refused (the_refusal size why.Truncated) → size ≡ length stream
     → (◌≡◌ {A = Result M ReadStop} (Err s) (Err (stop.Refused (the_refusal offset reason)))) ↔ IsJudged r.reads_debug stream (refusal offset reason)
@@ -90,7 +90,7 @@ finish-cut {M} r stream is s size offset reason unended states all = (forth, bac
   back (inr cut) = ap (λ x. Err x) states ∙ ap (λ p. Err (stop.Refused (the_refusal p why.Truncated))) (all ∙ sym cut.1)
       ∙ ap (λ w. Err (stop.Refused (the_refusal offset w))) (sym cut.0)
 
--- the answer where it has
+-- the result if the module has ended
 pub finish-whole : {M : Type 0} (r : State) (stream : List ℕ) (is : IsReading r stream) (m : M) (offset : ℕ) (reason : Reason) → is_ended is.prefix ≡ true
     → (◌≡◌ {A = Result M ReadStop} (Ok m) (Err (stop.Refused (the_refusal offset reason)))) ↔ IsJudged r.reads_debug stream (refusal offset reason)
 finish-whole {M} r stream is m offset reason ended = (λ e. absurd (ok_err e), back) where
@@ -104,7 +104,7 @@ finish-whole {M} r stream is m offset reason ended = (λ e. absurd (ok_err e), b
   back (inl refused) = absurd (reading-not-refused r stream offset reason is refused)
   back (inr cut) = let truncated = cut.2 in absurd (ended_not_waiting r.reads_debug stream truncated.1 (size_of is.prefix) ends truncated.2)
 
--- a stream that is a module's is answered as that module, unless memory ran out
+-- for a module's file that module is returned, unless memory ran out
 pub finish-file : (reads_debug : Bool) (stream : List ℕ) (m : Parts) (result : Result Parts ReadStop) → AreBytes stream
     → IfOk result (λ n. IsModule reads_debug stream n)
     → ((offset : ℕ) (reason : Reason) → result ≡ Err (stop.Refused (the_refusal offset reason)) → IsJudged reads_debug stream (refusal offset reason))

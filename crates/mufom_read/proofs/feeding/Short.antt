@@ -1,4 +1,4 @@
--- How many bytes stand after a prefix that waits: fewer than the longest record has whose end may not stand yet.
+-- The number of bytes that wait after a prefix: fewer than the longest record that may still be incomplete has.
 use Rattle.std.proofs.Common.{◌≡◌, ◌⊎◌, inl, inr, ℕ, ◌<◌, Bool, true, false, cond, List, [], ◌∷◌, length, refl, sym, ap, subst, arith, length-drop}
 use Rattle.mufom_numbers.specs.declared.taken.Taken.{Taken}
 use Rattle.mufom_numbers.specs.declared.taken.Taken.TheVariants as taken
@@ -14,7 +14,7 @@ use Rattle.mufom_read.specs.Prefixes.{as_step, raw_step, step_in, step_at, is_en
 use Rattle.mufom_read.specs.Reader.{IsReading, IsIncomplete}
 use Rattle.mufom_read.proofs.judged.Stays.{AreBytes-drop}
 
--- more is wanted for a step where it is for its record
+-- a step needs more bytes only if its record does
 pub as-step-wants : (at : ℕ) (rest : List ℕ) (answer : Taken Record) → as_step at rest answer ≡ taken.More → answer ≡ taken.More
 as-step-wants at rest (taken.Got row used) e = let wrong : ◌≡◌ {A = Taken Step} (as_step at rest (taken.Got row used)) taken.More = e in absurd cc
 as-step-wants at rest taken.More e = refl

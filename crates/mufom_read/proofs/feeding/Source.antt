@@ -1,4 +1,4 @@
--- What the answers of a reader state of the bytes that a source had left.
+-- What the results of a reader state of the bytes that a source had left.
 use Rattle.std.proofs.Common.{◌≡◌, ◌≢◌, ◌⊎◌, ◌↔◌, inl, inr, ℕ, ◌+◌, ◌-◌, ◌<◌, ◌≤◌, Bool, List, [], ◌∷◌, ◌++◌, length, take, drop, Option, Some, None}
 use Rattle.std.proofs.Common.{Result, Ok, Err, IfSome, refl, sym, ap, subst, ◌∙◌, arith, append_assoc, append-nil}
 use Rattle.std.proofs.lemmas.List.{length-append, length-take, length-take-le, take_all, take-take, take-append-drop}
@@ -27,7 +27,7 @@ use Rattle.mufom_read.proofs.feeding.Feed.{the_refusal, reading-not-refused}
 
 -- ---- one record
 
--- the stop of a reader is what it answered
+-- the stop of a reader is what it returned
 stop-answered : (o : Option ReadStop) (s : ReadStop) → ◌≡◌ {A = Result (Unit {0}) ReadStop} (Err s) (answer_of o) → o ≡ Some s
 stop-answered None s e = absurd (wrong e) where
   wrong : ◌≡◌ {A = Result (Unit {0}) ReadStop} (Err s) (Ok tt) → ⊥
@@ -40,7 +40,7 @@ going-answered (Some t) done e = absurd (wrong e) where
   wrong : ◌≡◌ {A = Result (Unit {0}) ReadStop} (Ok done) (Err t) → ⊥
   wrong e = cc
 
--- a reader that goes on was fed no refusal
+-- a reader that goes on was fed no error
 unrefused : (reader : State) (stream : List ℕ) → HasRead reader stream → reader_stop reader ≡ None → IsUnrefused (reads_debug_of reader) stream
 unrefused reader stream read none = λ offset reason refused.
     reading-not-refused reader stream offset reason (subst (λ (s : Option ReadStop). Knows reader stream s) none read.1) refused
@@ -63,7 +63,7 @@ fed-stopped room stream chunk fed reader s made same by answers read =
         × IsRefusedAt (reads_debug_of reader) (stream ++ l) f.place f.reason) (sym same) (read.0, known)
     by_stop read_stop.NoMemory known = tt
 
--- a read stop is no fault
+-- a stop of the reader is never `Fault`
 pub stop-no-fault : (s : ReadStop) (made : SourceStop) → made ≡ stop_by s → made ≢ stop.Fault
 stop-no-fault s made by = λ e. by_stop s (sym by ∙ e) where
   by_stop : (s : ReadStop) → stop_by s ≡ stop.Fault → ⊥
@@ -81,7 +81,7 @@ fed-limit room count stream buffer reader done many inside answers read = (
 
 -- ---- what one read gave
 
--- the first bytes of all begin with the first of the first
+-- the first `room` bytes of all begin with the first `room` bytes of the first `count`
 take-grows : (room count : ℕ) (left : List ℕ) → take room left ≡ take room (take count left) ++ take (room - length (take count left)) (drop count left)
 take-grows room count left = ap (take room) (sym (take-append-drop count left)) ∙ limit-append room (take count left) (drop count left)
 
@@ -124,7 +124,7 @@ chunk-read room count before after stream buffer reader done reads inside some f
     none_left None reads none = tt
     none_left (Some left) reads none = reads.end none some
 
--- a read gives at most as many bytes as the buffer has, and none where it fails
+-- a read takes at most as many bytes as the buffer has, and none if it fails
 pub read-at-most : (before after : Option (List ℕ)) (count : ℕ) (buffer : List ℕ) (most : ℕ) → Reads before after (Ok count) buffer
     → count ≤ length buffer → length buffer ≡ most → ReadsAtMost most before after
 read-at-most before after count buffer most reads inside size =
@@ -137,7 +137,7 @@ failed-at-most before after e buffer most reads = ([], none before reads, omega 
   none None reads = tt
   none (Some left) reads = (left, refl, reads)
 
--- nothing is refused in no bytes
+-- the empty stream has no error
 pub unrefused-none : (reads_debug : Bool) → IsUnrefused reads_debug []
 unrefused-none reads_debug = λ offset reason refused.
     not_cut reads_debug [] offset reason (
@@ -161,7 +161,7 @@ none-further reads_debug limit (Some left) = ([], [], left, refl, refl, omega ar
 
 -- ---- all reads so far
 
--- The reader has read the given number of bytes of the source, and the source was only read.
+-- The reader has read this number of bytes of the source, and the source was only read.
 pub record HasCome (limit n : ℕ) (reads_debug : Bool) (reader : State) (old new : Meaning) (before now : Faults) : Type 0 where
   pub bytes : List ℕ
   pub count : length bytes ≡ n
@@ -244,7 +244,7 @@ no_bytes : (bytes : List ℕ) → length bytes ≡ 0 → bytes ≡ []
 no_bytes [] e = refl
 no_bytes (b ∷ bytes) e = absurd (omega (arith, e))
 
--- where a read gives no byte, all was read
+-- if a read gives no byte, all bytes were read
 pub come-end : (limit n count : ℕ) (next : State) (before between after : Option (List ℕ)) (bytes : List ℕ) → length bytes ≡ n → n ≤ limit
     → ReadsOff before between bytes → count ≡ 0
     → HasReadChunk (limit - n) between after bytes next (Ok count) → HasReadAll limit before after next (Ok n)
@@ -261,7 +261,7 @@ come-end limit n count next before between after bytes size few off none chunk =
         let rest : then_.0 ≡ [] = sym (then_.1 ∙ ap (λ l. l ++ then_.0) empty) ∙ gone in
         (off.1 ∙ ap (λ l. bytes ++ l) gone ∙ append-nil bytes, then_.2 ∙ ap (λ l. Some l) rest)
 
--- ---- what is answered
+-- ---- what is returned
 
 -- all bytes were read: the module is theirs
 pub all-module : (reads_debug : Bool) (limit n : ℕ) (before after : Option (List ℕ)) (bytes : List ℕ) (m : Parts) → length bytes ≡ n → n ≤ limit
@@ -271,7 +271,7 @@ all-module reads_debug limit n None after bytes m size few all is = tt
 all-module reads_debug limit n (Some left) after bytes m size few all is =
     (subst (λ (l : List ℕ). IsModule reads_debug l m) (sym all.0) is, sym size ∙ ap length (sym all.0), omega (arith, ap length all.0, size, few), all.1)
 
--- all bytes were read: the refusal is theirs
+-- all bytes were read: the error is theirs
 pub all-refused : (reads_debug : Bool) (limit n : ℕ) (before after : Option (List ℕ)) (bytes : List ℕ) (s : ReadStop) (made : SourceStop)
     → length bytes ≡ n → n ≤ limit → IfSome before (λ left. (left ≡ bytes) × (after ≡ Some []))
     → made ≡ stop_by s → ((offset : ℕ) (reason : Reason) → s ≡ read_stop.Refused (the_refusal offset reason)
@@ -292,7 +292,7 @@ all-refused reads_debug limit n before after bytes s made size few all by judged
         )
     by_stop read_stop.NoMemory before all judged = tt
 
--- all bytes are the first, where there are no more
+-- all bytes are the first ones, if there are no more
 first-all : (reads_debug : Bool) (limit : ℕ) (left : List ℕ) (offset : ℕ) (reason : Reason) → length left ≤ limit
     → IsRefusedAt reads_debug left offset reason → IsRefusedAt reads_debug (take limit left) offset reason
 first-all reads_debug limit left offset reason few refused =
@@ -302,7 +302,7 @@ all-first : (reads_debug : Bool) (limit : ℕ) (left : List ℕ) (offset : ℕ) 
     → IsRefusedAt reads_debug (take limit left) offset reason → IsRefusedAt reads_debug left offset reason
 all-first reads_debug limit left offset reason few refused = subst (λ (l : List ℕ). IsRefusedAt reads_debug l offset reason) (take_all limit left few) refused
 
--- a refusal within the limit is one of the first bytes; or there are no more of them, and they are cut off
+-- an error within the limit is one of the first bytes; or there are no more bytes, and they are cut off
 abbrev IsWithin : Bool → ℕ → List ℕ → ℕ → Reason → Type 0
 IsWithin reads_debug limit left offset reason = IsRefusedAt reads_debug (take limit left) offset reason
     ⊎ ((length left ≤ limit) × (reason ≡ why.Truncated) × (offset ≡ length left) × IsTruncated reads_debug left)
@@ -328,7 +328,7 @@ not_past reads_debug limit left offset reason (inl a) past = past.1 offset reaso
 not_past reads_debug limit left offset reason (inr a) past = let few : length left ≤ limit = a.0 in let many : limit < length left = past.0 in
     omega (arith, few, many)
 
--- the file of a module is not refused
+-- the file of a module has no error
 not_module : (reads_debug : Bool) (limit : ℕ) (left : List ℕ) (m : Parts) (offset : ℕ) (reason : Reason) → AreBytes left → length left ≤ limit
     → IsModule reads_debug left m → IsWithin reads_debug limit left offset reason → ⊥
 not_module reads_debug limit left m offset reason bytes few is (inl a) =
@@ -338,7 +338,7 @@ not_module reads_debug limit left m offset reason bytes few is (inr a) = (judgme
 abbrev pub Answer : Type 0
 Answer = Result (Parts × ℕ) SourceStop
 
--- the answer where there is a module
+-- the result if there is a module
 module-refused : (reads_debug : Bool) (limit : ℕ) (left : List ℕ) (read : Parts × ℕ) (offset : ℕ) (reason : Reason) → AreBytes left
     → length left ≤ limit → IsModule reads_debug left read.0
     → (◌≡◌ {A = Answer} (Ok read) (Err (stop.Refused (the_refusal offset reason)))) ↔ IsRefusedWithin reads_debug limit left offset reason
@@ -360,7 +360,7 @@ module-past reads_debug limit left read few = (
   wrong : ◌≡◌ {A = Answer} (Ok read) (Err stop.Limit) → ⊥
   wrong e = cc
 
--- the answer where there is none
+-- the result if there is none
 stop-refused : (reads_debug : Bool) (limit : ℕ) (left : List ℕ) (after : Option (List ℕ)) (s : SourceStop) (offset : ℕ) (reason : Reason)
     → ReadsModule reads_debug limit (Some left) after (Err s) → ◌≢◌ {A = Answer} (Err s) (Err stop.NoMemory) → ◌≢◌ {A = Answer} (Err s) (Err stop.Fault)
     → (◌≡◌ {A = Answer} (Err s) (Err (stop.Refused (the_refusal offset reason)))) ↔ IsRefusedWithin reads_debug limit left offset reason
@@ -391,9 +391,9 @@ stop-past reads_debug limit left after stop.Limit is memory fault = (λ e. is, �
 stop-past reads_debug limit left after stop.Fault is memory fault = absurd (fault refl)
 stop-past reads_debug limit left after stop.NoMemory is memory fault = absurd (memory refl)
 
--- ---- the clauses of the answer
+-- ---- the clauses about the result
 
--- what is judged of a stream where a reader answers a stop for it
+-- the judgment of a stream for which a reader returns a stop
 judged-of : {M : Type 0} (reads_debug : Bool) (bytes : List ℕ) (s : ReadStop)
     → ((offset : ℕ) (reason : Reason) → ◌≢◌ {A = Result M ReadStop} (Err s) (Err read_stop.NoMemory)
     → (◌≡◌ {A = Result M ReadStop} (Err s) (Err (read_stop.Refused (the_refusal offset reason)))) ↔ IsJudged reads_debug bytes (refusal offset reason))
@@ -454,7 +454,7 @@ module _ (limit n : ℕ) (reads_debug : Bool) (before after : Option (List ℕ))
     forth None is = tt
     forth (Some left) is = λ memory fault. module-past reads_debug limit left (m, n) (omega (arith, ap length is.0, all.1, all.2))
 
--- where the answer is a stop
+-- the case that the result is a stop
 pub stopped-refused : (reads_debug : Bool) (limit : ℕ) (before after : Option (List ℕ)) (answer : Answer) (s : SourceStop) → answer ≡ Err s
     → ReadsModule reads_debug limit before after (Err s) → (offset : ℕ) (reason : Reason)
     → IfSome before (λ left. ◌≢◌ {A = Answer} answer (Err stop.NoMemory) → ◌≢◌ {A = Answer} answer (Err stop.Fault)
@@ -478,6 +478,6 @@ pub stopped-reads : (reads_debug : Bool) (limit : ℕ) (before after : Option (L
     → ReadsModule reads_debug limit before after (Err s) → ReadsModule reads_debug limit before after answer
 stopped-reads reads_debug limit before after answer s e is = subst (λ (a : Answer). ReadsModule reads_debug limit before after a) (sym e) is
 
--- a stop is a fault only where it is one
+-- a result has only one stop
 pub same-stop : (answer : Answer) (s t : SourceStop) → answer ≡ Err s → answer ≡ Err t → s ≡ t
 same-stop answer s t e f = let both : ◌≡◌ {A = Answer} (Err s) (Err t) = sym e ∙ f in cc

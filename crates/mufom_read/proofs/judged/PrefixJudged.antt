@@ -1,4 +1,4 @@
--- Each stream has a judgment, and one; the prefix of a module's file is cut off.
+-- Each stream has exactly one judgment; a proper prefix of a module's file is cut off.
 use Rattle.std.proofs.Common.{◌≡◌, ◌≢◌, ◌⊎◌, ℕ, zero, suc, ◌+◌, ◌≤◌, min, Bool, true, false, List, [], ◌∷◌, ◌++◌, length, take, drop, Option, Some}
 use Rattle.std.proofs.Common.{None, refl, sym, ap, subst, ◌∙◌, inl, inr, arith, append_assoc, append-nil}
 use Rattle.std.specs.Option.{option_or}
@@ -200,7 +200,7 @@ waiting_judged reads_debug bytes pending h = elim (cases_lt file_limit (length b
   | inr short ↦ (refusal (length bytes) why.Truncated, inr (refl, refl, (short, pending, h)))
 ]
 
--- Each stream has a judgment, where an ended prefix is a module's file.
+-- Each stream has a judgment, provided that an ended prefix is a module's file.
 pub has_judgment : EndedPrefixIsModule → HasJudgment
 has_judgment law reads_debug bytes fits =
     let found = longest reads_debug (within_limit bytes) (AreBytes-take file_limit bytes fits) in
@@ -225,7 +225,7 @@ same_refusal reads_debug bytes fault_offset other reason why_ fits (inl a) (inr 
 same_refusal reads_debug bytes fault_offset other reason why_ fits (inr a) (inl b) = absurd (not_cut reads_debug bytes other why_ a.2 b)
 same_refusal reads_debug bytes fault_offset other reason why_ fits (inr a) (inr b) = (a.1 ∙ sym b.1, a.0 ∙ sym b.0)
 
--- A stream has one judgment, where judgments exclude each other.
+-- No stream has two judgments, provided that judgments exclude each other.
 pub has_one_judgment : JudgmentsExcludeEachOther → HasOneJudgment
 has_one_judgment law reads_debug bytes (module_of m) (module_of n) fits x y = ap (λ p. module_of p) ((law reads_debug bytes fits).one_module m n x y)
 has_one_judgment law reads_debug bytes (module_of m) (refusal fault_offset reason) fits x y =

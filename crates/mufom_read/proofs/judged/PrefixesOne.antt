@@ -1,4 +1,4 @@
--- Of two sound prefixes of a stream one begins with the other, and a stream is refused once.
+-- Of two sound prefixes of a stream, one begins with the other; and a stream has at most one error.
 use Rattle.std.proofs.Common.{◌≡◌, ◌⊎◌, ℕ, ◌+◌, ◌<◌, ◌≤◌, Bool, true, List, [], ◌∷◌, ◌++◌, length, drop, Option, Some, None, refl, sym, ap, subst}
 use Rattle.std.proofs.Common.{◌∙◌, inl, inr, arith, append_assoc, append-nil}
 use Rattle.std.proofs.lemmas.Bool.{both_ways}
@@ -45,7 +45,7 @@ sound_after reads_debug before (s ∷ a) more rest h =
     (subst (λ (l : List Step). IsSoundFrom reads_debug l more (drop (size_of a) (drop n rest))) (append_assoc before (s ∷ []) a)
     (sound_after reads_debug (before ++ s ∷ []) a more (drop n rest) h.3))
 
--- nothing goes on after a prefix: it has ended, a fault stands there, or more bytes are wanted
+-- no step follows a prefix: it has ended, an error follows it, or more bytes are needed
 abbrev pub IsStuck : Bool → List Step → List ℕ → Type 0
 IsStuck reads_debug prefix rest = (is_ended prefix ≡ true) ⊎ (((fault : Fault) × (fault_after reads_debug prefix rest ≡ Some fault))
     ⊎ (next_step reads_debug prefix rest ≡ More))
@@ -93,14 +93,14 @@ waiting_faultless : (reads_debug : Bool) (bytes pending : List ℕ) (h : IsWaiti
     → fault_after reads_debug h.prefix (drop (size_of h.prefix) (within_limit bytes)) ≡ None
 waiting_faultless reads_debug bytes pending h = subst (λ (l : List ℕ). fault_after reads_debug h.prefix l ≡ None) h.after h.faultless
 
--- where a fault stands the module has not ended
+-- if there is an error, the module has not ended
 pub fault_not_ended : (reads_debug : Bool) (bytes : List ℕ) (offset other : ℕ) (reason : Reason) → HasFault reads_debug bytes offset reason
     → EndsAt reads_debug bytes other → ⊥
 fault_not_ended reads_debug bytes offset other reason a b =
     let same = one_longest reads_debug (within_limit bytes) a.prefix b.prefix a.sound b.sound (fault_stuck reads_debug bytes offset reason a) (inl b.ended) in
     both_ways (is_ended a.prefix) a.unended (ap (λ l. is_ended l) same ∙ b.ended)
 
--- and no bytes are wanted
+-- if there is an error, no more bytes are needed
 pub fault_not_waiting : (reads_debug : Bool) (bytes pending : List ℕ) (offset : ℕ) (reason : Reason) → HasFault reads_debug bytes offset reason
     → IsWaiting reads_debug bytes pending → ⊥
 fault_not_waiting reads_debug bytes pending offset reason a b =
@@ -110,7 +110,7 @@ fault_not_waiting reads_debug bytes pending offset reason a b =
     none_or_some (fault_after reads_debug b.prefix (drop (size_of b.prefix) (within_limit bytes))) (offset, reason) none
     (ap (λ l. fault_after reads_debug l (drop (size_of l) (within_limit bytes))) (sym same) ∙ a.fault)
 
--- where the module has ended no bytes are wanted
+-- if the module has ended, no more bytes are needed
 pub ended_not_waiting : (reads_debug : Bool) (bytes pending : List ℕ) (offset : ℕ) → EndsAt reads_debug bytes offset → IsWaiting reads_debug bytes pending → ⊥
 ended_not_waiting reads_debug bytes pending offset a b =
     let same = one_longest reads_debug (within_limit bytes) a.prefix b.prefix a.sound b.sound (inl a.ended) (waiting_stuck reads_debug bytes pending b) in
@@ -147,7 +147,7 @@ one_refusal reads_debug bytes offset other reason why_ (inr (inr a)) (inr (inr b
 pub refusal_is_single : RefusalIsSingle
 refusal_is_single reads_debug bytes offset other reason why_ fits = one_refusal reads_debug bytes offset other reason why_
 
--- a stream that is cut off is not refused
+-- a stream that is cut off has no error
 pub not_cut : (reads_debug : Bool) (bytes : List ℕ) (offset : ℕ) (reason : Reason) → IsTruncated reads_debug bytes
     → IsRefusedAt reads_debug bytes offset reason → ⊥
 not_cut reads_debug bytes offset reason cut (inl a) = fault_not_waiting reads_debug bytes cut.1 offset reason a cut.2

@@ -1,4 +1,4 @@
--- A refusal stays in every longer stream.
+-- An error in a stream is the same error in every longer stream.
 use Rattle.std.proofs.Common.{◌≡◌, ℕ, zero, suc, ◌-◌, ◌<◌, ◌≤◌, Bool, true, false, cond, not, ◌==◌, ◌&&◌, List, [], ◌∷◌, ◌++◌, length, take, drop}
 use Rattle.std.proofs.Common.{Option, Some, None, refl, sym, ap, subst, ◌∙◌, inl, inr, arith, append-nil}
 use Rattle.std.specs.List.{last_or}
@@ -85,12 +85,12 @@ at_stays reads_debug prefix (in_header k) rest more fits wanted = step_stays (he
 at_stays reads_debug prefix (in_part e) rest more fits wanted = in_stays reads_debug prefix e rest more fits wanted
 at_stays reads_debug prefix at_end rest more fits wanted = step_stays mode.Body (size_of prefix) rest more fits wanted
 
--- The step after a prefix stays, once no more bytes are wanted.
+-- The step after a prefix stays the same in a longer stream, once it needs no more bytes.
 pub next_stays : (reads_debug : Bool) (prefix : List Step) (rest more : List ℕ) → AreBytes rest → (next_step reads_debug prefix rest ≡ wanting → ⊥)
     → next_step reads_debug prefix (rest ++ more) ≡ next_step reads_debug prefix rest
 next_stays reads_debug prefix rest more fits wanted = at_stays reads_debug prefix (location_after prefix) rest more fits wanted
 
--- ---- sound prefixes and faults
+-- ---- sound prefixes and errors
 
 pub AreBytes-drop : (n : ℕ) (bytes : List ℕ) → AreBytes bytes → AreBytes (drop n bytes)
 AreBytes-drop zero bytes fits = fits
@@ -137,7 +137,7 @@ sound_stays reads_debug before (s ∷ steps) rest more fits sound =
           (sound_stays reads_debug (before ++ s ∷ []) steps (drop n rest) more (AreBytes-drop n rest fits) sound.3),
     )
 
--- a fault after a prefix stays
+-- an error after a prefix stays the same
 pub fault_stays : (reads_debug : Bool) (prefix : List Step) (rest more : List ℕ) (fault : Fault) → AreBytes rest → fault_after reads_debug prefix rest
     ≡ Some fault → fault_after reads_debug prefix (rest ++ more) ≡ Some fault
 fault_stays reads_debug prefix rest more fault fits h = by_part (ended_part_fault prefix) h where
@@ -149,7 +149,7 @@ fault_stays reads_debug prefix rest more fault fits h = by_part (ended_part_faul
 
 -- ---- the limit
 
--- the bytes that are judged of a longer stream begin with those of the shorter
+-- the bytes of a longer stream that are checked begin with those of the shorter one
 pub limit-append : (n : ℕ) (bytes more : List ℕ) → take n (bytes ++ more) ≡ take n bytes ++ take (n - length bytes) more
 limit-append n bytes more = elim (cases_lt n (length bytes)) [
   | inl short ↦ take-append-le n bytes more (omega arith) ∙ sym (append-nil (take n bytes))
@@ -171,7 +171,7 @@ limit-append n bytes more = elim (cases_lt n (length bytes)) [
         same_less : (a b : ℕ) → a - b ≡ suc a - suc b
         same_less a b = omega arith
 
--- what is judged of a longer stream begins with what is judged of the shorter
+-- the bytes of a longer stream that are checked begin with those of the shorter one
 pub within-append : (bytes more : List ℕ) → within_limit (bytes ++ more) ≡ within_limit bytes ++ take (file_limit - length bytes) more
 within-append bytes more = limit-append file_limit bytes more
 
@@ -180,7 +180,7 @@ prefixes_stay reads_debug bytes more prefix fits sound =
     subst (λ (l : List ℕ). IsSoundPrefix reads_debug prefix l) (sym (within-append bytes more))
     (sound_stays reads_debug [] prefix (within_limit bytes) (take (file_limit - length bytes) more) (AreBytes-take file_limit bytes fits) sound)
 
--- ---- refusals
+-- ---- errors of a stream
 
 prefix_inside : (reads_debug : Bool) (prefix : List Step) (bytes : List ℕ) → AreBytes bytes → IsSoundPrefix reads_debug prefix bytes
     → size_of prefix ≤ length bytes
@@ -217,7 +217,7 @@ end_goes_on reads_debug bytes more fault_offset fits h =
       here = h.here;
     }
 
--- more than the most bytes are judged as the most of them
+-- if there are more bytes than the limit, further ones change nothing
 same_judged : (bytes more : List ℕ) → file_limit < length bytes → within_limit bytes ≡ within_limit (bytes ++ more)
 same_judged bytes more long = sym (take-append-le file_limit bytes more (omega arith))
 
@@ -232,7 +232,7 @@ waiting_goes_on reads_debug bytes other pending same h = record {
   after = h.after ∙ ap (drop (size_of h.prefix)) same;
 }
 
--- whatever numbers stand after the bytes
+-- the error of a stream stays, whatever numbers follow its bytes
 pub refusal_goes_on : (reads_debug : Bool) (bytes more : List ℕ) (fault_offset : ℕ) (reason : Reason) → AreBytes bytes
     → IsRefusedAt reads_debug bytes fault_offset reason → IsRefusedAt reads_debug (bytes ++ more) fault_offset reason
 refusal_goes_on reads_debug bytes more fault_offset reason fits (inl h) = inl (fault_goes_on reads_debug bytes more fault_offset reason fits h)

@@ -12,7 +12,7 @@ use Rattle.mufom_read.specs.Faults.{OpenBlock, opened_after, open_from, open_blo
 
 -- ---- kinds
 
--- the kinds of the blocks that are open after a record, where blocks of these kinds were open before it, the innermost first
+-- the kinds of the blocks that are open after a record, if blocks of these kinds were open before it; the innermost is first
 abbrev pub kinds_after : List ℕ → Record → List ℕ
 kinds_after kinds (r.BlockBegin kind n name block) = kind ∷ kinds
 kinds_after [] (r.BlockEnd value) = []
@@ -137,7 +137,7 @@ deep-other part kinds row other own = refl
 
 -- ---- records that keep to the rules for blocks
 
--- no record of these ends a block badly or begins one too deep, where blocks of these kinds are open before them
+-- none of these records ends a block badly or begins one too deep, if blocks of these kinds are open before them
 abbrev pub NestFrom : List ℕ → List SpelledRecord → Type 0
 NestFrom kinds [] = Unit {0}
 NestFrom kinds (p ∷ records) = (ends_badly_in kinds p.row ≡ false) × (is_too_deep_in kinds p.row ≡ false) × NestFrom (kinds_after kinds p.row) records

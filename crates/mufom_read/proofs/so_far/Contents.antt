@@ -1,4 +1,4 @@
--- What the code does to the contents with a record is what the record states in its part; those of the other parts stay.
+-- The code adds what a record states to the contents of its part, and leaves those of the other parts as they are.
 use Rattle.std.proofs.Common.{◌≡◌, ℕ, Bool, true, false, not, cond, true≢false, List, [], ◌∷◌, ◌++◌, filter_map, slice_get, Option, Some, None}
 use Rattle.std.proofs.Common.{is_some, option_map, refl, sym, ap, ◌∙◌, append-nil, append_assoc}
 use Rattle.std.specs.List.{list_any, cons_option}
@@ -109,13 +109,13 @@ unstarted_row ix p (r.SectionSize j n) later starts h more = more h
 unstarted_row ix p (r.SectionBase j n) later starts h more = more h
 unstarted_row ix p row later starts h more = more h
 
--- no start address was given where none was assigned
+-- no start address was found if none was stated
 start_unstated : (before ps : List SpelledRecord) → is_assigned ps start_address ≡ false → starts_from before ps ≡ []
 start_unstated before [] h = refl
 start_unstated before (p ∷ ps) h = unstarted_row (indexes_by (tables_of before)) p p.row (filter_map (λ q. assigned_by q.row) ps) _ h
     (start_unstated (before ++ p ∷ []) ps)
 
--- the first start address is that of a record that gives one
+-- the first start address is that of a record that states one
 start_given : (ps : List SpelledRecord) (p : SpelledRecord) (tree : Option Tree) (row : Record) → p.row ≡ row → stands_in trailer_part row ≡ true
     → states_again ps row ≡ false → tree ≡ option_map (positioned (indexes_by (tables_of ps))) (tree_of_record p)
     → tree ≡ start_so_far (ps ++ p ∷ [])
@@ -142,7 +142,7 @@ starts_all before (p ∷ records) follow =
     (append_assoc before (p ∷ []) records) in
     (λ k. cons_option (here k) (rest k))
 
--- The start address so far is the first of those of the records, by the indexes of all of them.
+-- The start address so far is the first that the records state, by the indexes of all of them.
 pub start-whole : (records : List SpelledRecord) → FollowFrom [] records → start_so_far records ≡ slice_get (starts_of (indexes_in records) records) 0
 start-whole records follow = ap (λ l. slice_get l 0) (starts_all [] records follow)
 

@@ -1,4 +1,4 @@
--- What a record of the debug part does to the debug items so far: their marks are those of one more record.
+-- What a record of the debug part does to the debug items so far: they get the debug records of one more record.
 use Rattle.std.proofs.Common.{◌≡◌, ℕ, zero, suc, ◌+◌, ◌==◌, ◌&&◌, ◌||◌, false, cond, arith, List, [], ◌∷◌, ◌++◌, length, map, drop, get_or, is_some}
 use Rattle.std.proofs.Common.{Option, Some, None, option_map, refl, sym, ap, ◌∙◌, append_assoc, append-nil, Result, Ok, Err, OnOk}
 use Rattle.std.specs.List.{cons_option}
@@ -26,7 +26,7 @@ use Rattle.mufom_read.specs.DebugSoFar.{as_opened, stacked, marks_to_block, mark
 use Rattle.mufom_read.proofs.ended.Trees.{named_known, tree_known}
 use Rattle.mufom_read.proofs.ended.LoadsWhole.{kind_stays, tree_stays}
 
--- what holds where that went well
+-- what follows from a result that holds on success
 pub then_ok : {A E : Type 0} (result : Result A E) (P Q : Type 0) → (P → Q) → OnOk result P → OnOk result Q
 then_ok (Ok a) P Q f h = f h
 then_ok (Err e) P Q f h = tt
@@ -54,7 +54,7 @@ innermost outer (x ∷ []) (suc k) b count is = absurd (omega (arith, count))
 innermost outer (x ∷ (y ∷ blocks)) zero b count is = absurd (omega (arith, count))
 innermost outer (x ∷ (y ∷ blocks)) (suc k) b count is = innermost (as_opened x ∷ outer) (y ∷ blocks) k b (omega (arith, count)) is
 
--- BE where this is the innermost open block
+-- BE, if this is the innermost open block
 pub end-within : (blocks inner : List Opened) (b : OpenBlock) (row : Record) (value : Option Span) → blocks ≡ as_opened b ∷ inner → row ≡ r.BlockEnd value
     → ends_badly blocks row ≡ (is_some value && ((kind_number b.head == 3) || (kind_number b.head == 5)))
 end-within blocks inner b row value same is = (λ k. ends_badly (same k) (is k))
@@ -103,7 +103,7 @@ item-added blocks items item =
 
 -- ---- expressions
 
--- an expression with positions, where there is one
+-- an expression with positions, if there is one
 pub mapped-twice : {X Y Z : Type 0} (f : Y → Z) (g : X → Y) (o : Option X) → option_map f (option_map g o) ≡ option_map (λ x. f (g x)) o
 mapped-twice f g None = refl
 mapped-twice f g (Some x) = refl
@@ -187,6 +187,6 @@ marks_all before (p ∷ records) follow =
     (append_assoc before (p ∷ []) records) in
     (λ k. cons_option (here k) (rest k))
 
--- The marks so far are those of the records, by the indexes of all of them.
+-- The debug records so far are those of the records, by the indexes of all of them.
 pub marks-whole : (records : List SpelledRecord) → FollowFrom [] records → marks_so_far records ≡ marks (indexes_in records) records
 marks-whole records follow = marks_all [] records follow

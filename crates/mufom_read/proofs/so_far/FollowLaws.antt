@@ -1,4 +1,4 @@
--- Each record of a prefix keeps to the rules after those before it: what that makes known of what was stated of an index.
+-- What is known of an index if each record of a prefix keeps to the rules after those before it.
 use Rattle.std.proofs.Common.{◌≡◌, ℕ, ◌+◌, ◌<◌, ◌≤◌, arith, ◌==◌, ◌||◌, Bool, true, false, true≢false, cond, List, [], ◌∷◌, ◌++◌, filter_map, Option}
 use Rattle.std.proofs.Common.{Some, None, refl, sym, ap, subst, ◌∙◌, append-nil, append_assoc, ne_eqb}
 use Rattle.std.specs.Prelude.{unwrap_or}
@@ -37,7 +37,7 @@ declared_first kind before more i h =
     ap (list_any (λ n. n == i)) (filter_map-append (λ (q : SpelledRecord). of_kind kind (declared_by q.row)) before more)
     ∙ list_any-append (λ n. n == i) (declared kind before) (declared kind more) ∙ ap (λ b. b || is_declared more (kind, i)) h
 
--- Of an index that none of the records declares they state nothing: each names only what those before it declare.
+-- Records state nothing of an index that none of them declares: each refers only to what those before it declare.
 pub nothing-stated : {X : Type 0} (kind : Kind) (i : ℕ) (ask : SpelledRecord → Option X)
     → ((p : SpelledRecord) → (named_by p.row ≡ Some (kind, i) → ⊥) → ask p ≡ None)
     → (before ps : List SpelledRecord) → FollowFrom before ps → is_declared (before ++ ps) (kind, i) ≡ false → filter_map ask ps ≡ []
@@ -91,7 +91,7 @@ neither : (once : Once) (first : Option Once) (more : List Once) → list_any (i
 neither once None more h = (refl, h)
 neither once (Some other) more h = or_parts (is_same_statement once other) _ h
 
--- Records of which none states this answer nothing, where an answer is given by a record that states it alone.
+-- Nothing is found in records of which none states it, if it is found only in a record that states it.
 unstated : {X : Type 0} (once : Once) (ask : SpelledRecord → Option X) → ((p : SpelledRecord) → states_it once (assigned_by p.row) ≡ false → ask p ≡ None)
     → (ps : List SpelledRecord) → is_assigned ps once ≡ false → filter_map ask ps ≡ []
 unstated once ask silent [] h = refl
@@ -105,7 +105,7 @@ unvalued : (i : ℕ) (p : SpelledRecord) (row : Record) → states_it (value_of_
 unvalued i p (r.PublicValue j value) h = ap (λ b. cond b (Some (tree_in p value)) None) h
 unvalued i p row h = refl
 
--- no value is stated of the public where none was assigned
+-- no value is found for the public if none was stated
 pub value-unstated : (i : ℕ) (ps : List SpelledRecord) → is_assigned ps (value_of_public i) ≡ false → filter_map (λ p. value_for i p p.row) ps ≡ []
 value-unstated i = unstated (value_of_public i) (λ p. value_for i p p.row) (λ p. unvalued i p p.row)
 
@@ -113,7 +113,7 @@ strong : (i : ℕ) (row : Record) → states_it (weakness i) (assigned_by row) �
 strong i (r.WeakReference j n other) h = ap (λ b. cond b (Some (weak_of n other)) None) h
 strong i row h = refl
 
--- nothing makes the reference weak where nothing was stated so
+-- nothing makes the reference weak if no record says so
 pub weak-unstated : (i : ℕ) (ps : List SpelledRecord) → is_assigned ps (weakness i) ≡ false → answers (weak_for i) ps ≡ []
 weak-unstated i = unstated (weakness i) (λ p. weak_for i p.row) (λ p. strong i p.row)
 
@@ -121,7 +121,7 @@ unsized : (i : ℕ) (row : Record) → states_it (section_size i) (assigned_by r
 unsized i (r.SectionSize j n) h = ap (λ b. cond b (Some n) None) h
 unsized i row h = refl
 
--- no size is stated of the section where none was assigned
+-- no size is found for the section if none was stated
 pub size-unstated : (i : ℕ) (ps : List SpelledRecord) → is_assigned ps (section_size i) ≡ false → answers (size_for i) ps ≡ []
 size-unstated i = unstated (section_size i) (λ p. size_for i p.row) (λ p. unsized i p.row)
 
@@ -129,7 +129,7 @@ unaligned : (i : ℕ) (row : Record) → states_it (alignment i) (assigned_by ro
 unaligned i (r.Alignment j n other) h = ap (λ b. cond b (Some n) None) h
 unaligned i row h = refl
 
--- no alignment is stated of the section where none was assigned
+-- no alignment is found for the section if none was stated
 pub alignment-unstated : (i : ℕ) (ps : List SpelledRecord) → is_assigned ps (alignment i) ≡ false → answers (alignment_for i) ps ≡ []
 alignment-unstated i = unstated (alignment i) (λ p. alignment_for i p.row) (λ p. unaligned i p.row)
 
@@ -137,7 +137,7 @@ unbased : (i : ℕ) (row : Record) → states_it (section_base i) (assigned_by r
 unbased i (r.SectionBase j n) h = ap (λ b. cond b (Some n) None) h
 unbased i row h = refl
 
--- no base is stated of the section where none was assigned
+-- no base is found for the section if none was stated
 pub base-unstated : (i : ℕ) (ps : List SpelledRecord) → is_assigned ps (section_base i) ≡ false → answers (base_for i) ps ≡ []
 base-unstated i = unstated (section_base i) (λ p. base_for i p.row) (λ p. unbased i p.row)
 

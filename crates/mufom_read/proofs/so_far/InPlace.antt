@@ -5,17 +5,17 @@ use Rattle.std.specs.Prelude.{unwrap_or, slice_set}
 use Rattle.std.specs.List.{cons_option, IsDistinct, AllByRecursion}
 use Rattle.mufom_read.proofs.TableLaws.{eqb-swap}
 
--- the entry, changed where its key is this one
+-- the entry, changed if its key is this one
 abbrev pub changed_at : {E : Type 0} → ℕ → (E → E) → Option ℕ → Option E → Option E
 changed_at i change (Some j) (Some e) = Some (cond (j == i) (change e) e)
 changed_at i change key e = e
 
--- An entry has a key where there is one, and by the second it is changed where its key is this one.
+-- There is a key exactly if there is an entry. `after` gives the same entry as `by`, but changed if its key is this one.
 pub record IsChange {P E : Type 0} (key : P → Option ℕ) (by after : P → Option E) (i : ℕ) (change : E → E) : Type 0 where
   pub keyed : (p : P) → is_some (key p) ≡ is_some (by p)
   pub changed : (p : P) → after p ≡ changed_at i change (key p) (by p)
 
--- no key of these is this one
+-- none of these keys is this one
 abbrev pub lacks_key : ℕ → List ℕ → Type 0
 lacks_key i js = AllByRecursion (λ j. (j == i) ≡ false) js
 
@@ -29,7 +29,7 @@ module _ {P E : Type 0} (key : P → Option ℕ) (by after : P → Option E) (i 
   rest_lacks (Some j) ks lacks = lacks.1
   rest_lacks None ks lacks = lacks
 
-  -- where no key is this one nothing changes
+  -- if no key is this one, nothing changes
   pub others-same : (ps : List P) → lacks_key i (filter_map key ps) → filter_map after ps ≡ filter_map by ps
   others-same [] lacks = refl
   others-same (p ∷ ps) lacks =

@@ -20,7 +20,7 @@ use Rattle.mufom_read.specs.declared.loads.Loads.{Loads}
 use Rattle.mufom_read.specs.HeaderSoFar.{layout_by, layout_in}
 use Rattle.mufom_read.specs.LoadsSoFar.{no_loads, is_item, units_in, loads_after, loads_from, loads_so_far}
 
--- what was pushed, where that went well
+-- the list after a push that succeeded
 pub pushed : {X A E : Type 0} (r : Result A E) (new old few more : List X) → few ≡ more → OnOk r (new ≡ old ++ few) → OnOk r (new ≡ old ++ more)
 pushed (Ok a) new old few more e h = h ∙ ap (λ l. old ++ l) e
 pushed (Err e) new old few more same h = tt
@@ -31,7 +31,7 @@ first-more [] None = refl
 first-more [] (Some x) = refl
 first-more (x ∷ xs) o = refl
 
--- what is answered first, with one more record
+-- the first value found, with one more record
 pub answer-more : {X : Type 0} (ask : SpelledRecord → Option X) (ps : List SpelledRecord) (p : SpelledRecord)
     → slice_get (filter_map ask (ps ++ p ∷ [])) 0 ≡ option_or (slice_get (filter_map ask ps) 0) (ask p)
 answer-more ask ps p = ap (λ xs. slice_get xs 0) (filter_map-append ask ps (p ∷ [])) ∙ first-more (filter_map ask ps) (ask p)
@@ -58,7 +58,7 @@ loads-more ps p = loads_more [] no_loads ps p
 -- ---- a record with its expression
 
 module _ (ix : Indexes) (p : SpelledRecord) where
-  -- the expression of a record, with positions, where one stands there
+  -- the expression of a record, with positions, if it has one
   value_there : (row : Record) (span : Span) → p.row ≡ row → expression_of row ≡ Some span → option_map (positioned ix) (tree_of_record p)
       ≡ Some (positioned ix (tree_in p span))
   value_there row span is there = ap (λ (x : Record). option_map (positioned ix) (option_map (tree_in p) (expression_of x))) is

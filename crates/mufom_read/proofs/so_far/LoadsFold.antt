@@ -1,4 +1,4 @@
--- The loads record by record, with what awaits items closed, are those of all the records.
+-- The loads gathered record by record, once no further item follows, are those of all records.
 use Rattle.std.proofs.Common.{◌≡◌, ℕ, List, [], ◌∷◌, ◌++◌, map, None, refl, sym, ap, ◌∙◌, append-nil, append_assoc}
 use Rattle.mufom_expr.specs.Spelled.{Indexes}
 use Rattle.mufom_records.specs.declared.record.Record.{Record}
@@ -14,7 +14,7 @@ use Rattle.mufom_read.specs.declared.loads.OpenLoad.TheVariants as open_load
 use Rattle.mufom_read.specs.Kept.{as_record}
 use Rattle.mufom_read.specs.LoadsSoFar.{load_of_open, closed, with_item, opened_by, loads_at_once, with_load, no_loads}
 
--- all loads, where what awaits items gets these, and these loads stand after it
+-- all loads, if the record that may get items gets these, and these loads follow it
 abbrev shut : List Load → OpenLoad → List Item → List Load → List Load
 shut loads open_load.Nothing items rest = loads ++ rest
 shut loads open_load.Relocate items rest = loads ++ (map One items ++ rest)
@@ -33,7 +33,7 @@ item_after loads open_load.Relocate item items rest = append_assoc loads (One it
 item_after loads (open_load.Repeat count before) item items rest = ap (λ all. loads ++ (Repeat count all ∷ rest)) (append_assoc before (item ∷ []) items)
 
 module _ (ix : Indexes) (maus : ℕ) where
-  -- a record that is no item: what it states comes after all that was
+  -- a record that is not an item: what it states follows all that was stated before
   other_after : (before : List Load) (row : Record) (bytes : List ℕ) (items : List Item) (rest : List Load) → item_by ix maus (as_record row bytes) row ≡ None
       → shut (before ++ loads_at_once ix (as_record row bytes) row) (opened_by row) items rest ≡ before ++ (loads_by ix (as_record row bytes) items row ++ rest)
   other_after before r.Relocate bytes items rest none = ap (λ l. l ++ (map One items ++ rest)) (append-nil before)

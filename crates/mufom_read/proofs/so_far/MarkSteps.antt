@@ -1,4 +1,4 @@
--- What is kept beside each public, as records are read: the offset of its declaration, and that of its value.
+-- The mark of each public, as records are read: the offset of its declaration, then that of its value.
 use Rattle.std.proofs.Common.{◌≡◌, ℕ, length, ◌==◌, ◌||◌, Bool, true, false, cond, nat_eq, List, [], ◌∷◌, ◌++◌, filter_map, slice_get, Option, Some}
 use Rattle.std.proofs.Common.{None, is_some, refl, sym, ap, ◌∙◌, append-nil, true≢false}
 use Rattle.std.specs.Prelude.{slice_set}
@@ -39,7 +39,7 @@ pub marks-count : (placed : List OffsetRecord) → length (public_marks placed) 
 marks-count placed = sym (same_count key (λ p. public_mark_by placed p p.1.row) (λ p. keyed placed p p.1.row) placed)
     ∙ sym (ap length (map_asks (λ p. of_kind public (declared_by p.row)) placed))
 
--- ---- where values were stated
+-- ---- the offsets at which values were stated
 
 start_row : (i : ℕ) (p : OffsetRecord) (row : Record) (vs : List Tree) (starts : List ℕ) → cons_option (value_for i p.1 row) vs ≡ []
     → (vs ≡ [] → starts ≡ []) → cons_option (value_start_for i p row) starts ≡ []
@@ -50,7 +50,7 @@ start_row i p (r.PublicValue j value) vs starts = by_test (i == j) where
   by_test false h more = more h
 start_row i p row vs starts = λ h more. more h
 
--- no offset of a value where no value was stated
+-- there is no offset of a value if no value was stated
 pub no-start : (i : ℕ) (placed : List OffsetRecord) → filter_map (λ p. value_for i p p.row) (records_in placed) ≡ []
     → filter_map (λ p. value_start_for i p p.1.row) placed ≡ []
 no-start i [] h = refl
@@ -72,7 +72,7 @@ stated_row i start p (r.SectionBase j n) later starts h = h
 stated_row i start p (r.Start value) later starts h = h
 stated_row i start p row later starts h = h
 
--- a value was stated of the public where there is an offset of one
+-- a value was stated of the public if there is an offset of one
 pub value-started : (i : ℕ) (placed : List OffsetRecord) → is_assigned (records_in placed) (value_of_public i)
     ≡ is_some (slice_get (filter_map (λ p. value_start_for i p p.1.row) placed) 0)
 value-started i [] = refl
@@ -167,7 +167,7 @@ marks_same placed q silent none =
         (λ k. Some (mark_of p.0 (slice_get (one_more_none (λ x. value_start_for j x x.1.row) placed q (silent j) k) 0)))
     same_by p row = refl
 
--- a record that speaks of no public leaves the marks as they are
+-- a record that refers to no public leaves the marks as they are
 pub marks-stay : (placed : List OffsetRecord) (q : OffsetRecord) → is_of_public q.1.row ≡ false → public_marks (placed ++ q ∷ []) ≡ public_marks placed
 marks-stay placed q other = marks_same placed q (λ j. unstarted j q q.1.row other) (no_mark (placed ++ q ∷ []) q q.1.row other)
 

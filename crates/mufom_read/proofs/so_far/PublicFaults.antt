@@ -1,4 +1,4 @@
--- The first fault of the external part, found among those of its publics.
+-- The first error of the external part, found among those of its publics.
 use Rattle.std.proofs.Common.{◌≡◌, ◌⊎◌, inl, inr, ℕ, suc, ◌+◌, ◌≤◌, ◌<◌, ◌==◌, ◌||◌, Bool, true, false, not, true≢false, cond, List, [], ◌∷◌, ◌++◌}
 use Rattle.std.proofs.Common.{filter_map, slice_get, Option, Some, None, is_some, refl, sym, ap, subst, ◌∙◌, arith, append_assoc, eq-eqb, length}
 use Rattle.std.proofs.Common.{drop, get_or}
@@ -33,7 +33,7 @@ use Rattle.mufom_read.proofs.so_far.ReferenceSteps.{same_index}
 use Rattle.mufom_read.proofs.so_far.MarkSteps.{no-start, value-started}
 use Rattle.mufom_read.proofs.stepping.PartEnd.{IsAmong, HasFault, part-fault}
 
--- ---- the fault of each public
+-- ---- the error of each public
 
 abbrev key_of : Record → Option ℕ
 key_of row = of_kind public (declared_by row)
@@ -45,7 +45,7 @@ abbrev values : ℕ → List OffsetRecord → List Tree
 values i placed = filter_map (λ p. value_for i p p.row) (records_in placed)
 
 module _ (t : Tables) (all : List OffsetRecord) where
-  -- the fault of the public that a record declares
+  -- the error of the public that a record declares
   abbrev entry_fault : OffsetRecord → Record → Option (Option Fault)
   entry_fault p (r.PublicName i name) = Some (value_fault t (unplaced_value i (records_in all)) (mark_of p.0 (slice_get (starts i all) 0)))
   entry_fault p _ = None
@@ -78,7 +78,7 @@ module _ (all : List OffsetRecord) where
   no_test true n why_ f e = refl
   no_test false n why_ f e = absurd cc
 
-  -- a value at fault is that of a record at fault
+  -- a value with an error is that of a record with an error
   giver_row : (i valued : ℕ) (f : Fault) (start : ℕ) (row : Record) (bytes : List ℕ) (more : List OffsetRecord) → let p : OffsetRecord =
       (start, record { row = row; bytes = bytes }) in
       slice_get (cons_option (value_start_for i p row) (starts i more)) 0 ≡ Some valued
@@ -111,7 +111,7 @@ module _ (all : List OffsetRecord) where
   giver i valued f [] here e = absurd cc
   giver i valued f (p ∷ sub) here e = giver_row i valued f p.0 p.1.row p.1.bytes sub here e (giver i valued f sub)
 
-  -- the fault of a public is that of a record
+  -- the error of a public is that of a record
   sound_row : (f : Fault) (start : ℕ) (row : Record) (bytes : List ℕ) (more : List (Option Fault)) → let p : OffsetRecord =
       (start, record { row = row; bytes = bytes }) in
       IsAmong f (cons_option (entry_fault ts all p row) more) → (fault p ≡ Some f) ⊎ (HasFault fault f all ⊎ IsAmong f more)
@@ -251,7 +251,7 @@ module _ (all : List OffsetRecord) where
       records_more [] q = refl
       records_more (x ∷ a) q = ap (λ l. x.1 ∷ l) (records_more a q)
 
-  -- The least fault of the publics is the first of the part.
+  -- The error of the publics with the smallest offset is the first of the part.
   pub external-least : (to : ℕ) → AreRising 0 all to → FollowFrom [] (records_in all)
       → least_from None (public_faults ts (public_marks all) (unplaced_publics (records_in all))) ≡ first_fault (external_fault (records_in all)) all
   external-least to rising follows =
@@ -284,7 +284,7 @@ faults-step t marks publics i m p a in_marks in_publics is_mark is_public = sym 
   from_public : drop i publics ≡ p ∷ drop (i + 1) publics
   from_public = drop-cons publics i p in_publics ∙ (λ j. sym is_public j ∷ drop (next j) publics)
 
--- none stands after the last
+-- no error follows that of the last public
 pub faults-end : (t : Tables) (marks : List PublicMark) (publics : List Public) (a : Option Fault) (n : ℕ) → length marks ≤ n → length publics ≤ n
     → least_from a (public_faults t (drop n marks) (drop n publics)) ≡ a
 faults-end t marks publics a n few less = (λ k. least_from a (public_faults t (drop_all n marks few k) (drop_all n publics less k)))

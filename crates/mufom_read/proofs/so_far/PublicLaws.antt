@@ -38,7 +38,7 @@ pub on_ok_both : {A E : Type 0} (P Q R : Type 0) (r : Result A E) → (P → Q �
 on_ok_both P Q R (Ok a) h p q = h p q
 on_ok_both P Q R (Err e) h p q = tt
 
--- a record of none of the three rows speaks of no public
+-- a record of another kind than these three refers to no public
 pub no-public-row : (row : Record) → ((i : ℕ) (name : Span) → row ≡ r.PublicName i name → ⊥)
     → ((i : ℕ) (value : Span) → row ≡ r.PublicValue i value → ⊥) → ((i a b : ℕ) (ns : ArrayVec ℕ) → row ≡ r.PublicNote i a b ns → ⊥) → is_of_public row ≡ false
 no-public-row (r.PublicName i name) x y z = absurd (x i name refl)
@@ -46,7 +46,7 @@ no-public-row (r.PublicValue i value) x y z = absurd (y i value refl)
 no-public-row (r.PublicNote i a b ns) x y z = absurd (z i a b ns refl)
 no-public-row row x y z = refl
 
--- and of none of these three of no reference
+-- the same for references: a record of another kind than these three refers to none
 pub no-reference-row : (row : Record) → ((i : ℕ) (name : Span) → row ≡ r.ReferenceName i name → ⊥)
     → ((i n : ℕ) (default : Option ℕ) → row ≡ r.WeakReference i n default → ⊥) → ((i a b : ℕ) (ns : ArrayVec ℕ) → row ≡ r.ReferenceNote i a b ns → ⊥)
     → is_of_reference row ≡ false
@@ -62,7 +62,7 @@ pub records-more : (all : List OffsetRecord) (q : OffsetRecord) → records_in (
 records-more [] q = refl
 records-more (x ∷ all) q = ap (λ l. x.1 ∷ l) (records-more all q)
 
--- as many publics as marks
+-- there are as many publics as marks
 pub publics-even : (n : Publics) (all : List OffsetRecord) → ArePublicsOf n all → length n.list.items ≡ length n.marks.items
 publics-even n all are = ap length are.list ∙ publics-count (records_in all) ∙ sym (marks-count all) ∙ sym (ap length are.marks)
 
@@ -79,7 +79,7 @@ module _ (n new : Publics) (table : List ℕ) (all : List OffsetRecord) (start :
         marks = marks ∙ (λ k. public_marks (all ++ (start, sym same k) ∷ []));
       }
 
-  -- a position of the table is that of a public and of what is kept beside it
+  -- a position in the table is that of a public and of its mark
   pub list-within : (position : ℕ) → position < length table → position < length n.list.items
   list-within position within = subst (λ k. position < k) (ap length before.table ∙ sym (publics-count ps) ∙ sym (ap length before.publics.list)) within
 

@@ -73,7 +73,7 @@ module _ (ps : List SpelledRecord) (i : ℕ) (name : Span) (bytes : List ℕ) wh
   }))
   same p row = refl
 
-  -- NI: a public more, of which nothing was stated
+  -- NI: one more public, of which nothing was stated
   pub public-added : filter_map (λ p. value_for i p p.row) ps ≡ [] → answers (public_note_for i) ps ≡ [] → unplaced_publics (ps ++ added ∷ [])
       ≡ unplaced_publics ps ++ with_stated [] [] ∷ []
   public-added unvalued unnoted =
@@ -89,7 +89,7 @@ chosen_value : (b : Bool) (name : List ℕ) (t v : Tree) (ns : List Note) → le
 chosen_value true name t v ns = refl
 chosen_value false name t v ns = refl
 
--- the value that stands first, where none was stated of the index before
+-- the first value, if none was stated of the index before
 first_value : (b : Bool) (vs : List Tree) (t : Tree) → (b ≡ true → vs ≡ [])
     → unwrap_or (slice_get (vs ++ cons_option (cond b (Some t) None) []) 0) (number 0) ≡ cond b t (unwrap_or (slice_get vs 0) (number 0))
 first_value true vs t none = ap (λ l. unwrap_or (slice_get (l ++ t ∷ []) 0) (number 0)) (none refl)
@@ -168,7 +168,7 @@ module _ (ps : List SpelledRecord) (i type_index attribute : ℕ) (ns : ArrayVec
 
 -- ---- other records
 
--- the record speaks of a public
+-- the record refers to a public
 abbrev pub is_of_public : Record → Bool
 is_of_public (r.PublicName i name) = true
 is_of_public (r.PublicValue i value) = true
@@ -187,7 +187,7 @@ no_public : (part : List SpelledRecord) (p : SpelledRecord) (row : Record) → i
 no_public part p (r.PublicName i name) h = absurd (true≢false h)
 no_public part p row h = refl
 
--- a record that speaks of none leaves the publics as they are
+-- a record that refers to none leaves the publics as they are
 pub publics-stay : (ps : List SpelledRecord) (q : SpelledRecord) → is_of_public q.row ≡ false → unplaced_publics (ps ++ q ∷ []) ≡ unplaced_publics ps
 publics-stay ps q other =
     one_more_none (λ p. unplaced_by (ps ++ q ∷ []) p p.row) ps q (no_public (ps ++ q ∷ []) q q.row other)

@@ -41,7 +41,7 @@ within-some [] n h = absurd (omega (arith, h))
 within-some (x ∷ xs) zero h = (x, refl)
 within-some (x ∷ xs) (suc n) h = within-some xs n (omega (arith, h))
 
--- as many entries as keys
+-- there are as many entries as keys
 pub same_count : {P X Y : Type 0} (f : P → Option X) (g : P → Option Y) → ((p : P) → is_some (f p) ≡ is_some (g p)) → (ps : List P)
     → length (filter_map f ps) ≡ length (filter_map g ps)
 same_count f g same [] = refl
@@ -75,7 +75,7 @@ module _ (ps : List SpelledRecord) (i : ℕ) (name : Span) (bytes : List ℕ) wh
   same p (r.ReferenceName j other) = (λ k. Some (record { name = text_in p other; weak = slice_get (no_weak j k) 0; notes = no_note j k }))
   same p row = refl
 
-  -- NX: a reference more, of which nothing was stated
+  -- NX: one more reference, of which nothing was stated
   pub reference-added : answers (weak_for i) ps ≡ [] → answers (reference_note_for i) ps ≡ [] → references_of (ps ++ added ∷ []) ≡ references_of ps
       ++ with_stated [] [] ∷ []
   reference-added strong unnoted =
@@ -85,7 +85,7 @@ module _ (ps : List SpelledRecord) (i : ℕ) (name : Span) (bytes : List ℕ) wh
 
 -- ---- what makes one weak
 
--- the weakness that stands first, where none was stated of the index before
+-- the first weakness, if none was stated of the index before
 first_weak : (b : Bool) (ws : List Weak) (w : Weak) → (b ≡ true → ws ≡ []) → slice_get (ws ++ cons_option (cond b (Some w) None) []) 0
     ≡ cond b (Some w) (slice_get ws 0)
 first_weak true ws w none = ap (λ l. slice_get (l ++ w ∷ []) 0) (none refl)
@@ -175,7 +175,7 @@ module _ (ps : List SpelledRecord) (i type_index attribute : ℕ) (ns : ArrayVec
 
 -- ---- other records
 
--- the record speaks of a reference
+-- the record refers to a reference
 abbrev pub is_of_reference : Record → Bool
 is_of_reference (r.ReferenceName i name) = true
 is_of_reference (r.WeakReference i n default) = true
@@ -195,7 +195,7 @@ module _ (ps : List SpelledRecord) where
   no_reference part p (r.ReferenceName i name) h = absurd (true≢false h)
   no_reference part p row h = refl
 
-  -- a record that speaks of none leaves the references as they are
+  -- a record that refers to none leaves the references as they are
   pub references-stay : (q : SpelledRecord) → is_of_reference q.row ≡ false → references_of (ps ++ q ∷ []) ≡ references_of ps
   references-stay q other =
       one_more_none (λ p. reference_by (ps ++ q ∷ []) p p.row) ps q (no_reference (ps ++ q ∷ []) q q.row other)

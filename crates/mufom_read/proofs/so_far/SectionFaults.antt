@@ -1,4 +1,4 @@
--- The fault of the first absolute section without a base, found among the sections that are kept.
+-- The error of the first absolute section without a base, found among the sections that are kept.
 use Rattle.std.proofs.Common.{◌≡◌, ℕ, suc, ◌+◌, ◌≤◌, ◌<◌, ◌==◌, ◌||◌, Bool, true, false, not, cond, List, [], ◌∷◌, filter_map, slice_get, Option}
 use Rattle.std.proofs.Common.{Some, None, is_some, is_none, refl, sym, ap, ◌∙◌, arith, length, drop, get_or}
 use Rattle.std.proofs.Math.Seq.{drop-cons}
@@ -31,7 +31,7 @@ based_row i (r.SectionSize j n) later bases h = h
 based_row i (r.Start value) later bases h = h
 based_row i row later bases h = h
 
--- a base was stated of the section where there is one
+-- a base was stated of the section if it has one
 is_based : (i : ℕ) (ps : List SpelledRecord) → is_assigned ps (section_base i) ≡ is_some (first_answer (base_for i) ps)
 is_based i [] = refl
 is_based i (p ∷ ps) = based_row i p.row (filter_map (λ q. assigned_by q.row) ps) (answers (base_for i) ps) (is_based i ps)
@@ -54,7 +54,7 @@ listed : (part : List SpelledRecord) (placed : List OffsetRecord)
 listed part [] = refl
 listed part (p ∷ placed) = listed_row part p.0 p.1.row p.1.bytes _ _ _ (listed part placed)
 
--- the fault of the first section without a base is that of the first declaration of one
+-- the error of the first section without a base is that of the first declaration of such a section
 pub unbased-first : (all : List OffsetRecord) → first_unbased (section_starts all) (sections_of (records_in all))
     ≡ first_fault (section_fault (records_in all)) all
 unbased-first all = listed (records_in all) all
@@ -72,13 +72,13 @@ module _ (starts : List ℕ) (sections : List Section) (i start : ℕ) (s : Sect
   from_section : drop i sections ≡ s ∷ drop (i + 1) sections
   from_section = drop-cons sections i s in_sections ∙ (λ j. sym is_section j ∷ drop (next j) sections)
 
-  -- where this section has no base the first one is found
+  -- if this section has no base, the first one is found
   pub unbased-here : is_unbased s ≡ true → Some (start, why.MissingBase) ≡ first_unbased (drop i starts) (drop i sections)
   unbased-here e =
       sym (ap (λ b. option_or (fault_if b start why.MissingBase) (first_unbased (drop (i + 1) starts) (drop (i + 1) sections))) e)
       ∙ sym (λ k. first_unbased (from_start k) (from_section k))
 
--- where it has one, or needs none, the first one comes later
+-- if it has one, or needs none, the first one comes later
 pub unbased-later : (starts : List ℕ) (sections : List Section) (i : ℕ) (s : Section) → i < length starts → i < length sections → s
     ≡ get_or sections i s → is_unbased s ≡ false
     → first_unbased (drop (i + 1) starts) (drop (i + 1) sections) ≡ first_unbased (drop i starts) (drop i sections)
@@ -96,7 +96,7 @@ unbased-later starts sections i s in_starts in_sections is_section e =
     from_section : drop i sections ≡ s ∷ drop (i + 1) sections
     from_section = drop-cons sections i s in_sections ∙ (λ j. sym is_section j ∷ drop (next j) sections)
 
--- none stands after the last
+-- no section without a base follows the last one
 pub unbased-end : (starts : List ℕ) (sections : List Section) (n : ℕ) → length starts ≤ n → length sections ≤ n
     → first_unbased (drop n starts) (drop n sections) ≡ None
 unbased-end starts sections n few less = (λ k. first_unbased (drop_all n starts few k) (drop_all n sections less k))

@@ -34,7 +34,7 @@ no-section-row (r.Alignment i n other) x y z w = absurd (z i n other refl)
 no-section-row (r.SectionBase i n) x y z w = absurd (w i n refl)
 no-section-row row x y z w = refl
 
--- as many sections as offsets of declarations
+-- there are as many sections as offsets of declarations
 pub sections-even : (s : Sections) (all : List OffsetRecord) → AreSectionsOf s all → length s.list.items ≡ length s.starts.items
 sections-even s all are = ap length are.list ∙ sym (starts-count all) ∙ sym (ap length are.starts)
 

@@ -43,7 +43,7 @@ section_with name absolute letter size align base = record {
   base = base;
 }
 
--- the value that stands first, where none was stated of the index before
+-- the first value, if none was stated of the index before
 first_one : (b : Bool) (xs : List ℕ) (x : ℕ) → (b ≡ true → xs ≡ []) → slice_get (xs ++ cons_option (cond b (Some x) None) []) 0
     ≡ cond b (Some x) (slice_get xs 0)
 first_one true xs x none = ap (λ l. slice_get (l ++ x ∷ []) 0) (none refl)
@@ -84,7 +84,7 @@ module _ (ps : List SpelledRecord) (i : ℕ) (absolute : Bool) (letter : Option 
       (same_answer ps added (alignment_for j) refl k) (same_answer ps added (base_for j) refl k)))
   same p row = refl
 
-  -- ST: a section more, of which nothing was stated
+  -- ST: one more section, of which nothing was stated
   pub section-added : answers (size_for i) ps ≡ [] → answers (alignment_for i) ps ≡ [] → answers (base_for i) ps ≡ []
       → sections_of (ps ++ added ∷ []) ≡ sections_of ps ++ section_with (text_in added name) absolute letter None None None ∷ []
   section-added unsized unaligned unbased =

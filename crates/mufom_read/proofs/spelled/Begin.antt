@@ -1,4 +1,4 @@
--- With which bytes records and items begin.
+-- The bytes with which records and items begin.
 use Rattle.std.proofs.Common.{◌≡◌, ℕ, ◌+◌, ◌≤◌, Bool, true, false, cond, ◌==◌, nat_le, List, [], ◌∷◌, ◌++◌, length, Option, Some, None, refl, ap, ◌∙◌}
 use Rattle.std.proofs.Common.{arith, eqb-true}
 use Rattle.std.proofs.lemmas.Bool.{or_left, or_right, or_from}
@@ -75,7 +75,7 @@ no_item b bytes h =
     let third : (0xBE == b) ≡ false = grind arith in
     or_from _ _ number (or_from _ _ first (or_from _ _ second (or_from _ _ third refl)))
 
--- no record but an item begins as an item does
+-- no record except an item begins as an item does
 pub body_begins : (row : Record) (bytes : List ℕ) (next : Option ℕ) → Layouts.IsWholeRecord mode.Body row bytes next → begins_item bytes ≡ false
 body_begins row bytes next (b, prefix, back, first, others, split) =
     let low : 0xE0 ≤ b = promised (λ (_ : Record). 0xE0 ≤ b) (Layouts.coded b) row (0 + _) back next others (coded_high b) in

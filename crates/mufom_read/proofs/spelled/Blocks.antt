@@ -29,7 +29,7 @@ use Rattle.mufom_read.proofs.ended.Blocks.{kind_of_head, plain_kind, mapped_some
 
 -- ---- ends
 
--- where blocks of these kinds are open, each end of the marks closes one whose kind may have it, and none is open after them
+-- If blocks of these kinds are open, each end in the debug records closes one whose kind allows it, and none is open after them.
 abbrev pub EndsWell : List ℕ → List DebugMark → Type 0
 EndsWell kinds (block_begin head name ∷ marks) = EndsWell (kind_number head ∷ kinds) marks
 EndsWell kinds [] = kinds ≡ []
@@ -39,7 +39,7 @@ EndsWell kinds (name_mark name ∷ marks) = EndsWell kinds marks
 EndsWell kinds (note_mark name note ∷ marks) = EndsWell kinds marks
 EndsWell kinds (value_mark name value ∷ marks) = EndsWell kinds marks
 
--- marks of items with these blocks, of which none ends badly, leave the open blocks as they were
+-- the debug records of items with these blocks, none of which ends badly, leave the open blocks as they were
 abbrev Well : List DebugMark → List HeadAndEnd → Type 0
 Well marks blocks = list_any has_bad_end blocks ≡ false → (kinds : List ℕ) (rest : List DebugMark) → EndsWell kinds rest → EndsWell kinds (marks ++ rest)
 
@@ -195,7 +195,7 @@ nest_all ix kinds (p ∷ records) short ends deep =
     (λ e d. nest_all ix (kinds_after kinds p.row) records short.1 e d) in
     ((both.0, both.1, both.2.0), both.2.1)
 
--- Records with the marks of items, of which no block ends badly and which go to a depth of 32.
+-- Records with the debug records of items, whose blocks all end well and are nested at most 32 deep.
 pub nest_items : (ix : Indexes) (records : List SpelledRecord) (items : List DebugItem) → marks_of items ≡ marks ix records
     → list_any has_bad_end (blocks_of items) ≡ false → depth_of (marks_of items) ≤ 32
     → AllByRecursion (λ p. IsShort p.row) records → NestWell [] records

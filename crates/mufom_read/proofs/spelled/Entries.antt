@@ -1,4 +1,4 @@
--- What keeps the sections and publics of a valid module from faults in its file.
+-- Why the sections and publics of a valid module have no errors in its file.
 use Rattle.std.proofs.Common.{◌≡◌, ℕ, Bool, true, false, cond, not, ◌==◌, ◌||◌, nat_lt, List, [], ◌∷◌, ◌++◌, map, slice_get, Option, Some, None}
 use Rattle.std.proofs.Common.{is_none, option_map, unwrap_or, refl, sym, ap, subst, ◌∙◌, filter_map, eqb-true, eq-eqb}
 use Rattle.std.specs.List.{list_all, list_any, cons_option, AllByRecursion}
@@ -55,7 +55,7 @@ declared_has kind Q (p ∷ records) all i h = next (of_kind kind (declared_by p.
     by_test true e h = subst Q (eqb-true j i e) (one j refl)
     by_test false e h = more h
 
--- what is not stated yet has no answer
+-- what is not stated yet is not found
 pub no_answer : {X : Type 0} (once : Once) (ask : SpelledRecord → Option X)
     → ((p : SpelledRecord) → any_of (is_same_statement once) (assigned_by p.row) ≡ false → ask p ≡ None) → (records : List SpelledRecord)
     → is_assigned records once ≡ false → filter_map ask records ≡ []
@@ -65,7 +65,7 @@ no_answer once ask quiet (p ∷ records) h =
     (sym (any-cons_option (is_same_statement once) (assigned_by p.row) (filter_map (λ q. assigned_by q.row) records)) ∙ h) in
     (λ i. cons_option (quiet p both.0 i) (no_answer once ask quiet records both.1 i))
 
--- the first answer is that of the first record which states it
+-- the first value found is that of the first record that states it
 pub first_stated : {X : Type 0} (ask : SpelledRecord → Option X) (before : List SpelledRecord) (p : SpelledRecord) (after : List SpelledRecord)
     (x : X) → filter_map ask before ≡ [] → ask p ≡ Some x → slice_get (filter_map ask (before ++ p ∷ after)) 0 ≡ Some x
 first_stated ask before p after x none its = ap (λ l. slice_get l 0) (filter_map-append ask before (p ∷ after)
@@ -73,7 +73,7 @@ first_stated ask before p after x none its = ap (λ l. slice_get l 0) (filter_ma
 
 -- ---- trees
 
--- the same variable, where the position is the same
+-- the variable is the same if its position is the same
 pub same_index : (ix : Indexes) (i j : ℕ) → list_any (λ k. k == i) ix.sections ≡ true → list_any (λ k. k == j) ix.sections ≡ true
     → position_in ix.sections i ≡ position_in ix.sections j → i ≡ j
 same_index ix i j here there same =

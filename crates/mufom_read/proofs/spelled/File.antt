@@ -34,7 +34,7 @@ use Rattle.mufom_read.proofs.spelled.Blocks.{NestWell, nest_items}
 
 -- ---- a valid module
 
--- of the defects that it does not have, those by which its file could have a fault
+-- the defects that it does not have, as far as they would be errors in its file
 pub record IsSound (m : Parts) : Type 0 where
   pub units : d.is_unit_count m.maus ≡ true
   pub aligned : list_any d.has_bad_alignment m.sections ≡ false

@@ -49,7 +49,7 @@ abbrev pub AreOrdered : List ℕ → List ℕ → Type 0
 AreOrdered earlier [] = Unit {0}
 AreOrdered earlier (w ∷ offsets) = (is_out_of_order earlier w ≡ false) × AreOrdered (earlier ++ w ∷ []) offsets
 
--- what holds before the given number of offsets
+-- what holds before this number of offsets
 pub record Standing (k n : ℕ) (end : ℕ) (earlier offsets : List ℕ) (before : List Step) (records : List SpelledRecord) : Type 0 where
   pub count : length before ≡ suc (suc k)
   pub eight : k + n ≡ 8
@@ -63,7 +63,7 @@ pub record Standing (k n : ℕ) (end : ℕ) (earlier offsets : List ℕ) (before
   pub some : 1 ≤ end
   pub first : first_present (earlier ++ offsets) ≡ end
 
--- the fault of an offset that is in order and leaves no gap
+-- an offset that is in order and leaves no gap has no error
 offset_kept : (earlier : List ℕ) (w start end : ℕ) → is_out_of_order earlier w ≡ false → leaves_gap (earlier ++ w ∷ []) end ≡ false
     → offset_fault earlier w start end ≡ None
 offset_kept earlier w start end order gap =

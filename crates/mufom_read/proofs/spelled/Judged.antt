@@ -1,4 +1,4 @@
--- A module's file is not refused and not cut off, and is the file of one module.
+-- A module's file has no error and is not cut off, and is the file of only one module.
 use Rattle.std.proofs.Common.{◌≡◌, ℕ, ◌<◌, ◌≤◌, Bool, List, length, sym, subst, inl, inr, arith}
 use Rattle.mufom_numbers.specs.declared.reason.Reason.{Reason}
 use Rattle.mufom_numbers.specs.Spelling.{AreBytes}

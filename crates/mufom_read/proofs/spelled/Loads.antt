@@ -1,4 +1,4 @@
--- The program counters that the loads of a valid module name are those that its records may name.
+-- The program counters that the loads of a valid module use are those that its records may use.
 use Rattle.std.proofs.Common.{◌≡◌, ℕ, Bool, true, false, ◌==◌, ◌||◌, List, [], ◌∷◌, ◌++◌, map, Option, Some, None, option_map, unwrap_or, refl, sym}
 use Rattle.std.proofs.Common.{ap, subst, ◌∙◌, append-nil}
 use Rattle.std.specs.List.{list_all, list_any, last_or, cons_option}
@@ -83,7 +83,7 @@ are_in_next ix before p own are = record {
 
 -- ---- what holds of loads
 
--- no load has a program counter that it may not name
+-- no load has a program counter that it may not use
 abbrev pub NoneMisplaced : Option ℕ → List Load → Type 0
 NoneMisplaced current loads = list_any d.misplaces_counter (placed_from current loads) ≡ false
 
@@ -138,7 +138,7 @@ its_tree : (ix : Indexes) (maus : ℕ) (items : Bool) (before : List SpelledReco
 its_tree ix maus items before p records row span its is e other =
     listed_tree ix before its.are (tree_in p span) (tree_known before p span (ap expression_of is ∙ e) (ap is_public_value is ∙ other) its.follows.known)
 
--- the index that it names is listed
+-- the index that it refers to is in the list
 its_index : (ix : Indexes) (maus : ℕ) (items : Bool) (before : List SpelledRecord) (p : SpelledRecord) (records : List SpelledRecord) (row : Record)
     (i : ℕ) → Known ix maus items before p records → p.row ≡ row → named_by row ≡ Some (section, i) → list_any (λ k. k == i) ix.sections ≡ true
 its_index ix maus items before p records row i its is e = ap (list_any (λ k. k == i)) (sym its.are.sections)
@@ -194,7 +194,7 @@ listed_row ix maus items before p records row its is = subst (IsListed ix) (sym 
 
 -- ---- all records
 
--- each record names no program counter that it may not
+-- no record uses a program counter that it may not use
 abbrev pub CounterFrom : List SpelledRecord → List SpelledRecord → Type 0
 CounterFrom before [] = Unit {0}
 CounterFrom before (p ∷ records) = (misplaces_counter before p ≡ false) × CounterFrom (before ++ p ∷ []) records

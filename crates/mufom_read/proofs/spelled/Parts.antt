@@ -46,7 +46,7 @@ none_inside part from to all prefix within offsets low high =
     ap (λ ws. part_among parts_in_order ws (size_of prefix - 1)) offsets ∙ within (size_of prefix - 1) (omega arith) (omega arith) in
     ap (λ (o : Option Extent). ended_fault prefix o) offset ∙ ap (λ b. cond b (whole_fault part prefix) None) (ne_eqb to (size_of prefix) (λ same. omega arith))
 
--- ---- bytes that are not read
+-- ---- bytes that are not read as records
 
 raw_is_step : (reads_debug : Bool) (part : Part) (from to : ℕ) (all : List ℕ) (before : List Step) (b : ℕ) (after : List ℕ)
     → AllInside part from to all → is_raw reads_debug part ≡ true
@@ -127,7 +127,7 @@ mode_here items a b p rest next flag is =
     and_assoc true y z = refl
     and_assoc false y z = refl
 
--- items may stand after these steps
+-- items may follow these steps
 abbrev awaiting : ℕ → List Step → Bool
 awaiting from before = not (size_of before == from) && awaits_items (last_or None (records_of before))
 

@@ -1,4 +1,4 @@
--- Where no items may stand there is none.
+-- If no items may follow, the record that is read is not an item.
 use Rattle.std.proofs.Common.{◌≡◌, ℕ, Bool, true, false, ◌==◌, List, Option, Some, None, refl}
 use Rattle.mufom_numbers.specs.declared.taken.Span.{Span}
 use Rattle.mufom_records.specs.declared.record.Mode.TheVariants as mode

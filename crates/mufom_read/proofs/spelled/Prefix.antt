@@ -61,7 +61,7 @@ external_steps f = steps_of (size_of (up_to_externals f)) f.externals
 abbrev up_to_debug : FileParts → List Step
 up_to_debug f = up_to_externals f ++ external_steps f
 
--- of the debug part, its records, or the bytes that are passed over
+-- of the debug part, its records, or the bytes that are skipped
 abbrev debug_steps : FileParts → List Step
 debug_steps f = steps_of (size_of (up_to_debug f)) f.debug ++ raw_steps f.skipped
 
@@ -103,7 +103,7 @@ joined-chained (x ∷ xs) end = append_assoc x (joined xs) end ∙ ap (λ l. x +
 
 -- ---- contents
 
--- no bytes are passed over
+-- no bytes are skipped
 read_alone : (before : List Step) (records : List SpelledRecord) (skipped after : List ℕ) → skipped ≡ []
     → Content true debug_part before (steps_of (size_of before) records) (bytes_of records) after
     → Content true debug_part before (steps_of (size_of before) records ++ raw_steps skipped) (bytes_of records ++ skipped) after
@@ -122,7 +122,7 @@ raw_alone before records skipped after none content =
     subst (λ (l : List SpelledRecord). Content false debug_part before (steps_of (size_of before) l ++ raw_steps skipped) (bytes_of l
     ++ skipped) after) (sym none) content
 
--- without bytes that are passed over, or without records, the steps are the others
+-- if no bytes are skipped, or no records are read, the steps are the others
 no_raws : (before : List Step) (records : List SpelledRecord) (skipped : List ℕ) → skipped ≡ []
     → whole_fault debug_part (before ++ (steps_of (size_of before) records ++ raw_steps skipped)) ≡ None
     → whole_fault debug_part (before ++ steps_of (size_of before) records) ≡ None

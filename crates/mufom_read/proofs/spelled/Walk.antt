@@ -24,7 +24,7 @@ abbrev pub steps_of : ℕ → List SpelledRecord → List Step
 steps_of at [] = []
 steps_of at (p ∷ records) = read at p ∷ steps_of (at + length p.bytes) records
 
--- bytes that are not read
+-- bytes that are not read as records
 abbrev pub raw_steps : List ℕ → List Step
 raw_steps bytes = map (λ b. raw b) bytes
 
@@ -46,7 +46,7 @@ raw_none (b ∷ bytes) = raw_none bytes
 
 -- ---- one step
 
--- the step that stands next has no fault, and neither has a part that ends before it
+-- the next step has no error, and neither has a part that ends before it
 pub record IsStep (reads_debug : Bool) (before : List Step) (step : Step) (after : List ℕ) : Type 0 where
   pub unended : is_ended before ≡ false
   pub whole : ended_part_fault before ≡ None
@@ -79,7 +79,7 @@ sound-append reads_debug before (s ∷ a) b rest x y =
           (subst (λ (l : List Step). IsSoundFrom reads_debug l b rest) (sym (append_assoc before (s ∷ []) a)) y)),
     )
 
--- a record stands next
+-- the next step is a record
 pub next_read : (reads_debug : Bool) (before : List Step) (offset : Location) (m : Mode) (p : SpelledRecord) (after : List ℕ) → location_after before ≡ offset
     → step_at reads_debug before offset (p.bytes ++ after) ≡ as_step (size_of before) (p.bytes ++ after) (record_at m (p.bytes ++ after))
     → IsWholeRecord m p.row p.bytes (first_of after None) → next_step reads_debug before (p.bytes ++ after) ≡ taken (read (size_of before) p) (length p.bytes)
@@ -91,7 +91,7 @@ next_read reads_debug before offset m p after here as_it is =
 
 -- ---- no part before the first offset
 
--- no offset but 0 is below this one
+-- no offset except 0 is below this one
 abbrev pub Beyond : ℕ → List ℕ → Type 0
 Beyond n offsets = AllByRecursion (λ w. (w ≡ 0) ⊎ (n ≤ w)) offsets
 

@@ -1,4 +1,4 @@
--- A record without a fault may be added after a prefix.
+-- A record without an error may be added after a prefix.
 use Rattle.std.proofs.Common.{◌≡◌, ℕ, suc, ◌+◌, ◌≤◌, ◌==◌, ◌&&◌, Bool, true, false, not, true≢false, nat_lt, List, [], ◌∷◌, ◌++◌, length, filter_map}
 use Rattle.std.proofs.Common.{Option, Some, None, is_some, cond, refl, sym, ap, subst, ◌∙◌, arith, append-nil, le-ltb, ne_eqb, ltb-false, ◌⊎◌, inl}
 use Rattle.std.proofs.Common.{inr}
@@ -24,7 +24,7 @@ use Rattle.mufom_read.specs.DebugSoFar.{HasKind}
 use Rattle.mufom_read.specs.PrefixOfCode.{AreFrom, AreOrdered, IsPrefixOf, IsAddable, IsHeaderRow, IsPlacedWell, as_location}
 use Rattle.mufom_read.proofs.RuleLaws.{declares, states}
 
--- ---- what no fault states
+-- ---- what holds if there is no error
 
 nothing : {A : Type 0} {x : A} → Some x ≡ None → ⊥
 nothing e = true≢false (ap is_some e)
@@ -45,9 +45,9 @@ no_first : {A : Type 0} (test : Bool) (x : A) (o : Option A) → cond test (Some
 no_first true x o e = absurd (nothing e)
 no_first false x o e = (refl, e)
 
--- ---- the fault of a record in a part
+-- ---- the error of a record in a part
 
--- where it ends within the part and may stand in it, its fault is that of the rules
+-- if the record ends within the part and belongs to it, its error is that of the rules
 pub part-clean : (prefix : List Step) (e : Extent) (start : ℕ) (p : SpelledRecord) (o : Option Fault) → start + length p.bytes ≤ e.to
     → stands_in e.part p.row ≡ true
     → o ≡ fault_for start (rule_broken prefix p) → o ≡ part_record_fault prefix e start p
@@ -225,14 +225,14 @@ part_follows prefix e start p clean =
     let fifth = no_first (has_no_section (records_of prefix) p.row) _ _ fourth.1 in
     record { new = first.0; known = second.0; once = third.0; placed = fifth.0 }
 
--- a record at its place that has no fault keeps to the rules after those before it
+-- a record without an error at its location keeps the rules after those before it
 pub follows-at : (prefix : List Step) (at : code.Location) (start : ℕ) (p : SpelledRecord) → IsPlacedWell at p.row
     → record_fault prefix (as_location at) start p ≡ None → Follows (records_of prefix) p
 follows-at prefix (offset.Header k) start p well clean = header_follows (records_of prefix) p.row p.bytes well.0
 follows-at prefix (offset.Part e) start p well clean = part_follows prefix (as_extent e) start p clean
 follows-at prefix offset.End start p well clean = end_follows (records_of prefix) p.row p.bytes (not_not _ (no_fault _ _ _ clean))
 
--- a record at its place that has no fault may be added
+-- a record without an error at its location may be added
 pub addable : (prefix : List Step) (at : code.Location) (start : ℕ) (p : SpelledRecord) → IsPlacedWell at p.row
     → record_fault prefix (as_location at) start p ≡ None → IsAddable prefix p.row
 addable prefix (offset.Header k) start p well clean = header_row prefix k start p.bytes p.row well.0 clean

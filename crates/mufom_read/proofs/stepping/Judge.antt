@@ -1,4 +1,4 @@
--- What was done with a record is what was done with what stands after a prefix.
+-- The result of taking a record is the result of reading the bytes after a prefix.
 use Rattle.std.proofs.Common.{◌≡◌, ℕ, ◌<◌, ◌≤◌, List, length, take, sym, ap, subst, ◌∙◌, arith, length-take}
 use Rattle.mufom_numbers.specs.declared.taken.Taken.{Taken}
 use Rattle.mufom_numbers.specs.declared.taken.Taken.TheVariants.{Got}
@@ -34,7 +34,7 @@ judged prefix rest row n start new (next.Took m) within some at (count, clean, i
 judged prefix rest row n start new next.More within some at taken = absurd taken
 judged prefix rest row n start new (next.Refused f) within some at fault = fault
 
--- a record that was got
+-- a record that was read
 pub taken-judged : (prefix : List Step) (rest : List ℕ) (answer : Taken Record) (row : Record) (n start : ℕ) (p : SpelledRecord) (new : Prefix)
     (done : Next) → answer ≡ Got row n → n ≤ length rest → 0 < n
     → start ≡ size_of prefix → p ≡ as_record row (take n rest) → HasTaken prefix p new done

@@ -1,4 +1,4 @@
--- The part in which the next byte stands goes on up to its end.
+-- The part that contains the next byte goes on up to its end.
 use Rattle.std.proofs.Common.{◌≡◌, ℕ, zero, suc, ◌+◌, ◌-◌, ◌<◌, ◌≤◌, ◌==◌, ◌&&◌, Bool, true, false, not, true≢false, nat_lt, nat_le, List, [], ◌∷◌}
 use Rattle.std.proofs.Common.{◌++◌, length, Option, Some, None, is_some, cond, refl, sym, ap, subst, ◌∙◌, arith, length-append, append-nil, ltb-true}
 use Rattle.std.proofs.Common.{ltb-false, leb-true, lt-ltb, le-ltb, le-leb, ne_eqb, ◌⊎◌, inl, inr}
@@ -21,7 +21,7 @@ abbrev the_begin : Option Extent → ℕ
 the_begin None = 0
 the_begin (Some x) = x.from
 
--- a byte stands before its part's end
+-- a byte is before its part's end
 pub among-within : (parts : List Part) (os : List ℕ) (at : ℕ) (e : Extent) → part_among parts os at ≡ Some e → at < e.to
 among-within [] os at e found = absurd (nothing (sym found))
 among-within (part ∷ parts) [] at e found = absurd (nothing (sym found))
@@ -60,7 +60,7 @@ among_from (part ∷ parts) (v ∷ os) w at e is found = by_case _ refl found (�
 stands : (w at end : ℕ) → not (w == 0) ≡ true → w ≤ at → at < end → true ≡ (not (w == 0) && (nat_le w at && nat_lt at end))
 stands w at end some low high = sym (ap (λ b. b && (nat_le w at && nat_lt at end)) some ∙ ap (λ b. b && nat_lt at end) (le-leb w at low) ∙ lt-ltb at end high)
 
--- a byte after another one of a part, before the part's end, stands in it
+-- a byte after another one of a part, before the part's end, is in the part
 pub among-stays : (parts : List Part) (os : List ℕ) (at more : ℕ) (e : Extent) → AreOrdered os → part_among parts os at ≡ Some e → at ≤ more
     → more < e.to → part_among parts os more ≡ Some e
 among-stays [] os at more e is found low high = found
@@ -102,7 +102,7 @@ first_before (part ∷ parts) (suc w ∷ os) at e is found = by_case _ found (λ
   by_case true f after = let begin : suc w ≡ e.from = ap the_begin f in omega (arith, begin)
   by_case false f after = after f
 
--- a byte before another one of a part, from the part's begin on, stands in it
+-- a byte before another one of a part, from the part's start on, is in the part
 among-back : (parts : List Part) (os : List ℕ) (at less : ℕ) (e : Extent) → AreOrdered os → part_among parts os at ≡ Some e → e.from ≤ less
     → less ≤ at → part_among parts os less ≡ Some e
 among-back [] os at less e is found low high = found
@@ -138,7 +138,7 @@ later_count n = by_case (nat_lt n 9) refl where
   by_case true e = let few : n < 9 = ltb-true n 9 e in lt-ltb (n + 1) 10 (omega (arith, few))
   by_case false e = let many : 9 ≤ n = ltb-false n 9 e in le-ltb (n + 1) 10 (omega (arith, many))
 
--- Where the next byte stands after more steps: one of the header, or some that the offsets stay after.
+-- The location of the next byte after more steps: after one record of the header, or after steps that add no offset.
 pub location-moves : (prefix more : List Step) → (length prefix < 10 → length more ≡ 1)
     → (10 ≤ length prefix → offsets_of (prefix ++ more) ≡ offsets_of prefix) → AreOrdered (offsets_of prefix) → size_of prefix ≤ size_of (prefix ++ more)
     → location_after (prefix ++ more) ≡ next_location (location_after prefix) (offsets_of (prefix ++ more)) (size_of (prefix ++ more))
@@ -178,7 +178,7 @@ location-moves prefix more one same ordered grows = by_header (nat_lt (length pr
 
 -- ---- inside a part
 
--- no part ends before a byte that stands in the part of the byte before it
+-- no part ends before a byte that is in the same part as the byte before it
 pub inside-whole : (prefix : List Step) → AreOrdered (offsets_of prefix) → is_inside (location_after prefix) (size_of prefix) ≡ true
     → ended_part_fault prefix ≡ None
 inside-whole prefix ordered inside = by_header (nat_lt (length prefix) 10) inside where
@@ -201,7 +201,7 @@ inside-whole prefix ordered inside = by_header (nat_lt (length prefix) 10) insid
 
 -- ---- offsets that stay
 
--- no offset is added where their number stays
+-- no offset is added if their number stays the same
 pub offsets-stay : (os : List ℕ) (o : Option ℕ) → length (os ++ cons_option o []) ≡ length os → os ++ cons_option o [] ≡ os
 offsets-stay os None same = append-nil os
 offsets-stay os (Some w) same = absurd (omega (arith, same, length-append os (w ∷ [])))

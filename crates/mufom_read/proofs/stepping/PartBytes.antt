@@ -1,4 +1,4 @@
--- The bytes of the extension and of the environment, as far as they stand after a prefix.
+-- The bytes of the extension and of the environment, as far as a prefix has them.
 use Rattle.std.proofs.Common.{◌≡◌, ◌≢◌, ◌⊎◌, inl, inr, ℕ, zero, suc, ◌+◌, ◌-◌, ◌<◌, ◌≤◌, ◌==◌, ◌&&◌, ◌||◌, Bool, true, false, not, true≢false, nat_lt}
 use Rattle.std.proofs.Common.{nat_le, List, [], ◌∷◌, ◌++◌, length, take, drop, map, filter_map, Option, Some, None, is_some, cond, refl, sym, ap}
 use Rattle.std.proofs.Common.{subst, ◌∙◌, arith, append-nil, append_assoc, length-append, length-drop, le-ltb, lt-ltb, leb-true, leb-false, le-leb}
@@ -49,12 +49,12 @@ same_range w to bytes more end = by_case (cases_lt (length bytes) w) where
   by_case (inr within) = ap (take (to - w)) (drop-append-le w bytes more within)
       ∙ take-append-le (to - w) (drop w bytes) more (omega (arith, within, end, length-drop w bytes))
 
--- bytes after a part's end are none of it
+-- bytes after a part's end are not in it
 between-after : (w : ℕ) (os bytes more : List ℕ) → first_present os ≤ length bytes → bytes_between (w ∷ os) (bytes ++ more) ≡ bytes_between (w ∷ os) bytes
 between-after zero os bytes more end = refl
 between-after (suc w) os bytes more end = same_range (suc w) (first_present os) bytes more end
 
--- nor are those before its begin
+-- bytes before a part's start are not in it either
 between-before : (w : ℕ) (os bytes : List ℕ) → (w ≡ 0) ⊎ (length bytes ≤ w) → bytes_between (w ∷ os) bytes ≡ []
 between-before zero os bytes before = refl
 between-before (suc w) os bytes (inl none) = absurd (omega (arith, none))
@@ -76,9 +76,9 @@ first_or_none : (v : ℕ) (os : List ℕ) (n : ℕ) → n ≤ first_present (v �
 first_or_none zero os n end = inl refl
 first_or_none (suc v) os n end = inr end
 
--- ---- the part in which a byte stands
+-- ---- the part that a byte is in
 
--- it stands in the part from an offset to the first of these that is not 0
+-- it is in the part from an offset to the first of these that is not 0
 abbrev is_here : ℕ → List ℕ → ℕ → Bool
 is_here w os at = not (w == 0) && (nat_le w at && nat_lt at (first_present os))
 
@@ -87,7 +87,7 @@ third true true c x y e = e
 third true false c x y e = absurd (true≢false (sym y))
 third false b c x y e = absurd (true≢false (sym x))
 
--- where a byte stands after the begin of parts, and not in the first of them, it stands after the begin of the others
+-- a byte at or after the start of the parts, but not in the first of them, is at or after the start of the others
 after_first : (w : ℕ) (os : List ℕ) (at : ℕ) → first_present (w ∷ os) ≤ at → is_here w os at ≡ false → first_present os ≤ at
 after_first zero os at begun other = begun
 after_first (suc w) os at begun other = ltb-false at (first_present os)
@@ -142,7 +142,7 @@ is_first part parts w os at e found other = by_case (is_here w os at) refl found
   by_case true same f = (same, end_of_some here e f)
   by_case false same f = absurd (true≢false (sym (listed parts os at e f) ∙ other))
 
--- the byte stands in another part
+-- the byte is in another part
 abbrev IsOther : Part → Option Extent → Type 0
 IsOther part o = (e : Extent) → o ≡ Some e → e.part ≢ part
 
@@ -272,7 +272,7 @@ raw_bytes (b ∷ bytes) = ap (λ l. b ∷ l) (raw_bytes bytes)
 eight : (prefix : List Step) → 10 ≤ length prefix → length (offsets_of prefix) ≡ offset_count (length prefix) → 2 ≤ length (offsets_of prefix)
 eight prefix many count = omega (arith, many, count)
 
--- bytes of a part that are not read
+-- bytes of a part that are not read as records
 pub raw-bytes : (prefix : List Step) (e : extents.Extent) (bytes : List ℕ) → nat_lt (length prefix) 10 ≡ false → length (offsets_of prefix)
     ≡ offset_count (length prefix) → first_present (offsets_of prefix) ≤ size_of prefix
     → offsets_of (prefix ++ map raw bytes) ≡ offsets_of prefix → part_at prefix (size_of prefix) ≡ Some (as_extent e) → size_of prefix + length bytes ≤ e.to
@@ -301,7 +301,7 @@ offsets-next prefix p =
 bytes-next : (prefix : List Step) (p : SpelledRecord) → prefix_bytes (prefix ++ read (size_of prefix) p ∷ []) ≡ prefix_bytes prefix ++ p.bytes
 bytes-next prefix p = bytes-append prefix (read (size_of prefix) p ∷ []) ∙ ap (λ l. prefix_bytes prefix ++ l) (append-nil p.bytes)
 
--- one without an offset, after the header, where neither part is
+-- a record without an offset, after the header, in neither of the two parts
 after_header : (prefix : List Step) (p : SpelledRecord) (o : Option Extent) → 10 ≤ length prefix → length (offsets_of prefix)
     ≡ offset_count (length prefix) → first_present (offsets_of prefix) ≤ size_of prefix → offset_in p.row ≡ None
     → part_at prefix (size_of prefix) ≡ o → IsOther extension_part o → IsOther environment_part o → KeepsBytes prefix p
@@ -327,7 +327,7 @@ none_of : {A : Type 0} (a b : Option A) → option_or a b ≡ None → (a ≡ No
 none_of None b e = (refl, e)
 none_of (Some x) b e = absurd (nothing e)
 
--- an offset without a fault leaves no gap
+-- an offset without an error leaves no gap
 closed : (earlier : List ℕ) (start end : ℕ) (row : Record) (w : ℕ) → header_fault earlier start end row ≡ None → offset_in row ≡ Some w
     → leaves_gap (earlier ++ w ∷ []) end ≡ false
 closed earlier start end (r.Offset n v) w clean same =
@@ -336,7 +336,7 @@ closed earlier start end (r.Offset n v) w clean same =
     subst (λ (x : ℕ). leaves_gap (earlier ++ x ∷ []) end ≡ false) value (no_fault (leaves_gap (earlier ++ v ∷ []) end) end why.PartGap after.1)
 closed earlier start end row w clean same = absurd cc
 
--- so the eighth leaves the first part to begin after the header
+-- so by the eighth offset the first part begins right after the header
 begins_there : (os : List ℕ) (end : ℕ) → length os ≡ 8 → leaves_gap os end ≡ false → first_present os ≡ end
 begins_there os end all test = by_case (first_present os == end) refl
     (and_else (length os == 8) (not (first_present os == end)) (eq-eqb (length os) 8 all) test) where
@@ -348,7 +348,7 @@ begins_there os end all test = by_case (first_present os == end) refl
       by_case true is test = eqb-true (first_present os) end is
       by_case false is test = absurd (true≢false test)
 
--- and there is no byte of the two parts yet
+-- no byte of the two parts is there yet
 none_yet : (os bytes : List ℕ) → AreOrdered os → 2 ≤ length os → first_present os ≡ length bytes → (bytes_between os bytes ≡ [])
     × (bytes_between (drop 1 os) bytes ≡ [])
 none_yet [] bytes order many first = absurd (omega (arith, many))
@@ -438,7 +438,7 @@ stands-there prefix e start p clean = not_not (stands_in e.part p.row)
       not_not true e = refl
       not_not false e = absurd (true≢false e)
 
--- a record without a fault leaves the bytes of both parts as they are
+-- a record without an error leaves the bytes of both parts as they are
 pub record-bytes : (prefix : List Step) (at : code.Location) (p : SpelledRecord) → length (offsets_of prefix) ≡ offset_count (length prefix)
     → (10 ≤ length prefix → first_present (offsets_of prefix) ≤ size_of prefix)
     → AreOrdered (offsets_of prefix ++ cons_option (offset_in p.row) []) → IsPlacedWell at p.row → as_location at ≡ location_after prefix

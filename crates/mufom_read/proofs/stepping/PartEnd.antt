@@ -1,4 +1,4 @@
--- The first fault of a part, found among faults in another order: that with the smallest offset.
+-- The first error of a part, found among errors in another order: the one with the smallest offset.
 use Rattle.std.proofs.Common.{◌≡◌, ◌⊎◌, ℕ, ◌+◌, ◌<◌, ◌≤◌, Bool, true, false, true≢false, cond, nat_lt, ltb-true, ltb-false, arith, List, [], ◌∷◌}
 use Rattle.std.proofs.Common.{Option, Some, None, is_some, refl, sym, ap, subst, ◌∙◌, inl, inr}
 use Rattle.std.specs.Option.{option_or}
@@ -6,12 +6,12 @@ use Rattle.mufom_read.specs.Prefixes.{OffsetRecord}
 use Rattle.mufom_read.specs.Faults.{Fault, first_fault}
 use Rattle.mufom_read.specs.NamesSoFar.{earlier, least_from, AreRising}
 
--- this fault is among these
+-- this error is among these
 abbrev pub IsAmong : Fault → List (Option Fault) → Type 0
 IsAmong f [] = ⊥
 IsAmong f (b ∷ bs) = (b ≡ Some f) ⊎ IsAmong f bs
 
--- a record has this fault
+-- a record has this error
 abbrev pub HasFault : (OffsetRecord → Option Fault) → Fault → List OffsetRecord → Type 0
 HasFault fault f [] = ⊥
 HasFault fault f (p ∷ placed) = (fault p ≡ Some f) ⊎ HasFault fault f placed
@@ -37,7 +37,7 @@ least-is a (b ∷ bs) f e = by_case (least-is (earlier a b) bs f e) where
   by_case (inl h) = from (one_of a b f h)
   by_case (inr h) = inr (inr h)
 
--- an offset that is at most that of the fault, where there is one
+-- an offset that is at most that of the error, if there is one
 abbrev pub IsBelow : Option Fault → ℕ → Type 0
 IsBelow None n = ⊥
 IsBelow (Some f) n = f.0 ≤ n
@@ -79,7 +79,7 @@ module _ (fault : OffsetRecord → Option Fault) (own : (p : OffsetRecord) (f : 
   above from to (p ∷ placed) f rising (inl h) = let same = own p f h in let low = rising.0 in omega (arith, same, low)
   above from to (p ∷ placed) f rising (inr h) = let more = above (p.0 + 1) to placed f rising.1 h in let low = rising.0 in omega (arith, more, low)
 
-  -- a fault of a record whose offset is at most that of another is the first
+  -- an error of a record, at an offset that is at most that of every other error, is the first
   least-first : (from to : ℕ) (placed : List OffsetRecord) (f : Fault) → AreRising from placed to → HasFault fault f placed
       → ((g : Fault) → HasFault fault g placed → f.0 ≤ g.0) → first_fault fault placed ≡ Some f
   least-first from to [] f rising h low = absurd h
@@ -96,7 +96,7 @@ module _ (fault : OffsetRecord → Option Fault) (own : (p : OffsetRecord) (f : 
             let less = low g (inl is) in
             absurd (omega (arith, same, more, less))
 
-  -- The least of faults is the first of the part, where they are the faults of its records.
+  -- The error with the smallest offset is the first of the part, if the errors are those of its records.
   pub part-fault : (from to : ℕ) (placed : List OffsetRecord) (bs : List (Option Fault)) → AreRising from placed to
       → ((f : Fault) → IsAmong f bs → HasFault fault f placed) → ((f : Fault) → HasFault fault f placed → IsAmong f bs) → least_from None bs
       ≡ first_fault fault placed

@@ -1,4 +1,4 @@
--- Where the code has the byte after a prefix stand.
+-- The location of the byte after a prefix, as the code finds it.
 use Rattle.std.proofs.Common.{◌≡◌, ℕ, Bool, true, false, true≢false, nat_lt, length, List, Option, Some, None, is_some, cond, refl, sym, ap, ◌∙◌}
 use Rattle.mufom_read.specs.declared.prefix.Location as code
 use Rattle.mufom_read.specs.declared.prefix.Location.TheVariants as offset
@@ -53,6 +53,6 @@ found_end false n (Some e) same = absurd cc
 pub header-found : (prefix : List Step) (k : ℕ) → in_header k ≡ location_after prefix → (nat_lt (length prefix) 10 ≡ true) × (k ≡ length prefix)
 header-found prefix k same = found_header (nat_lt (length prefix) 10) (length prefix) k (part_at prefix (size_of prefix)) same
 
--- it is where the module must end
+-- the module must end there
 pub end-found : (prefix : List Step) → at_end ≡ location_after prefix → (nat_lt (length prefix) 10 ≡ false) × (part_at prefix (size_of prefix) ≡ None)
 end-found prefix same = found_end (nat_lt (length prefix) 10) (length prefix) (part_at prefix (size_of prefix)) same

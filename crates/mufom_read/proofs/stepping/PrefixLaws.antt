@@ -269,7 +269,7 @@ prefix-add f prefix start p new is some begins moved contents fits follows keeps
 
 -- ---- the last record
 
--- whether items may stand
+-- whether items may follow
 pub items-prefix : (f : Prefix) (prefix : List Step) (from : ℕ) (rest : List ℕ) → IsPrefixOf f prefix
     → (not (f.size == from) && (f.awaits_items && begins_item rest))
     ≡ (not (size_of prefix == from) && (awaits_items (last_or None (records_of prefix)) && begins_item rest))

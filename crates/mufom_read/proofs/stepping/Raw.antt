@@ -1,4 +1,4 @@
--- Bytes of a part that are not read, as the code takes them.
+-- Bytes of a part that are not read as records, as the code takes them.
 use Rattle.std.proofs.Common.{◌≡◌, ℕ, suc, ◌+◌, ◌-◌, ◌<◌, ◌≤◌, Bool, true, false, true≢false, nat_lt, List, [], ◌∷◌, ◌++◌, length, take, drop, map}
 use Rattle.std.proofs.Common.{Some, None, is_some, cond, refl, sym, ap, subst, ◌∙◌, arith, append-nil, length-append, le-ltb, ltb-false, ne_eqb}
 use Rattle.std.specs.Option.{option_or}
@@ -36,7 +36,7 @@ use Rattle.std.proofs.lemmas.List.{take-append-drop}
 nothing : {A : Type 0} {x : A} → Some x ≡ None → ⊥
 nothing e = true≢false (ap is_some e)
 
--- ---- a prefix with bytes that are not read
+-- ---- a prefix with bytes that are not read as records
 
 records_same : (prefix : List Step) (bytes : List ℕ) → records_of (prefix ++ map raw bytes) ≡ records_of prefix
 records_same prefix bytes = filter_map-append record_of prefix (map raw bytes) ∙ ap (λ ps. records_of prefix ++ ps) (no_records bytes)
@@ -60,7 +60,7 @@ raw_steps : (bytes : List ℕ) → length (map raw bytes) ≡ length bytes
 raw_steps [] = refl
 raw_steps (b ∷ bytes) = ap suc (raw_steps bytes)
 
--- the prefix with more bytes of a part that are not read
+-- the prefix with more bytes of a part that are not read as records
 pub raw-prefix : (old new : Prefix) (prefix : List Step) (e : extents.Extent) (bytes : List ℕ) → IsPrefixOf old prefix → nat_lt (length prefix) 10
     ≡ false → part_at prefix (size_of prefix) ≡ Some (as_extent e)
     → size_of prefix + length bytes ≤ e.to → HasRaw old e.part bytes new → IsPrefixOf new (prefix ++ map raw bytes)
@@ -109,7 +109,7 @@ raw_next reads_debug prefix e rest header found unread =
     ap (λ pl. step_at reads_debug prefix pl rest) (placed_in prefix e header found)
     ∙ ap (λ b. cond b (raw_step rest) (as_step (size_of prefix) rest (record_at (body_mode prefix e rest) rest))) unread
 
--- the same after one more byte, where the part does not end
+-- the same after one more byte, if the part does not end
 record StaysIn (reads_debug : Bool) (prefix : List Step) (e : Extent) : Type 0 where
   pub unended : is_ended prefix ≡ false
   pub whole : ended_part_fault prefix ≡ None
@@ -138,7 +138,7 @@ stays_in reads_debug prefix e b is within =
       ordered = subst (λ (ps : List SpelledRecord). AreOrdered (offsets_in ps)) (sym records) is.ordered;
     }
 
--- they are sound: each byte stands in the part, before its end
+-- they are sound: each byte is in the part, before its end
 raw_sound : (reads_debug : Bool) (prefix : List Step) (e : Extent) (bytes rest : List ℕ) → StaysIn reads_debug prefix e → is_raw reads_debug e.part
     ≡ true → size_of prefix + length bytes ≤ e.to → IsSoundFrom reads_debug prefix (map raw bytes) (bytes ++ rest)
 raw_sound reads_debug prefix e [] rest is unread within = tt
@@ -155,7 +155,7 @@ raw_sound reads_debug prefix e (b ∷ c ∷ bytes) rest is unread within =
           (omega (arith, within, size)),
     )
 
--- bytes that are not read
+-- bytes that are not read as records
 pub skip-gone : (reads_debug : Bool) (old : Prefix) (prefix : List Step) (e : extents.Extent) (at : code.Location) (rest : List ℕ) (new : Prefix)
     (done : Next) → IsPrefixOf old prefix → is_ended prefix ≡ false → ended_part_fault prefix ≡ None
     → at ≡ offset.Part e → as_location at ≡ location_after prefix → is_raw reads_debug (as_part e.part) ≡ true

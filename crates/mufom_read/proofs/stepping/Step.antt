@@ -63,7 +63,7 @@ read-gone reads_debug prefix at rest new done unended whole same is judged =
     gone-by reads_debug prefix rest _ new done unended whole (ap (λ pl. step_at reads_debug prefix pl rest) (sym same)
     ∙ step-read reads_debug prefix at rest is) judged
 
--- a byte of a part stands before its end
+-- a byte of a part is before its end
 pub part-within : (prefix : List Step) (at : code.Location) (e : extents.Extent) → at ≡ offset.Part e → as_location at ≡ location_after prefix
     → size_of prefix < e.to
 part-within prefix at e here same = among-within parts_in_order (offsets_of prefix) (size_of prefix) (as_extent e) (part-found prefix at e here same).1
@@ -76,13 +76,13 @@ pub stepped-end : (reads_debug : Bool) (prefix : List Step) (rest : List ℕ) (n
 stepped-end reads_debug prefix rest new n (steps, is, sound, size, some, within) end =
     (steps, is, sound, size, some, within, λ unended. absurd (true≢false (end ∙ is.ended ∙ unended)))
 
--- one after which no part ends with a fault
+-- one after which no part ends with an error
 pub stepped-whole : (reads_debug : Bool) (prefix : List Step) (rest : List ℕ) (new : Prefix) (n : ℕ) → IsStepTaken reads_debug prefix rest new (next.Took n)
     → ((steps : List Step) → IsPrefixOf new steps → None ≡ ended_part_fault steps) → HasAdvanced reads_debug prefix rest new (next.Took n)
 stepped-whole reads_debug prefix rest new n (steps, is, sound, size, some, within) whole =
     (steps, is, sound, size, some, within, λ unended. sym (whole (prefix ++ steps) is))
 
--- one after which a part ends with a fault
+-- one after which a part ends with an error
 pub stepped-fault : (reads_debug : Bool) (prefix : List Step) (rest : List ℕ) (new : Prefix) (n : ℕ) (f : ReadRefusal)
     → IsStepTaken reads_debug prefix rest new (next.Took n) → false ≡ new.ended
     → ((steps : List Step) → IsPrefixOf new steps → Some (as_fault f) ≡ ended_part_fault steps) → HasAdvanced reads_debug prefix rest new (next.Refused f)
@@ -93,7 +93,7 @@ stepped-fault reads_debug prefix rest new n f (steps, is, sound, size, some, wit
   ap (λ o. option_or o (step_fault (prefix ++ steps) (next_step reads_debug (prefix ++ steps) (drop (size_of steps) rest)))) (sym (fault (prefix ++ steps) is)),
 )
 
--- one with a fault
+-- one with an error
 pub stepped-refused : (reads_debug : Bool) (prefix : List Step) (rest : List ℕ) (new : Prefix) (f : ReadRefusal) → is_ended prefix ≡ false
     → ended_part_fault prefix ≡ None → IsStepTaken reads_debug prefix rest new (next.Refused f) → HasAdvanced reads_debug prefix rest new (next.Refused f)
 stepped-refused reads_debug prefix rest new f unended whole fault = (

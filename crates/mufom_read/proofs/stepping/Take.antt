@@ -85,7 +85,7 @@ pub all-ended : (reads_debug : Bool) (before : List Step) (rest : List ℕ) (f :
     → HasTakenAll reads_debug before rest f (Ok taken)
 all-ended reads_debug before rest f taken gone ended = (gone.steps, gone.is, gone.sound, gone.size, gone.within, inl (ended (before ++ gone.steps) gone.is))
 
--- more bytes are wanted
+-- more bytes are needed
 pub all-wanting : (reads_debug : Bool) (before : List Step) (rest after : List ℕ) (f new : Prefix) (taken : ℕ)
     → HasGoneOn reads_debug before rest f taken → after ≡ drop taken rest
     → ((prefix : List Step) → IsPrefixOf f prefix → is_ended prefix ≡ false → ended_part_fault prefix ≡ None
@@ -108,7 +108,7 @@ all-wanting reads_debug before rest after f new taken gone at step unended =
       }),
     )
 
--- there is a fault
+-- there is an error
 pub all-refused : (reads_debug : Bool) (before : List Step) (rest after : List ℕ) (f new : Prefix) (taken : ℕ) (fault : ReadRefusal)
     → HasGoneOn reads_debug before rest f taken → after ≡ drop taken rest
     → ((prefix : List Step) → IsPrefixOf f prefix → is_ended prefix ≡ false → ended_part_fault prefix ≡ None
@@ -130,6 +130,6 @@ all-refused reads_debug before rest after f new taken fault gone at step unended
           ∙ ap (fault_after reads_debug (prefix ++ more.0)) (sym offset) ∙ more.3,
     )
 
--- what does not end has nothing to keep to where it ends
+-- what has not ended cannot have ended
 pub never : {A : Type 0} (ended : Bool) → false ≡ ended → ended ≡ true → A
 never ended no_end end = absurd (true≢false (sym end ∙ sym no_end))

@@ -62,17 +62,17 @@ pub new_in : (kind : Kind) (before records : List SpelledRecord) → FollowFrom 
 new_in kind before records follow = new_after (declared kind before) [] (declared kind records)
     (subst (λ (l : List ℕ). NewFrom l (declared kind records)) (sym (append-nil (declared kind before))) (new_by kind before records follow))
 
--- ---- what records cost, by the index that they declare or speak of
+-- ---- what records cost, by the index that they declare or refer to
 
--- what the record costs, where it declares an index of the kind
+-- the cost of the record, if it declares an index of the kind
 abbrev pub declares : Kind → SpelledRecord → ℕ
 declares kind p = value_by (λ _. cost p p.row) (of_kind kind (declared_by p.row))
 
--- what it costs, where it speaks of one
+-- the cost of the record, if it refers to such an index
 abbrev pub speaks : Kind → SpelledRecord → ℕ
 speaks kind p = value_by (λ _. cost p p.row) (of_kind kind (named_by p.row))
 
--- what the records cost that speak of this index
+-- the cost of the records that refer to this index
 abbrev pub stated_of : Kind → List SpelledRecord → ℕ → ℕ
 stated_of kind part i = sum_by (λ (p : SpelledRecord). paid_for i (of_kind kind (named_by p.row)) (cost p p.row)) part
 

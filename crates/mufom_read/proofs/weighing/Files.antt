@@ -23,7 +23,7 @@ use Rattle.mufom_read.proofs.weighing.Loads.{marks_below, loads_below, starts_be
 
 -- ---- the header
 
--- what a record of the header is written with, but for the first
+-- what is written for a record of the header, except the first
 abbrev header_weight : Mode → ℕ
 header_weight mode.Begin = 0
 header_weight mode.Descriptor = 20

@@ -146,7 +146,7 @@ reference_below part p row = omega arith
 
 -- ---- both
 
--- a record declares or speaks of one index
+-- a record declares or refers to at most one index
 external_costs : (row : Record) (n : ℕ) → (value_by (λ _. n) (of_kind public (declared_by row)) + value_by (λ _. n) (of_kind public (named_by row)))
     + (value_by (λ _. n) (of_kind reference (declared_by row)) + value_by (λ _. n) (of_kind reference (named_by row))) ≤ n
 external_costs (r.BlockBegin kind m name tail.Module) n = omega arith

@@ -1,4 +1,4 @@
--- What a record lets be written weighs at most ten times its bytes.
+-- What is written for a record weighs at most ten times the record's bytes.
 use Rattle.std.proofs.Common.{◌≡◌, ℕ, ◌+◌, ◌-◌, ◌*◌, ◌≤◌, Bool, true, false, cond, ◌==◌, ◌&&◌, List, [], ◌∷◌, ◌++◌, length, take, drop, slice_range}
 use Rattle.std.proofs.Common.{Option, Some, None, option_map, refl, sym, ap, subst, ◌∙◌, arith, append_assoc, length-append, length-take}
 use Rattle.std.proofs.lemmas.List.{drop_at, take_at}
@@ -68,7 +68,7 @@ cost p (r.RepeatRelocate times) = 11
 cost p (r.Start value) = 4 + expression_weight (tree_in p value)
 cost p _ = 0
 
--- ---- how many bytes a field has at least
+-- ---- the smallest number of bytes in a field
 
 abbrev pub span_length : Option Span → ℕ
 span_length None = 0
@@ -123,7 +123,7 @@ field_long optional_expression (Some x) at bytes next (tree, fault_offset, stops
 abbrev pub HasTree : SpelledRecord → Span → Type 0
 HasTree p span = expression_weight (tree_in p span) ≤ 10 * span.len
 
--- a string is written with as many bytes, an expression with ten times as many
+-- a string has at most as many bytes as its span, and an expression weighs at most ten times its span
 abbrev pub InRecord : SpelledRecord → (f : Field) → ValueOf f → Type 0
 InRecord p string span = length (text_in p span) ≤ span.len
 InRecord p (run n) span = length (text_in p span) ≤ span.len
@@ -134,7 +134,7 @@ InRecord p _ _ = Unit {0}
 text_long : (p : SpelledRecord) (span : Span) → length (text_in p span) ≤ span.len
 text_long p span = omega (arith, length-take (span.start + span.len - span.start) (drop span.start p.bytes))
 
--- bytes where they stand
+-- the bytes at a position
 slice_at : (before prefix back : List ℕ) (start len : ℕ) → start ≡ length before → len ≡ length prefix
     → slice_range (before ++ (prefix ++ back)) start (start + len) ≡ prefix
 slice_at before prefix back start len a b = ap (take (start + len - start)) (drop_at before (prefix ++ back) start (sym a))
@@ -170,7 +170,7 @@ in_record p optional_expression (Some x) at before prefix back next is whole sta
 
 -- ---- a layout whose records are paid for
 
--- each record of the layout costs at most ten times its bytes, where the given number stand before
+-- each record of the layout costs at most ten times its bytes, of which `n` come before these fields
 abbrev pub Pays : SpelledRecord → (Record → ℕ) → Layout → ℕ → Type 0
 Pays p price (Layouts.whole row) n = price row ≤ 10 * n
 Pays p price (Layouts.refused back reason) n = Unit {0}

@@ -54,7 +54,7 @@ sum_by-none : {X : Type 0} (xs : List X) → sum_by (λ (x : X). 0) xs ≡ 0
 sum_by-none [] = refl
 sum_by-none (x ∷ xs) = let all = sum_by-cons (λ x. 0) x xs in let rest = sum_by-none xs in omega (arith, all, rest)
 
--- the first of the answers is one of them
+-- the first of the values found is one of them
 pub first_below : {X : Type 0} (f : X → ℕ) (xs : List X) → value_by f (slice_get xs 0) ≤ sum_by f xs
 first_below f [] = omega arith
 first_below f (x ∷ xs) = let all = sum_by-cons f x xs in omega (arith, all)
@@ -80,7 +80,7 @@ gathered_below weight ask key own more (p ∷ spelled_records) are =
 
 -- ---- indexes that are declared once
 
--- none of the indexes stands in the list before it, which begins with these
+-- none of the indexes is in the list before it, which begins with these
 abbrev pub NewFrom : List ℕ → List ℕ → Type 0
 NewFrom seen [] = Unit {0}
 NewFrom seen (i ∷ is) = (list_any (λ j. j == i) seen ≡ false) × NewFrom (seen ++ i ∷ []) is

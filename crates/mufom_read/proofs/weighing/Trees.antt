@@ -45,7 +45,7 @@ tree_tenfold tree bytes is =
     let its = tokens_tenfold (tokens_of tree) bytes is.1 in
     omega (arith, same, its)
 
--- another variable in the place of each weighs the same
+-- other variables in place of these weigh the same
 weight-renamed : (rename : Letter → ℕ → Letter × ℕ) (tree : Tree) → expression_weight (with_variables rename tree) ≡ expression_weight tree
 weight-renamed rename (number n) = refl
 weight-renamed rename (variable letter i) = refl

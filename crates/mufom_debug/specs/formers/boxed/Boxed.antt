@@ -1,7 +1,7 @@
--- How a `Boxed` holds its value, so that a type may hold itself through one: a debug item holds a boxed
--- block, and that block holds debug items.
+-- How a `Boxed` contains its value, so that a type may contain itself through it: a debug item contains a boxed
+-- block, and that block contains debug items.
 --
--- A `Boxed` is seen as its value, and its one field is a `Box` with that value. So everything here goes
+-- Contracts see a `Boxed` as its value, and its one field is a `Box` with that value. So everything here goes
 -- from the value to the `Box` and back, which keeps its pointer and its allocator.
 use mathlib.Core.Path.{refl}
 use mathlib.Core.Former.{Former, this, const, pair, via}
@@ -55,7 +55,7 @@ module _ (Before After : RattleType) (change : Before.Denot → After.Denot) whe
     shr_same = λ b i. (box_of (one_value Before (alike.mir_same i) (alike.own_same b.value i) (alike.shr_same b.value i) gnil)).shr_at (with_value b tt);
   }
 
-  -- values that are laid out, owned and lent alike make boxes that are
+  -- if values are laid out, owned and borrowed alike, so are the boxes of them
   pub the_places : Alike Before After change → Alike (seen.the_row Before) (seen.the_row After) ((the_former this).map Before.Denot After.Denot change)
   the_places alike =
       let fields_alike = struct_places (stored.the_type Before) (stored.the_type After) ((λ b. with_value b (change b.value)), tt) _
@@ -65,7 +65,7 @@ module _ (Before After : RattleType) (change : Before.Denot → After.Denot) whe
       (invariant Before.Denot) (invariant After.Denot) (λ fields p q. refl) (λ fields p q. refl) (λ fields p. tt) (λ fields p. tt)
       (over (stored.the_row Before)) (over (stored.the_row After)) fields_alike
 
-  -- a box's code is that of its value
+  -- the code of a box is that of its value
   pub the_codes_placed : Recodes Before After change → Recodes (seen.the_row Before) (seen.the_row After)
       ((the_former this).map Before.Denot After.Denot change)
   the_codes_placed recodes value = recodes value

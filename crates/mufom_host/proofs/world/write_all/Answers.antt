@@ -5,7 +5,7 @@ use Rattle.mufom_host.proofs.Composing.{later-Rose, MakingGrowsByPrefix-trans, K
 use Rattle.mufom_host.proofs.Spanning.{AfterWrites-write}
 use Rattle.mufom_host.proofs.world.write_all.Goals as goal
 
--- the chunk that is handed on is what is not written yet
+-- the chunk that is passed on is what is not written yet
 rest : (bytes : List ℕ) (n : ℕ) → take (length bytes - n) (drop n bytes) ≡ drop n bytes
 rest bytes n = take_all (length bytes - n) (drop n bytes) (rw length-drop (omega arith))
 

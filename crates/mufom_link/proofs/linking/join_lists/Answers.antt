@@ -7,7 +7,7 @@ use Rattle.mufom_link.specs.References.{target_in}
 use Rattle.mufom_link.proofs.JoiningLaws.{IsUnderway, sections-fit, publics-fit, declared-fit, joined}
 use Rattle.mufom_link.proofs.linking.join_lists.Goals as goal
 
--- what stands for the references of the next module, and of those after it
+-- what replaces the references of the next module, and of those after it
 own-targets : {A B : Type 0} (f : A → B) (xs ys : List A) → take (length xs) (map f (xs ++ ys)) ≡ map f xs
 own-targets f [] ys = refl
 own-targets f (x ∷ xs) ys = ap (λ rest. f x ∷ rest) (own-targets f xs ys)

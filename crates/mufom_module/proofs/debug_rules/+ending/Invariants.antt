@@ -4,6 +4,6 @@ use Rattle.mufom_module.specs.Contents.{blocks_of}
 use Rattle.mufom_module.specs.Defects.{has_bad_end}
 use Rattle.mufom_module.proofs.debug_rules.+ending.Given as goal
 
--- the items that are left decide
+-- the remaining items decide
 abbrev pub invariant-any_ends_badly-loop-item : goal.invariant-any_ends_badly-loop-item
 invariant-any_ends_badly-loop-item l = list_any has_bad_end (blocks_of l.items) ≡ list_any has_bad_end (blocks_of (drop l.item-index l.items))

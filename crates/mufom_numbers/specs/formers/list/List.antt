@@ -1,8 +1,8 @@
--- How a `List` holds its items, so that a type may hold itself through one: a debug block holds a list of
--- debug items, and some of these are blocks.
+-- How a `List` contains its items, so that a type may contain itself through a list: a debug block contains a
+-- list of debug items, and some of these are blocks.
 --
--- A `List` is seen as a list, and its one field is a `Vec` whose items are that list. So everything here goes
--- from the list to the `Vec` and back, and nothing is stated of the memory after it: `Vec`'s own file does that.
+-- Contracts see a `List` as a list, and its one field is a `Vec` whose items are that list. So everything here
+-- goes from the list to the `Vec` and back. The memory of the items is the matter of `Vec`'s own file.
 use mathlib.Core.Path.{◌≡◌, refl, sym}
 use mathlib.Core.List.{List, []}
 use mathlib.Core.Former.{Former, this, via, children, list as list_of}
@@ -23,7 +23,7 @@ use Rattle.mufom_numbers.specs.declared.list.List.TheView.{view, invariant}
 use Rattle.mufom_numbers.specs.contracts.list.List as seen
 use Rattle.mufom_numbers.specs.contracts.list.List.TheInside as stored
 
--- what contracts see: a list over what its items hold
+-- what contracts see: a list over the views of its items
 abbrev pub the_former : Former {0} → Former {0}
 the_former item = list_of item
 
@@ -31,7 +31,7 @@ the_former item = list_of item
 abbrev pub the_weighed : {item : Former {0}} → Weighed item → Weighed (the_former item)
 the_weighed weighed = w_list weighed
 
--- an empty list holds no item, so a tree can end
+-- an empty list contains no items, so a tree can end
 abbrev pub the_empty : List ⊥
 the_empty = []
 
@@ -46,7 +46,7 @@ abbrev in_vec : Former {0}
 in_vec = via (vec.the_former this Global) Inside (λ X fields. fields.items) (λ X items. record { items = items }) (λ X fields. refl) (λ X items. refl)
 
 module _ (Before After : RattleType) (change : Before.Denot → After.Denot) where
-  -- items that are laid out, owned and lent alike make lists that are
+  -- if items are laid out, owned and borrowed alike, so are the lists of them
   pub the_places : Alike Before After change → Alike (seen.the_row Before) (seen.the_row After) ((the_former this).map Before.Denot After.Denot change)
   the_places alike =
       let vec_alike = vec.the_places global.the_row ghosts Before After change alike in
@@ -57,7 +57,7 @@ module _ (Before After : RattleType) (change : Before.Denot → After.Denot) whe
       (invariant Before.Denot) (invariant After.Denot) (λ fields p q. refl) (λ fields p q. refl) (λ fields p. tt) (λ fields p. tt)
       (over (stored.the_row Before)) (over (stored.the_row After)) fields_alike
 
-  -- a list's code is that of its items' codes
+  -- the code of a list is that of the list of its items' codes
   pub the_codes_placed : Recodes Before After change → Recodes (seen.the_row Before) (seen.the_row After)
       ((the_former this).map Before.Denot After.Denot change)
   the_codes_placed recodes items = sym (code_map Before.coded.code After.coded.code change (λ x. sym (recodes x)) items)

@@ -3,7 +3,7 @@ use Rattle.mufom_expr.specs.declared.token.Token.{Token}
 use Rattle.mufom_records.proofs.PostfixLaws.{IsLeft}
 use Rattle.mufom_records.proofs.postfix.token_count.Given as goal
 
--- the tokens that were passed, which were counted
+-- the tokens passed so far were counted
 abbrev pub invariant-loop-rest : goal.invariant-loop-rest
 invariant-loop-rest l = (passed : List Token) × IsLeft l.fn.input l.rest passed × (length passed ≡ l.count)
 

@@ -3,7 +3,7 @@ use Rattle.mufom_read.specs.Kept.{as_fault}
 use Rattle.mufom_read.specs.NamesSoFar.{public_faults, least_from}
 use Rattle.mufom_read.proofs.publics.Publics.fault.Given as goal
 
--- the least of the fault so far and of those to come is the least of all
+-- the earliest of the error so far and of those still to come is the earliest of all
 abbrev pub invariant-loop-position : goal.invariant-loop-position
 invariant-loop-position l = least_from (option_map as_fault l.fault)
     (public_faults l.tables (drop l.position l.self.marks.items) (drop l.position l.self.list.items))
