@@ -1,6 +1,6 @@
 -- The lines of entries that are read one by one.
 use Rattle.std.proofs.Common.{◌≡◌, ℕ, List, [], ◌∷◌, ◌++◌, length, map, flat_map, codes, Option, Some, None, MatchOption}
-use Rattle.std.proofs.Common.{Result, Ok, Err, IfOk, ◌≢◌, ◌≤◌, ◌^◌, refl, sym, ap, subst, ◌∙◌, zero-add, append_assoc}
+use Rattle.std.proofs.Common.{Result, Ok, Err, IfOk, ◌+◌, ◌<◌, ◌≤◌, ◌^◌, refl, sym, ap, subst, ◌∙◌, zero-add, append_assoc, length-append, arith}
 use Rattle.std.specs.Str.Parse.{digits_value}
 use Rattle.std.proofs.lemmas.List.{map-append}
 use Rattle.mufom_expr.specs.Tree.{Tree}
@@ -8,12 +8,16 @@ use Rattle.mufom_text.specs.Words.{Text}
 use Rattle.mufom_build_text.specs.Pieces.{Piece, byte, block, count, digits, words, number_piece, MOST_NUMBER}
 use Rattle.mufom_build.specs.Lines.{Line, raw_lines, spaced_pieces, bytes_pieces, end_pieces, each_lines, mark_pieces, mark_lines}
 use Rattle.mufom_build_text.specs.Reads.{Place, IsRight, Reads, ReadsNumeral, EndsLine, ReadsLines}
+use Rattle.mufom_build_text.specs.Errors.{IsSound}
+use Rattle.mufom_build_text.specs.Loosely.{ReadsHex}
 use Rattle.mufom_text.specs.Show.{depth_after_all}
 use Rattle.mufom_build.specs.declared.outline.Outline.{Outline}
 use Rattle.mufom_build.specs.Outlines.{marks_so_far, IsKept}
 use Rattle.mufom_build.specs.Marked.{ReadsMark, end_value_pieces, spaced_digits}
 use Rattle.mufom_build_text.proofs.Lists.{flat_map_more}
-use Rattle.mufom_build_text.proofs.Reading.{◌▸◌, ◌▹◌, reads_number, IsSolid, solid, block_solid, line_read}
+use Rattle.mufom_build_text.proofs.Loosely.{right_is_sound}
+use Rattle.mufom_build_text.proofs.Names.{hex_exactly, hex_some}
+use Rattle.mufom_build_text.proofs.Reading.{◌▸◌, ◌▹◌, reads_number, reads_wrong, IsSolid, solid, block_solid, line_read}
 use Rattle.mufom_build.proofs.Outlining.{each_lines_more, mark_lines_more}
 
 same_lines : {xs ys : List Line} {a b : Text} → xs ≡ ys → ReadsLines xs a b → ReadsLines ys a b
@@ -47,12 +51,13 @@ pub raw_read : (word : Text) (bytes : List ℕ) {a b : Text} → (bytes ≡ [] �
 raw_read word [] some read = absurd (some refl)
 raw_read word (x ∷ bytes) some read = read
 
-counted : (bytes : List ℕ) (stated : Option ℕ) (a b c d : Place) → ReadsNumeral stated a b → Reads (spaced_digits bytes) b c → d.rest ≡ c.rest
+counted : (bytes : List ℕ) (stated : Option ℕ) (a b c d : Place) → (IsSound b → ReadsNumeral stated a b) → Reads (spaced_digits bytes) b c → d.rest ≡ c.rest
     → (IsRight d → IsRight c × (stated ≡ Some (length bytes))) → Reads (count (length bytes) ∷ spaced_digits bytes) a d
-counted bytes stated a b c d number digits_read rest judged = record {
+counted bytes stated a b c d numeral digits_read rest judged = record {
   read = λ right.
       let (was, same) = judged right in
       let after = digits_read.read was in
+      let number = numeral (right_is_sound b after.right) in
       let P : Option ℕ → Type 0 = λ o. MatchOption o (2 ^ 64 ≤ digits_value 10 number.front) (λ n. digits_value 10 number.front ≡ n) in
       let value : digits_value 10 number.front ≡ length bytes = subst P same number.value_is in
       record {
@@ -64,16 +69,19 @@ counted bytes stated a b c d number digits_read rest judged = record {
       };
 }
 
-pub bytes_read : (bytes : List ℕ) (stated : Option ℕ) (start a b c d : Place) → Reads (words (codes "bytes ")) start a → ReadsNumeral stated a b
-    → Reads (spaced_digits bytes) b c → d.rest ≡ c.rest → (IsRight d → IsRight c × (stated ≡ Some (length bytes)))
+pub bytes_read : (bytes : List ℕ) (stated : Option ℕ) (start a b c d : Place) → Reads (words (codes "bytes ")) start a
+    → (IsSound b → ReadsNumeral stated a b) → Reads (spaced_digits bytes) b c → d.rest ≡ c.rest → (IsRight d → IsRight c × (stated ≡ Some (length bytes)))
     → Reads (bytes_pieces bytes) start d
 bytes_read [] stated start a b c d first number more rest judged = first ▸ counted [] stated a b c d number more rest judged
 bytes_read (x ∷ bytes) stated start a b c d first number more rest judged = first ▸ counted (x ∷ bytes) stated a b c d number more rest judged
 
 -- ---- debug items
 
-pub kind_read : (kind : Option ℕ) (n : ℕ) (a b : Place) → ReadsNumeral kind a b → kind ≡ Some n → Reads (number_piece n) a b
-kind_read kind n a b read is = reads_number MOST_NUMBER n a b (subst (λ (o : Option ℕ). ReadsNumeral o a b) is read)
+pub kind_read : (kind : Option ℕ) (n : ℕ) (a b : Place) → (IsSound b → ReadsNumeral kind a b) → kind ≡ Some n → Reads (number_piece n) a b
+kind_read kind n a b numeral is = record {
+  read = λ right.
+      (reads_number MOST_NUMBER n a b (subst (λ (o : Option ℕ). ReadsNumeral o a b) is (numeral (right_is_sound b right)))).read right;
+}
 
 -- no line of these pieces is empty
 pub record Begins (pieces : Line) : Type 0 where
@@ -90,18 +98,42 @@ pub whole_line : {pieces : Line} {a b : Place} {rest : Text} → Begins pieces �
     → ReadsLines (pieces ∷ []) a.rest rest
 whole_line {pieces} {a} {b} {rest} begins read right ends = line_read begins.some read right ends
 
+some_bytes : (front : Text) → (front ≡ [] → ⊥) → 0 < length front
+some_bytes [] some = absurd (some refl)
+some_bytes (x ∷ front) some = omega arith
+
+-- a line that begins with a word is not empty
+pub line_shorter : {pieces : Line} {a b : Place} → Begins pieces → Reads pieces a b → IsRight b → length b.rest < length a.rest
+line_shorter {pieces} {a} {b} begins read right =
+    let line = read.read right in
+    let some = some_bytes line.front (begins.some line.front line.spelled) in
+    let all : length a.rest ≡ length line.front + length b.rest = ap length line.is ∙ length-append line.front b.rest in
+    omega (arith, some, all)
+
+-- a line that begins with a word, and its end, which leave less of the text
+pub one_line : {pieces : Line} {a b : Place} {rest : Text} → Begins pieces → Reads pieces a b → IsRight b → EndsLine b.rest rest
+    → length rest ≤ length b.rest → ReadsLines (pieces ∷ []) a.rest rest × (length rest < length a.rest)
+one_line {pieces} {a} {b} {rest} begins read right ends within =
+    let less = line_shorter begins read right in
+    let shorter : length rest < length a.rest = omega (arith, less, within) in
+    (line_read begins.some read right ends, shorter)
+
+pub bytes_begin : (bytes : List ℕ) → Begins (bytes_pieces bytes)
+bytes_begin [] = by_word 98 _
+bytes_begin (x ∷ bytes) = by_word 98 _
+
 -- bytes after a space, where there are any
 pub spaced_read : {E : Type 0} (r : Result (List ℕ) E) (c : Place) {a b : Place} → Reads (words (codes " ")) a b
-    → IfOk r (λ bytes. Reads (digits bytes ∷ []) b c)
-    → IfOk r (λ bytes. bytes ≢ []) → IfOk r (λ bytes. Reads (spaced_digits bytes) a c)
-spaced_read (Ok []) c space read some = absurd (some refl)
-spaced_read (Ok (x ∷ bytes)) c space read some = space ▸ read
-spaced_read (Err e) c space read some = tt
+    → IfOk r (λ bytes. ReadsHex bytes b c) → IfOk r (λ bytes. Reads (spaced_digits bytes) a c)
+spaced_read (Ok []) c {a} {b} space read = reads_wrong [] a c (λ right. hex_some read (right_is_sound c right) refl)
+spaced_read (Ok (x ∷ bytes)) c space read = space ▸ hex_exactly read
+spaced_read (Err e) c space read = tt
 
 pub ended_read : (value : Option Tree) {a b c : Place} {rest : Text} → Reads (words (codes "end")) a b → Reads (end_value_pieces value) b c
-    → IsRight c → EndsLine c.rest rest → ReadsLines (end_pieces value ∷ []) a.rest rest
-ended_read None first more right ends = whole_line (by_word 101 _) (first ▸ more) right ends
-ended_read (Some value) first more right ends = whole_line (by_word 101 _) (first ▸ more) right ends
+    → IsRight c → EndsLine c.rest rest → length rest ≤ length c.rest
+    → ReadsLines (end_pieces value ∷ []) a.rest rest × (length rest < length a.rest)
+ended_read None first more right ends within = one_line (by_word 101 _) (first ▸ more) right ends within
+ended_read (Some value) first more right ends within = one_line (by_word 101 _) (first ▸ more) right ends within
 
 pub mark_read : (before after : Outline) {a b c : Text} → IsKept before → ReadsLines (mark_lines 0 0 (marks_so_far before)) a b
     → ReadsMark before after b c → ReadsLines (mark_lines 0 0 (marks_so_far after)) a c

@@ -18,7 +18,8 @@ use Rattle.mufom_build_text.specs.Pieces.{Piece, gap, figure, name, digits, expr
 use Rattle.mufom_build_text.specs.Pieces.{MOST_BYTE, MOST_POSITION, MOST_NUMBER}
 use Rattle.mufom_build.specs.Lines.{base_pieces, weak_pieces, scope_pieces, part_pieces, head_pieces}
 use Rattle.mufom_build.specs.Marked.{end_value_pieces, spaced_digits}
-use Rattle.mufom_build.proofs.OnePiece.{Both, no_space, no_figure}
+use Rattle.mufom_build_text.specs.Loosely.{no_space, no_figure}
+use Rattle.mufom_build.proofs.OnePiece.{Both}
 use Rattle.mufom_build.proofs.OneWord.{words_both, words_differ, number_is_no_word, nothing_is_no_word, turned}
 use Rattle.mufom_build.proofs.OneWord.{past_gap, past_figure, past_position, past_count, past_name}
 use Rattle.mufom_build.proofs.OneTree.{changed, infix_no_space}

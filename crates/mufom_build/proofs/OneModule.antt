@@ -19,7 +19,7 @@ use Rattle.mufom_text.specs.Words.{Text}
 use Rattle.mufom_build_text.specs.Pieces.{loose}
 use Rattle.mufom_build_text.specs.Places.{SpellsLines}
 use Rattle.mufom_build.specs.Lines.{listing_lines}
-use Rattle.mufom_build.proofs.OnePiece.{no}
+use Rattle.mufom_build_text.proofs.FirstBytes.{no}
 use Rattle.mufom_build.proofs.OneRow.{on_module, on_extension, on_environment, on_section, on_public, on_note, on_reference, on_block}
 use Rattle.mufom_build.proofs.OneRow.{on_end}
 use Rattle.mufom_build.proofs.OneRow.{on_name, on_value, on_select, on_counter, on_bytes, on_field, on_repeat, on_start}

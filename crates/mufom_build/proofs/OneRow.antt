@@ -17,7 +17,9 @@ use Rattle.mufom_build_text.specs.Pieces.{value_pieces}
 use Rattle.mufom_build_text.specs.Pieces.{MOST_BYTE, MOST_POSITION, MOST_NUMBER}
 use Rattle.mufom_build.specs.Lines.{base_pieces, spaced_pieces, note_pieces, weak_pieces, head_pieces}
 use Rattle.mufom_build.specs.Marked.{end_value_pieces, spaced_digits}
-use Rattle.mufom_build.proofs.OnePiece.{Both, both_true, no_space, no_figure, expression_both, no_hex, digits_both}
+use Rattle.mufom_build_text.specs.Loosely.{no_space, no_figure, no_hex}
+use Rattle.mufom_build_text.proofs.FirstBytes.{both_true}
+use Rattle.mufom_build.proofs.OnePiece.{Both, expression_both, digits_both}
 use Rattle.mufom_build.proofs.OneWord.{tight, clash, words_both, words_differ, nothing_is_no_word, turned}
 use Rattle.mufom_build.proofs.OneWord.{past_gap, past_figure}
 use Rattle.mufom_build.proofs.OneTree.{tree_both, infix_no_space}

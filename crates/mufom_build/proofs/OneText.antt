@@ -19,7 +19,9 @@ use Rattle.mufom_build_text.specs.Pieces.{AreSpaces, SpellsDigits, SpellsNameByt
 use Rattle.mufom_build_text.specs.Places.{AreBlank}
 use Rattle.mufom_build_text.proofs.Spelling.{spells-append}
 use Rattle.mufom_build.specs.Lines.{Line, base_pieces, spaced_pieces, head_pieces}
-use Rattle.mufom_build.proofs.OnePiece.{Both, Avoids, no, both_true, one_run, all_figures, IsFigure}
+use Rattle.mufom_build_text.specs.Loosely.{Avoids, IsFigure}
+use Rattle.mufom_build_text.proofs.FirstBytes.{no, both_true, one_run, all_figures}
+use Rattle.mufom_build.proofs.OnePiece.{Both}
 use Rattle.mufom_build.proofs.OneWord.{word_first, words_both}
 use Rattle.mufom_build.proofs.OneTree.{changed, Head, of_letter, of_one, of_two, text_of, middle_of, each_head}
 use Rattle.mufom_build.proofs.OneRow.{Keyword, on_module, on_extension, on_environment, on_section, on_public, on_note, on_reference, on_block}

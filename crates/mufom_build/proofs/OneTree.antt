@@ -10,7 +10,9 @@ use Rattle.mufom_expr.specs.Tree.{is_less, is_greater, is_equal, is_unequal, and
 use Rattle.mufom_expr.specs.InfixText.{letter_text, opening_text, middle_text}
 use Rattle.mufom_text.specs.Words.{Text}
 use Rattle.mufom_build_text.specs.Pieces.{Piece, figure, byte, gap, words, infix_pieces, value_pieces, MOST_NUMBER, MOST_POSITION}
-use Rattle.mufom_build.proofs.OnePiece.{Both, both_true, no, no_space, no_figure, figure_both, expression_both}
+use Rattle.mufom_build_text.specs.Loosely.{no_space, no_figure}
+use Rattle.mufom_build_text.proofs.FirstBytes.{both_true, no}
+use Rattle.mufom_build.proofs.OnePiece.{Both, figure_both, expression_both}
 use Rattle.mufom_build.proofs.OneWord.{tight, spaced, clash, words_both, spaced_both, words_differ, begins_solid, solid_no_space, number_is_no_word}
 use Rattle.mufom_build.proofs.OneWord.{turned}
 

@@ -4,8 +4,9 @@ use Rattle.std.proofs.Common.{refl, sym, ap, subst, ◌∙◌, eqb-true, arith, 
 use Rattle.std.specs.Char.{digit_value}
 use Rattle.mufom_text.specs.Words.{Text}
 use Rattle.mufom_build_text.specs.Pieces.{Piece, byte, gap, figure, position, count, name, loose, Spells, words, word_piece, AreSpaces}
-use Rattle.mufom_build.proofs.OnePiece.{Both, both_true, no, no_space, no_figure, byte_both, gap_both, first_is, numeral_first, below}
-use Rattle.mufom_build.proofs.OnePiece.{figure_both, position_both, count_both, name_both}
+use Rattle.mufom_build_text.specs.Loosely.{no_space, no_figure}
+use Rattle.mufom_build_text.proofs.FirstBytes.{both_true, no, first_is, numeral_first, below}
+use Rattle.mufom_build.proofs.OnePiece.{Both, byte_both, gap_both, figure_both, position_both, count_both, name_both}
 
 -- the words begin with another byte than a space
 abbrev pub begins_solid : Text → Bool

@@ -18,7 +18,8 @@ use Rattle.mufom_build_text.specs.declared.refusal.BuildReason.TheVariants as re
 use Rattle.mufom_build_text.specs.Pieces.{exact, loose, figure, position, count, expression, block, value_pieces, MOST_BYTE}
 use Rattle.mufom_build_text.specs.Places.{SpellsLines}
 use Rattle.mufom_build.specs.Lines.{listing_lines, mark_lines, load_lines, raw_lines}
-use Rattle.mufom_build.specs.Refusals.{piece_error, text_lines, last_line}
+use Rattle.mufom_build_text.specs.Errors.{piece_error}
+use Rattle.mufom_build.specs.Refusals.{text_lines, last_line}
 use Rattle.mufom_build.proofs.Matching.{found, lines_in}
 
 abbrev small : Parts

@@ -1,17 +1,15 @@
 -- Where a text is wrong from which no module can be built, and how.
-use Rattle.std.specs.Prelude.{◌≡◌, ℕ, ◌+◌, ◌<◌, ◌==◌, max, nat_lt, List, [], ◌∷◌, ◌++◌, length, take, flat_map, Option, Some, None}
+use Rattle.std.specs.Prelude.{◌≡◌, ℕ, ◌+◌, ◌<◌, ◌==◌, max, List, [], ◌∷◌, ◌++◌, length, take, flat_map, Some}
 use Rattle.std.specs.Prelude.{if◌then◌else◌, ◌⊎◌}
-use Rattle.std.specs.Str.Parse.{digits_value}
 use Rattle.mufom_module.specs.declared.module.Parts.{Parts}
 use Rattle.mufom_module.specs.declared.module.Defect.{Defect}
 use Rattle.mufom_module.specs.Defects.{first_defect}
 use Rattle.mufom_module.specs.Made.{IsMade}
 use Rattle.mufom_text.specs.Words.{Text, line}
 use Rattle.mufom_build_text.specs.declared.refusal.BuildReason.{BuildReason}
-use Rattle.mufom_build_text.specs.declared.refusal.BuildReason.TheVariants.{BadText, TooGreat, Position, Count, TooLong, Deep}
-use Rattle.mufom_build_text.specs.Pieces.{Piece, byte, gap, figure, position, count, name, digits, expression, block}
-use Rattle.mufom_build_text.specs.Pieces.{exact, loose, Spells, SpellsPiece}
-use Rattle.mufom_build_text.specs.Pieces.{AreSpaces, MOST_POSITION, MOST_NUMBER}
+use Rattle.mufom_build_text.specs.declared.refusal.BuildReason.TheVariants.{BadText}
+use Rattle.mufom_build_text.specs.Pieces.{Piece, exact, loose, Spells, SpellsPiece, AreSpaces}
+use Rattle.mufom_build_text.specs.Errors.{piece_error}
 use Rattle.mufom_build_text.specs.Places.{SpellsLines}
 use Rattle.mufom_build.specs.Lines.{Line, listing_lines, AreFew, Shape}
 
@@ -40,22 +38,6 @@ pub record AreBegun (texts : List Text) (lines : List Line) : Type 0 where
   pub few : AreFew parts
 
 -- ---- errors within a line
-
-abbrev pub stated_error : ℕ → ℕ → BuildReason → Text → Option BuildReason
-stated_error most right reason text = let stated = digits_value 10 text in
-    if nat_lt most stated then Some TooGreat else if stated == right then None else Some reason
-
--- What is wrong with a piece that these bytes spell.
-abbrev pub piece_error : Piece → Text → Option BuildReason
-piece_error (byte value) text = None
-piece_error gap text = None
-piece_error (figure most value) text = if nat_lt most value then Some TooGreat else None
-piece_error (position value) text = stated_error MOST_POSITION value Position text
-piece_error (count value) text = stated_error MOST_NUMBER value Count text
-piece_error (name bytes) text = None
-piece_error (digits bytes) text = None
-piece_error (expression tokens) text = if nat_lt 255 tokens then Some TooLong else None
-piece_error (block opened) text = if nat_lt 32 opened then Some Deep else None
 
 -- The line of these pieces has an error at the column, which counts bytes from 1.
 pub record HasError (text : Text) (pieces : Line) (column : ℕ) (reason : BuildReason) : Type 0 where

@@ -24,7 +24,8 @@ const MOST_OPEN: usize = 32;
 fn check_depth(cursor: &mut Cursor, depth: usize)
     ensures reads { Reads (block (depth + 1) ∷ []) cursor.old cursor.new }
     ensures rest { cursor.new.rest ≡ cursor.old.rest }
-    ensures noted { cursor.new.error ≡ (if nat_le 32 depth then first_error cursor.old.error (error_at cursor.old.column BuildReason.Deep) else cursor.old.error) }
+    ensures noted { cursor.new.error ≡ (if nat_le 32 depth then first_error cursor.old.error (error_at cursor.old.column BuildReason.Deep)
+        else cursor.old.error) }
 {
     if depth >= MOST_OPEN {
         let column = cursor.column();
@@ -45,11 +46,11 @@ fn read_scope(alloc: Global, cursor: &mut Cursor) -> Result<Scope, ReadStop>
     ensures reads { IfOk result (λ s. Reads (scope_pieces s.stack s.type_index s.offset) cursor.old cursor.new) }
     ensures within { OnOk result (length cursor.new.rest ≤ length cursor.old.rest) }
 {
-    cursor.words(b" stack ")?;
-    let stack = cursor.number()?;
-    cursor.words(b" type ")?;
-    let type_index = cursor.number()?;
-    cursor.words(b" offset ")?;
+    cursor.words(b" stack ");
+    let stack = cursor.number();
+    cursor.words(b" type ");
+    let type_index = cursor.number();
+    cursor.words(b" offset ");
     let offset = cursor.value(alloc)?;
     Ok(Scope {
         stack,
@@ -100,11 +101,11 @@ fn read_part(alloc: Global, cursor: &mut Cursor) -> Result<BlockHead, ReadStop>
     ensures reads { IfOk result (λ head. Reads (head_pieces head) cursor.old cursor.new) }
     ensures within { OnOk result (length cursor.new.rest ≤ length cursor.old.rest) }
 {
-    cursor.words(b" section-type ")?;
-    let section_type = cursor.number()?;
-    cursor.words(b" section ")?;
-    let section = cursor.place()?;
-    cursor.words(b" offset ")?;
+    cursor.words(b" section-type ");
+    let section_type = cursor.number();
+    cursor.words(b" section ");
+    let section = cursor.place();
+    cursor.words(b" offset ");
     let offset = cursor.value(alloc)?;
     Ok(BlockHead::Section {
         section_type,
@@ -123,7 +124,7 @@ fn read_head(alloc: Global, cursor: &mut Cursor, kind: Option<u64>) -> Result<Bl
         Some(3) => Ok(BlockHead::Module),
         Some(4) => read_global(alloc, cursor),
         Some(5) => Ok(BlockHead::Source {
-            numbers: read_numbers(cursor)?,
+            numbers: read_numbers(cursor),
         }),
         Some(6) => read_local(alloc, cursor),
         Some(11) => read_part(alloc, cursor),
@@ -138,9 +139,9 @@ fn read_block(alloc: Global, cursor: &mut Cursor, outline: &mut Outline) -> Resu
     ensures within { OnOk result (length cursor.new.rest < length cursor.old.rest) }
 {
     check_depth(cursor, outline.depth());
-    cursor.words(b"block ")?;
-    let kind = cursor.numeral()?;
-    cursor.words(b" ")?;
+    cursor.words(b"block ");
+    let kind = cursor.numeral();
+    cursor.words(b" ");
     let name = cursor.name(alloc)?;
     let head = read_head(alloc, cursor, kind)?;
     cursor.end_line()?;
@@ -156,7 +157,7 @@ fn read_end_value(alloc: Global, cursor: &mut Cursor) -> Result<Option<Postfix>,
     if cursor.after_gap() != Some(b'=') {
         return Ok(None);
     }
-    cursor.words(b" = ")?;
+    cursor.words(b" = ");
     Ok(Some(cursor.value(alloc)?))
 }
 
@@ -167,7 +168,7 @@ fn read_end(alloc: Global, cursor: &mut Cursor, outline: &mut Outline) -> Result
     ensures reads { OnOk result (ReadsMark outline.old outline.new cursor.old.rest cursor.new.rest) }
     ensures within { OnOk result (length cursor.new.rest < length cursor.old.rest) }
 {
-    cursor.words(b"end")?;
+    cursor.words(b"end");
     let value = read_end_value(alloc, cursor)?;
     cursor.end_line()?;
     outline.end(alloc, value)?;
@@ -180,9 +181,9 @@ fn read_name(alloc: Global, cursor: &mut Cursor, outline: &mut Outline) -> Resul
     ensures reads { OnOk result (ReadsMark outline.old outline.new cursor.old.rest cursor.new.rest) }
     ensures within { OnOk result (length cursor.new.rest < length cursor.old.rest) }
 {
-    cursor.words(b"name ")?;
-    cursor.position(outline.names())?;
-    cursor.words(b" ")?;
+    cursor.words(b"name ");
+    cursor.position(outline.names());
+    cursor.words(b" ");
     let name = cursor.name(alloc)?;
     cursor.end_line()?;
     outline.name(name)?;
@@ -195,9 +196,9 @@ fn read_debug_note(cursor: &mut Cursor, outline: &mut Outline) -> Result<(), Rea
     ensures reads { OnOk result (ReadsMark outline.old outline.new cursor.old.rest cursor.new.rest) }
     ensures within { OnOk result (length cursor.new.rest < length cursor.old.rest) }
 {
-    cursor.words(b"note ")?;
-    let name = cursor.place()?;
-    let note = read_note(cursor)?;
+    cursor.words(b"note ");
+    let name = cursor.place();
+    let note = read_note(cursor);
     cursor.end_line()?;
     outline.note(name, note)?;
     Ok(())
@@ -209,9 +210,9 @@ fn read_value(alloc: Global, cursor: &mut Cursor, outline: &mut Outline) -> Resu
     ensures reads { OnOk result (ReadsMark outline.old outline.new cursor.old.rest cursor.new.rest) }
     ensures within { OnOk result (length cursor.new.rest < length cursor.old.rest) }
 {
-    cursor.words(b"value ")?;
-    let name = cursor.place()?;
-    cursor.words(b" = ")?;
+    cursor.words(b"value ");
+    let name = cursor.place();
+    cursor.words(b" = ");
     let value = cursor.value(alloc)?;
     cursor.end_line()?;
     outline.value(name, value)?;

@@ -14,8 +14,6 @@ mod names;
 mod outline;
 mod refusal;
 mod sections;
-#[cfg(test)]
-mod tests;
 
 pub use laws::{
     built_texts_have_the_shape, defects_build_nothing, listings_build, texts_list_one_module,

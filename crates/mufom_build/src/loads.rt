@@ -5,16 +5,16 @@ ghost use Rattle.mufom_text.specs.Show.{kind_text};
 ghost use Rattle.mufom_build_text.specs.Pieces.{words};
 ghost use Rattle.mufom_build.specs.Lines.{bytes_pieces, item_pieces, load_lines};
 ghost use Rattle.mufom_build.specs.Marked.{spaced_digits};
-ghost use Rattle.mufom_build_text.specs.Reads.{Reads, ReadsLines};
+ghost use Rattle.mufom_build_text.specs.Reads.{IsRight, Reads, ReadsLines};
 
 use mufom_build_text::{BuildReason, Cursor, ReadStop};
 use mufom_expr::FieldKind;
 use mufom_loads::{Item, Load};
-use mufom_numbers::{Bytes, List};
+use mufom_numbers::{Bytes, List, NoMemory};
 use std::alloc::Global;
 
 // Reads bytes after a space, if any.
-fn read_optional_bytes(alloc: Global, cursor: &mut Cursor) -> Result<Bytes, ReadStop>
+fn read_optional_bytes(alloc: Global, cursor: &mut Cursor) -> Result<Bytes, NoMemory>
     ensures reads { IfOk result (λ bytes. Reads (spaced_digits bytes) cursor.old cursor.new) }
     ensures within { OnOk result (length cursor.new.rest ≤ length cursor.old.rest) }
 {
@@ -22,20 +22,20 @@ fn read_optional_bytes(alloc: Global, cursor: &mut Cursor) -> Result<Bytes, Read
         None => Ok(Bytes::new(alloc)),
         Some(b'\n') => Ok(Bytes::new(alloc)),
         Some(_) => {
-            cursor.words(b" ")?;
+            cursor.words(b" ");
             cursor.hex(alloc)
         }
     }
 }
 
 // Reads the line of literal bytes, up to its end.
-fn read_literal(alloc: Global, cursor: &mut Cursor) -> Result<Bytes, ReadStop>
+fn read_literal(alloc: Global, cursor: &mut Cursor) -> Result<Bytes, NoMemory>
     ensures reads { IfOk result (λ bytes. Reads (bytes_pieces bytes) cursor.old cursor.new) }
-    ensures within { OnOk result (length cursor.new.rest < length cursor.old.rest) }
+    ensures within { OnOk result (IsRight cursor.new → length cursor.new.rest < length cursor.old.rest) }
 {
-    cursor.words(b"bytes ")?;
+    cursor.words(b"bytes ");
     let column = cursor.column();
-    let stated = cursor.numeral()?;
+    let stated = cursor.numeral();
     let bytes = read_optional_bytes(alloc, cursor)?;
     cursor.judge(
         column,
@@ -48,22 +48,22 @@ fn read_literal(alloc: Global, cursor: &mut Cursor) -> Result<Bytes, ReadStop>
 }
 
 // Reads the word for how the value of a field is read.
-fn read_kind(cursor: &mut Cursor) -> Result<FieldKind, ReadStop>
-    ensures reads { IfOk result (λ kind. Reads (words (kind_text kind)) cursor.old cursor.new) }
-    ensures within { OnOk result (length cursor.new.rest ≤ length cursor.old.rest) }
+fn read_kind(cursor: &mut Cursor) -> FieldKind
+    ensures reads { Reads (words (kind_text result)) cursor.old cursor.new }
+    ensures within { length cursor.new.rest ≤ length cursor.old.rest }
 {
     match cursor.rest() {
         [b's', ..] => {
-            cursor.words(b"signed")?;
-            Ok(FieldKind::Signed)
+            cursor.words(b"signed");
+            FieldKind::Signed
         }
         [b'u', ..] => {
-            cursor.words(b"unsigned")?;
-            Ok(FieldKind::Unsigned)
+            cursor.words(b"unsigned");
+            FieldKind::Unsigned
         }
         _ => {
-            cursor.words(b"either")?;
-            Ok(FieldKind::Either)
+            cursor.words(b"either");
+            FieldKind::Either
         }
     }
 }
@@ -71,13 +71,13 @@ fn read_kind(cursor: &mut Cursor) -> Result<FieldKind, ReadStop>
 // Reads the line of a field, up to its end.
 fn read_field(alloc: Global, cursor: &mut Cursor) -> Result<Item, ReadStop>
     ensures reads { IfOk result (λ item. Reads (item_pieces item) cursor.old cursor.new) }
-    ensures within { OnOk result (length cursor.new.rest < length cursor.old.rest) }
+    ensures within { OnOk result (IsRight cursor.new → length cursor.new.rest < length cursor.old.rest) }
 {
-    cursor.words(b"field ")?;
-    let kind = read_kind(cursor)?;
-    cursor.words(b" ")?;
-    let size = cursor.small()?;
-    cursor.words(b" = ")?;
+    cursor.words(b"field ");
+    let kind = read_kind(cursor);
+    cursor.words(b" ");
+    let size = cursor.small();
+    cursor.words(b" = ");
     let value = cursor.value(alloc)?;
     Ok(Item::Field { kind, value, size })
 }
@@ -85,7 +85,7 @@ fn read_field(alloc: Global, cursor: &mut Cursor) -> Result<Item, ReadStop>
 // Reads the line of an item, up to its end.
 fn read_item_line(alloc: Global, cursor: &mut Cursor) -> Result<Item, ReadStop>
     ensures reads { IfOk result (λ item. Reads (item_pieces item) cursor.old cursor.new) }
-    ensures within { OnOk result (length cursor.new.rest < length cursor.old.rest) }
+    ensures within { OnOk result (IsRight cursor.new → length cursor.new.rest < length cursor.old.rest) }
 {
     match cursor.rest() {
         [b'b', ..] => Ok(Item::Literal(read_literal(alloc, cursor)?)),
@@ -122,11 +122,11 @@ fn read_repeat(alloc: Global, cursor: &mut Cursor) -> Result<Load, ReadStop>
     ensures lines { IfOk result (λ load. ReadsLines (load_lines load) cursor.old.rest cursor.new.rest) }
     ensures within { OnOk result (length cursor.new.rest < length cursor.old.rest) }
 {
-    cursor.words(b"repeat ")?;
-    let count = cursor.number()?;
+    cursor.words(b"repeat ");
+    let count = cursor.number();
     cursor.end_line()?;
     let items = read_items(alloc, cursor)?;
-    cursor.words(b"end")?;
+    cursor.words(b"end");
     cursor.end_line()?;
     Ok(Load::Repeat { count, items })
 }
@@ -136,8 +136,8 @@ fn read_select(cursor: &mut Cursor) -> Result<Load, ReadStop>
     ensures lines { IfOk result (λ load. ReadsLines (load_lines load) cursor.old.rest cursor.new.rest) }
     ensures within { OnOk result (length cursor.new.rest < length cursor.old.rest) }
 {
-    cursor.words(b"select ")?;
-    let section = cursor.place()?;
+    cursor.words(b"select ");
+    let section = cursor.place();
     cursor.end_line()?;
     Ok(Load::SetSection(section))
 }
@@ -147,9 +147,9 @@ fn read_counter(alloc: Global, cursor: &mut Cursor) -> Result<Load, ReadStop>
     ensures lines { IfOk result (λ load. ReadsLines (load_lines load) cursor.old.rest cursor.new.rest) }
     ensures within { OnOk result (length cursor.new.rest < length cursor.old.rest) }
 {
-    cursor.words(b"counter ")?;
-    let section = cursor.place()?;
-    cursor.words(b" = ")?;
+    cursor.words(b"counter ");
+    let section = cursor.place();
+    cursor.words(b" = ");
     let value = cursor.value(alloc)?;
     cursor.end_line()?;
     Ok(Load::SetPc { section, value })

@@ -22,15 +22,15 @@ use mufom_numbers::Bytes;
 use std::alloc::Global;
 
 // Reads the letter of an order of bytes.
-fn read_order(cursor: &mut Cursor) -> Result<Order, ReadStop>
-    ensures reads { IfOk result (λ order. Reads (words (order_letter order)) cursor.old cursor.new) }
+fn read_order(cursor: &mut Cursor) -> Order
+    ensures reads { Reads (words (order_letter result)) cursor.old cursor.new }
 {
     if cursor.is_next(b"L") {
-        cursor.words(b"L")?;
-        return Ok(Order::Least);
+        cursor.words(b"L");
+        return Order::Least;
     }
-    cursor.words(b"M")?;
-    Ok(Order::Most)
+    cursor.words(b"M");
+    Order::Most
 }
 
 // What the first line of a listing states.
@@ -46,14 +46,14 @@ pub(crate) struct Title {
 fn read_title(alloc: Global, cursor: &mut Cursor) -> Result<Title, ReadStop>
     ensures lines { IfOk result (λ title. ReadsLines (title_pieces title ∷ []) cursor.old.rest cursor.new.rest) }
 {
-    cursor.words(b"module ")?;
+    cursor.words(b"module ");
     let name = cursor.name(alloc)?;
-    cursor.words(b" processor ")?;
+    cursor.words(b" processor ");
     let processor = cursor.name(alloc)?;
-    cursor.words(b" maus ")?;
-    let maus = cursor.small()?;
-    cursor.words(b" order ")?;
-    let order = read_order(cursor)?;
+    cursor.words(b" maus ");
+    let maus = cursor.small();
+    cursor.words(b" order ");
+    let order = read_order(cursor);
     cursor.end_line()?;
     Ok(Title {
         name,
@@ -70,7 +70,7 @@ fn read_start(alloc: Global, cursor: &mut Cursor) -> Result<Option<Postfix>, Rea
     if !cursor.is_next(b"start") {
         return Ok(None);
     }
-    cursor.words(b"start = ")?;
+    cursor.words(b"start = ");
     let value = cursor.value(alloc)?;
     cursor.end_line()?;
     Ok(Some(value))

@@ -10,41 +10,43 @@ use mufom_names::{Note, Public, Reference, Weak};
 use mufom_numbers::List;
 use std::alloc::Global;
 
-/// Reads numbers with a space before each, as many as come next. `BadText` for the line where these are more
-/// than there is room for.
-pub(crate) fn read_numbers<const N: usize>(
-    cursor: &mut Cursor,
-) -> Result<ArrayVec<u64, N>, ReadStop>
-    ensures reads { IfOk result (λ numbers. Reads (spaced_pieces numbers.items) cursor.old cursor.new) }
-    ensures within { OnOk result (length cursor.new.rest ≤ length cursor.old.rest) }
+/// Reads numbers with a space before each, as many as come next. The line is wrong where these are more than
+/// there is room for.
+pub(crate) fn read_numbers<const N: usize>(cursor: &mut Cursor) -> ArrayVec<u64, N>
+    ensures reads { Reads (spaced_pieces result.items) cursor.old cursor.new }
+    ensures within { length cursor.new.rest ≤ length cursor.old.rest }
 {
     let mut numbers: ArrayVec<u64, N> = ArrayVec::new();
     while let Some(b'0'..=b'9') = cursor.after_gap() {
-        cursor.words(b" ")?;
-        let number = cursor.number()?;
+        cursor.words(b" ");
+        let number = cursor.number();
         if numbers.is_full() {
-            return Err(cursor.bad_line());
+            cursor.bad();
+            return numbers;
+        }
+        if cursor.is_bad() {
+            return numbers;
         }
         numbers.push(number);
     }
-    Ok(numbers)
+    numbers
 }
 
 /// Reads what a note states.
-pub(crate) fn read_note(cursor: &mut Cursor) -> Result<Note, ReadStop>
-    ensures reads { IfOk result (λ note. Reads (note_pieces note) cursor.old cursor.new) }
-    ensures within { OnOk result (length cursor.new.rest ≤ length cursor.old.rest) }
+pub(crate) fn read_note(cursor: &mut Cursor) -> Note
+    ensures reads { Reads (note_pieces result) cursor.old cursor.new }
+    ensures within { length cursor.new.rest ≤ length cursor.old.rest }
 {
-    cursor.words(b" type ")?;
-    let type_index = cursor.number()?;
-    cursor.words(b" attribute ")?;
-    let attribute = cursor.number()?;
-    let numbers = read_numbers(cursor)?;
-    Ok(Note {
+    cursor.words(b" type ");
+    let type_index = cursor.number();
+    cursor.words(b" attribute ");
+    let attribute = cursor.number();
+    let numbers = read_numbers(cursor);
+    Note {
         type_index,
         attribute,
         numbers,
-    })
+    }
 }
 
 // Reads the line of a note.
@@ -52,8 +54,8 @@ fn read_note_line(cursor: &mut Cursor) -> Result<Note, ReadStop>
     ensures lines { IfOk result (λ note. ReadsLines (note_line note ∷ []) cursor.old.rest cursor.new.rest) }
     ensures within { OnOk result (length cursor.new.rest < length cursor.old.rest) }
 {
-    cursor.words(b"note")?;
-    let note = read_note(cursor)?;
+    cursor.words(b"note");
+    let note = read_note(cursor);
     cursor.end_line()?;
     Ok(note)
 }
@@ -84,11 +86,11 @@ fn read_public(alloc: Global, cursor: &mut Cursor, count: usize) -> Result<Publi
     ensures lines { IfOk result (λ public. ReadsLines (public_lines count public) cursor.old.rest cursor.new.rest) }
     ensures within { OnOk result (length cursor.new.rest < length cursor.old.rest) }
 {
-    cursor.words(b"public ")?;
-    cursor.position(count)?;
-    cursor.words(b" ")?;
+    cursor.words(b"public ");
+    cursor.position(count);
+    cursor.words(b" ");
     let name = cursor.name(alloc)?;
-    cursor.words(b" = ")?;
+    cursor.words(b" = ");
     let value = cursor.value(alloc)?;
     cursor.end_line()?;
     let notes = read_notes(alloc, cursor)?;
@@ -109,18 +111,18 @@ pub(crate) fn read_publics(alloc: Global, cursor: &mut Cursor) -> Result<List<Pu
 }
 
 // Reads what makes a reference weak, if it is.
-fn read_weak(cursor: &mut Cursor) -> Result<Option<Weak>, ReadStop>
-    ensures reads { IfOk result (λ weak. Reads (weak_pieces weak) cursor.old cursor.new) }
-    ensures within { OnOk result (length cursor.new.rest ≤ length cursor.old.rest) }
+fn read_weak(cursor: &mut Cursor) -> Option<Weak>
+    ensures reads { Reads (weak_pieces result) cursor.old cursor.new }
+    ensures within { length cursor.new.rest ≤ length cursor.old.rest }
 {
     if cursor.after_gap() != Some(b'w') {
-        return Ok(None);
+        return None;
     }
-    cursor.words(b" weak size ")?;
-    let size = cursor.number()?;
-    cursor.words(b" default ")?;
-    let default = cursor.number()?;
-    Ok(Some(Weak { size, default }))
+    cursor.words(b" weak size ");
+    let size = cursor.number();
+    cursor.words(b" default ");
+    let default = cursor.number();
+    Some(Weak { size, default })
 }
 
 // Reads the line of a reference, with its position, and those of its notes.
@@ -128,11 +130,11 @@ fn read_reference(alloc: Global, cursor: &mut Cursor, count: usize) -> Result<Re
     ensures lines { IfOk result (λ reference. ReadsLines (reference_lines count reference) cursor.old.rest cursor.new.rest) }
     ensures within { OnOk result (length cursor.new.rest < length cursor.old.rest) }
 {
-    cursor.words(b"reference ")?;
-    cursor.position(count)?;
-    cursor.words(b" ")?;
+    cursor.words(b"reference ");
+    cursor.position(count);
+    cursor.words(b" ");
     let name = cursor.name(alloc)?;
-    let weak = read_weak(cursor)?;
+    let weak = read_weak(cursor);
     cursor.end_line()?;
     let notes = read_notes(alloc, cursor)?;
     Ok(Reference { name, weak, notes })

@@ -19,58 +19,58 @@ pub(crate) fn read_raw(alloc: Global, cursor: &mut Cursor, word: &[u8]) -> Resul
     if !cursor.is_next(word) {
         return Ok(Bytes::new(alloc));
     }
-    cursor.words(word)?;
-    cursor.words(b" ")?;
+    cursor.words(word);
+    cursor.words(b" ");
     let bytes = cursor.hex(alloc)?;
     cursor.end_line()?;
     Ok(bytes)
 }
 
 // Reads the letters that tell whether a section is absolute.
-fn read_type(cursor: &mut Cursor) -> Result<bool, ReadStop>
-    ensures reads { IfOk result (λ absolute. Reads (words (type_letters absolute)) cursor.old cursor.new) }
-    ensures within { OnOk result (length cursor.new.rest ≤ length cursor.old.rest) }
+fn read_type(cursor: &mut Cursor) -> bool
+    ensures reads { Reads (words (type_letters result)) cursor.old cursor.new }
+    ensures within { length cursor.new.rest ≤ length cursor.old.rest }
 {
     if cursor.is_next(b"C") {
-        cursor.words(b"C")?;
-        return Ok(false);
+        cursor.words(b"C");
+        return false;
     }
-    cursor.words(b"AS")?;
-    Ok(true)
+    cursor.words(b"AS");
+    true
 }
 
 // Reads the letter of what a section is for, if there is one.
-fn read_purpose(cursor: &mut Cursor) -> Result<Option<Purpose>, ReadStop>
-    ensures reads { IfOk result (λ purpose. Reads (words (purpose_letter purpose)) cursor.old cursor.new) }
-    ensures within { OnOk result (length cursor.new.rest ≤ length cursor.old.rest) }
+fn read_purpose(cursor: &mut Cursor) -> Option<Purpose>
+    ensures reads { Reads (words (purpose_letter result)) cursor.old cursor.new }
+    ensures within { length cursor.new.rest ≤ length cursor.old.rest }
 {
     match cursor.rest() {
         [b'P', ..] => {
-            cursor.words(b"P")?;
-            Ok(Some(Purpose::Code))
+            cursor.words(b"P");
+            Some(Purpose::Code)
         }
         [b'D', ..] => {
-            cursor.words(b"D")?;
-            Ok(Some(Purpose::Data))
+            cursor.words(b"D");
+            Some(Purpose::Data)
         }
         [b'R', ..] => {
-            cursor.words(b"R")?;
-            Ok(Some(Purpose::Rom))
+            cursor.words(b"R");
+            Some(Purpose::Rom)
         }
-        _ => Ok(None),
+        _ => None,
     }
 }
 
 // Reads the base of a section, if it has one.
-fn read_base(cursor: &mut Cursor) -> Result<Option<u64>, ReadStop>
-    ensures reads { IfOk result (λ base. Reads (base_pieces base) cursor.old cursor.new) }
-    ensures within { OnOk result (length cursor.new.rest ≤ length cursor.old.rest) }
+fn read_base(cursor: &mut Cursor) -> Option<u64>
+    ensures reads { Reads (base_pieces result) cursor.old cursor.new }
+    ensures within { length cursor.new.rest ≤ length cursor.old.rest }
 {
     if cursor.after_gap() != Some(b'b') {
-        return Ok(None);
+        return None;
     }
-    cursor.words(b" base ")?;
-    Ok(Some(cursor.number()?))
+    cursor.words(b" base ");
+    Some(cursor.number())
 }
 
 // Reads the line of a section, with its position.
@@ -78,18 +78,18 @@ fn read_section(alloc: Global, cursor: &mut Cursor, count: usize) -> Result<Sect
     ensures lines { IfOk result (λ section. ReadsLines (section_lines count section) cursor.old.rest cursor.new.rest) }
     ensures within { OnOk result (length cursor.new.rest < length cursor.old.rest) }
 {
-    cursor.words(b"section ")?;
-    cursor.position(count)?;
-    cursor.words(b" ")?;
+    cursor.words(b"section ");
+    cursor.position(count);
+    cursor.words(b" ");
     let name = cursor.name(alloc)?;
-    cursor.words(b" ")?;
-    let absolute = read_type(cursor)?;
-    let purpose = read_purpose(cursor)?;
-    cursor.words(b" size ")?;
-    let size = cursor.number()?;
-    cursor.words(b" align ")?;
-    let align = cursor.number()?;
-    let base = read_base(cursor)?;
+    cursor.words(b" ");
+    let absolute = read_type(cursor);
+    let purpose = read_purpose(cursor);
+    cursor.words(b" size ");
+    let size = cursor.number();
+    cursor.words(b" align ");
+    let align = cursor.number();
+    let base = read_base(cursor);
     cursor.end_line()?;
     Ok(Section {
         name,

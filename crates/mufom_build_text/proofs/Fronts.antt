@@ -1,10 +1,9 @@
 -- Fronts of a text that grow by what comes next.
-use Rattle.std.proofs.Common.{◌≡◌, ℕ, ◌<◌, List, [], ◌∷◌, ◌++◌, length, refl, sym, ap, subst, ◌∙◌, inl, inr, ◌⊎◌, append_assoc, append-nil}
+use Rattle.std.proofs.Common.{◌≡◌, ℕ, List, [], ◌∷◌, ◌++◌, refl, sym, ap, subst, ◌∙◌, inl, inr, ◌⊎◌, append_assoc, append-nil}
 use Rattle.std.specs.List.{AllByRecursion}
 use Rattle.std.specs.Prelude.{IsTrue}
 use Rattle.mufom_text.specs.Words.{Text, stands_for_itself}
-use Rattle.mufom_build_text.specs.Pieces.{AreDigitsOf, SpellsDigits, SpellsNameByte, SpellsNameBytes, AreSpaces, SpellsName}
-use Rattle.mufom_build_text.specs.Places.{AreBlank}
+use Rattle.mufom_build_text.specs.Pieces.{AreDigitsOf, SpellsDigits, SpellsNameByte, SpellsNameBytes, SpellsName}
 use Rattle.mufom_build_text.specs.Reads.{IsSpaceFront, IsBlankFront, IsDigitsFront, IsNameFront}
 
 -- a front and more

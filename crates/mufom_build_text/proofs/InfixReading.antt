@@ -1,5 +1,5 @@
 -- An expression in infix form, read token by token.
-use Rattle.std.proofs.Common.{◌≡◌, ℕ, true, false, List, [], ◌∷◌, ◌++◌, map, flat_map, codes, Option, Some, None}
+use Rattle.std.proofs.Common.{◌≡◌, ℕ, true, false, List, [], ◌∷◌, ◌++◌, map, flat_map, codes}
 use Rattle.std.proofs.Common.{refl, sym, ap, subst, ◌∙◌, append_assoc, append-nil}
 use Rattle.std.proofs.lemmas.List.{map-append}
 use Rattle.mufom_expr.specs.declared.token.Function.{Function}
@@ -7,7 +7,7 @@ use Rattle.mufom_expr.specs.declared.token.Function.TheVariants as functions
 use Rattle.mufom_expr.specs.declared.token.Token.{Token}
 use Rattle.mufom_expr.specs.declared.token.Token.TheVariants.{Number, Var, Fun}
 use Rattle.mufom_expr.specs.declared.token.Letter.{Letter}
-use Rattle.mufom_expr.specs.Tree.{Tree, OneOperand, TwoOperands, number, variable, one, two, function_of_one, function_of_two, tokens_of}
+use Rattle.mufom_expr.specs.Tree.{Tree, TwoOperands, number, variable, one, two, function_of_one, function_of_two, tokens_of}
 use Rattle.mufom_expr.specs.Tree.{absolute, negated, plus, minus, divided, times, larger, smaller, modulo, is_less, is_greater, is_equal, is_unequal}
 use Rattle.mufom_expr.specs.Tree.{and_bits, or_bits, xor_bits}
 use Rattle.mufom_expr.specs.InfixText.{letter_text, opening_text, middle_text}

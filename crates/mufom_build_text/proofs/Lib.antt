@@ -3,3 +3,7 @@ pub mod Lists
 pub mod Reading
 pub mod Fronts
 pub mod InfixReading
+pub mod FirstBytes
+pub mod Noted
+pub mod Loosely
+pub mod Names

@@ -1,15 +1,14 @@
 -- What is read between two places of a text, joined piece by piece and line by line.
-use Rattle.std.proofs.Common.{◌≡◌, ℕ, ◌+◌, ◌<◌, ◌≤◌, ◌^◌, List, [], ◌∷◌, ◌++◌, length, take, map, flat_map, Option, Some, None}
+use Rattle.std.proofs.Common.{◌≡◌, ℕ, ◌+◌, ◌<◌, ◌≤◌, ◌^◌, List, [], ◌∷◌, ◌++◌, length, take, Option, Some}
 use Rattle.std.proofs.Common.{refl, sym, ap, subst, ◌∙◌, inl, inr, ◌⊎◌, arith, append_assoc, append-nil, get_or, MatchOption}
 use Rattle.std.proofs.lemmas.List.{take_more, map-append}
-use Rattle.std.specs.Str.Parse.{IsNumeral, digits_value}
-use Rattle.std.specs.List.{AllByRecursion}
+use Rattle.std.specs.Str.Parse.{digits_value}
 use Rattle.mufom_text.specs.Words.{Text}
-use Rattle.mufom_build_text.specs.Pieces.{Piece, byte, gap, figure, position, count, name, digits, block, expression, exact}
-use Rattle.mufom_build_text.specs.Pieces.{Spells, SpellsPiece, SpellsDigits, SpellsNameBytes, SpellsNumber, AreSpaces}
+use Rattle.mufom_build_text.specs.Pieces.{Piece, byte, gap, figure, name, block, exact}
+use Rattle.mufom_build_text.specs.Pieces.{Spells, SpellsPiece, SpellsNumber}
 use Rattle.mufom_build_text.specs.Pieces.{words, word_piece, infix_pieces, value_pieces}
 use Rattle.mufom_build_text.specs.Places.{SpellsLines, AreBlank}
-use Rattle.mufom_build_text.specs.Reads.{Place, IsRight, IsSpaceFront, IsBlankFront, ReadsRight, Reads, ReadsNumeral, IsDigitsFront, IsNameFront}
+use Rattle.mufom_build_text.specs.Reads.{Place, IsRight, IsSpaceFront, IsBlankFront, ReadsRight, Reads, ReadsNumeral, IsNameFront}
 use Rattle.mufom_build_text.specs.Reads.{IsLineEnd, EndsLine}
 use Rattle.mufom_build_text.specs.Reads.{Follow, ReadsLines}
 use Rattle.mufom_build_text.proofs.Spelling.{spells-append, spells-one}
@@ -156,7 +155,7 @@ no_front : (s t : Text) → s ++ t ≡ [] → s ≡ []
 no_front [] t e = refl
 no_front (x ∷ s) t e = cc
 
-no_rest : (s t : Text) → s ++ t ≡ [] → t ≡ []
+pub no_rest : (s t : Text) → s ++ t ≡ [] → t ≡ []
 no_rest [] t e = e
 no_rest (x ∷ s) t e = cc
 

@@ -1,10 +1,11 @@
 -- What is noted of a line while it is read, and which of it is named.
-use Rattle.std.specs.Prelude.{◌≡◌, ℕ, ◌-◌, ◌==◌, ◌&&◌, nat_le, nat_lt, length, Option, Some, None, if◌then◌else◌, ◌⊎◌}
+use Rattle.std.specs.Prelude.{◌≡◌, ℕ, ◌-◌, ◌==◌, ◌&&◌, nat_le, nat_lt, Bool, true, false, length, Option, Some, None, if◌then◌else◌, ◌⊎◌}
+use Rattle.std.specs.Str.Parse.{digits_value}
 use Rattle.mufom_text.specs.Words.{Text}
 use Rattle.mufom_build_text.specs.declared.cursor.LineError.{LineError}
 use Rattle.mufom_build_text.specs.declared.refusal.BuildReason.{BuildReason}
-use Rattle.mufom_build_text.specs.declared.refusal.BuildReason.TheVariants.{BadText, TooGreat, Position}
-use Rattle.mufom_build_text.specs.Pieces.{MOST_POSITION}
+use Rattle.mufom_build_text.specs.declared.refusal.BuildReason.TheVariants.{BadText, TooGreat, Position, Count, TooLong, Deep}
+use Rattle.mufom_build_text.specs.Pieces.{Piece, byte, gap, figure, position, count, name, digits, expression, block, MOST_POSITION, MOST_NUMBER}
 use Rattle.mufom_build_text.specs.Reads.{Place, IsSpaceFront, IsLineEnd, ReadsNumeral}
 
 abbrev pub error_at : ℕ → BuildReason → LineError
@@ -14,6 +15,49 @@ error_at column reason = record { column = column; reason = reason }
 abbrev pub first_error : Option LineError → LineError → Option LineError
 first_error None error = Some error
 first_error (Some first) error = if nat_le first.column error.column then Some first else Some error
+
+-- what is noted where this, if anything, is wrong at a column
+abbrev pub noted : Option LineError → ℕ → Option BuildReason → Option LineError
+noted error column None = error
+noted error column (Some reason) = first_error error (error_at column reason)
+
+-- ---- a line of which a piece is missing
+
+-- a piece of the line was missing, which is noted at column 0, before all columns of the line
+abbrev pub is_bad : Option LineError → Bool
+is_bad None = false
+is_bad (Some error) = error.column == 0
+
+-- no piece of the line was missing before the place
+abbrev pub IsSound : Place → Type 0
+IsSound place = is_bad place.error ≡ false
+
+-- A piece is missing at the place: it is noted, and nothing is passed over.
+pub record Fails (before after : Place) : Type 0 where
+  pub rest : after.rest ≡ before.rest
+  pub line : after.line ≡ before.line
+  pub column : after.column ≡ before.column
+  pub error : after.error ≡ first_error before.error (error_at 0 BadText)
+
+-- ---- what is wrong with a piece
+
+abbrev pub stated_error : ℕ → ℕ → BuildReason → Text → Option BuildReason
+stated_error most right reason text = let stated = digits_value 10 text in
+    if nat_lt most stated then Some TooGreat else if stated == right then None else Some reason
+
+-- What is wrong with a piece that these bytes spell.
+abbrev pub piece_error : Piece → Text → Option BuildReason
+piece_error (byte value) text = None
+piece_error gap text = None
+piece_error (figure most value) text = if nat_lt most value then Some TooGreat else None
+piece_error (position value) text = stated_error MOST_POSITION value Position text
+piece_error (count value) text = stated_error MOST_NUMBER value Count text
+piece_error (name bytes) text = None
+piece_error (digits bytes) text = None
+piece_error (expression tokens) text = if nat_lt 255 tokens then Some TooLong else None
+piece_error (block opened) text = if nat_lt 32 opened then Some Deep else None
+
+-- ---- what is noted of numbers
 
 -- What is noted where a line states this number at a column, or one that 64 bits do not hold, and `right` is the right one: that it
 -- is greater than `most`, or else the reason, where it is another.
@@ -47,14 +91,17 @@ pub record NotesPosition (count : ℕ) (before after : Place) : Type 0 where
 abbrev pub wrong_line : Place → ℕ
 wrong_line place = if (length place.rest == 0) && ((place.column == 1) && nat_lt 1 place.line) then place.line - 1 else place.line
 
--- What is named of a line that should end at the place, after any spaces: something else that follows, at column 1, or its first error.
+-- What is named of a line that should end at the place, after any spaces: that something else follows, or that a piece was missing, at
+-- column 1; or else its first error.
 abbrev pub IsWrongEnd : Place → ℕ → ℕ → BuildReason → Type 0
-IsWrongEnd place line column reason = (line ≡ place.line) × (((IsLineEnd place.rest → ⊥) × (column ≡ 1) × (reason ≡ BadText))
-    ⊎ (IsLineEnd place.rest × (place.error ≡ Some (error_at column reason))))
+IsWrongEnd place line column reason =
+    ((line ≡ wrong_line place) × (column ≡ 1) × (reason ≡ BadText) × ((IsLineEnd place.rest → ⊥) ⊎ (is_bad place.error ≡ true)))
+    ⊎ ((line ≡ place.line) × IsLineEnd place.rest × IsSound place × (place.error ≡ Some (error_at column reason)))
 
--- What is named of a line that should end at the place: something else that follows, at column 1, or its first error.
+-- What is named of a line that should end at the place: the same of where the spaces end that follow it.
 pub record IsNamed (place : Place) (line column : ℕ) (reason : BuildReason) : Type 0 where
-  pub end : Text
-  pub spaces : IsSpaceFront place.rest end
-  pub here : line ≡ place.line
-  pub named : ((IsLineEnd end → ⊥) × (column ≡ 1) × (reason ≡ BadText)) ⊎ (IsLineEnd end × (place.error ≡ Some (error_at column reason)))
+  pub end : Place
+  pub spaces : IsSpaceFront place.rest end.rest
+  pub here : end.line ≡ place.line
+  pub same : end.error ≡ place.error
+  pub named : IsWrongEnd end line column reason

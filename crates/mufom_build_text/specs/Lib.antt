@@ -3,3 +3,4 @@ pub mod Places
 pub mod Reads
 pub mod Infix
 pub mod Errors
+pub mod Loosely

@@ -1,5 +1,5 @@
 -- What is read between two places of a text.
-use Rattle.std.specs.Prelude.{◌≡◌, ℕ, ◌<◌, ◌≤◌, ◌^◌, List, [], ◌∷◌, ◌++◌, length, Option, None, MatchOption, ◌⊎◌}
+use Rattle.std.specs.Prelude.{◌≡◌, ℕ, ◌≤◌, ◌^◌, List, [], ◌∷◌, ◌++◌, Option, None, MatchOption, ◌⊎◌}
 use Rattle.std.specs.Str.Parse.{IsNumeral, digits_value}
 use Rattle.mufom_text.specs.Words.{Text}
 use Rattle.mufom_build_text.specs.declared.cursor.LineError.{LineError}

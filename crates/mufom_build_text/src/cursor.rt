@@ -1,9 +1,9 @@
 //! A place in a text that is read line by line.
 
-ghost use Rattle.std.specs.Prelude.{◌≡◌, ◌≤◌, ◌<◌, ◌+◌, ◌^◌, ◌↔◌, ◌∷◌, [], List, ℕ, length, IsTrue, OnOk, Err};
+ghost use Rattle.std.specs.Prelude.{◌≡◌, ◌≤◌, ◌<◌, ◌+◌, ◌^◌, ◌↔◌, ◌∷◌, [], List, ℕ, length, IsTrue, OnOk, Err, true};
 ghost use Rattle.mufom_numbers.specs.declared.limits.TheConstants.{MOST_FILE_BYTES};
 ghost use Rattle.mufom_build_text.specs.Reads.{beginning, IsRight, IsSpaceFront, IsBlankFront, IsLineEnd, EndsLine};
-ghost use Rattle.mufom_build_text.specs.Errors.{error_at, first_error, wrong_line, IsWrongEnd, IsNamed};
+ghost use Rattle.mufom_build_text.specs.Errors.{error_at, first_error, is_bad, wrong_line, Fails, IsWrongEnd, IsNamed};
 
 use crate::refusal::{BuildReason, ReadStop};
 use std::marker::Model;
@@ -32,12 +32,13 @@ impl<'a> Model for Cursor<'a> {
 
     ghost view = { λ c. record { rest = c.rest.now; line = c.line; column = c.column; error = c.error } };
 
-    ghost invariant = { λ c. (c.line + length c.rest.now < 2 ^ 32) × (c.column + length c.rest.now < 2 ^ 32) };
+    ghost invariant = { λ c. (c.line + length c.rest.now < 2 ^ 32) × (c.column + length c.rest.now < 2 ^ 32) × (0 < c.column) };
 }
 
 /// What follows the spaces at the front of a text.
 pub fn after_spaces(text: &[u8]) -> &[u8]
     ensures front { IsSpaceFront text.now result.now }
+    ensures last { (more : List ℕ) → result.now ≡ 32 ∷ more → ⊥ }
     ensures within { length result.now ≤ length text.now }
 {
     let mut rest = text;
@@ -56,6 +57,7 @@ fn place_after(byte: u8, line: u32, column: u32) -> (u32, u32)
     requires column { column + 1 < 2 ^ 32 }
     ensures line { result.0 ≤ line + 1 }
     ensures column { result.1 ≤ column + 1 }
+    ensures positive { 0 < result.1 }
 {
     if byte == b'\n' {
         return (line + 1, 1);
@@ -67,10 +69,12 @@ fn place_after(byte: u8, line: u32, column: u32) -> (u32, u32)
 fn after_blanks(text: &[u8], from_line: u32, from_column: u32) -> (&[u8], u32, u32)
     requires line { from_line + length text.now < 2 ^ 32 }
     requires column { from_column + length text.now < 2 ^ 32 }
+    requires positive { 0 < from_column }
     ensures front { IsBlankFront text.now result.0.now }
     ensures last { (more : List ℕ) → result.0.now ≡ 10 ∷ more → ⊥ }
     ensures line { result.1 + length result.0.now < 2 ^ 32 }
     ensures column { result.2 + length result.0.now < 2 ^ 32 }
+    ensures positive { 0 < result.2 }
     ensures within { length result.0.now ≤ length text.now }
 {
     let mut rest = text;
@@ -119,7 +123,8 @@ impl<'a> Cursor<'a> {
 
     /// The column of the next byte, which counts bytes from 1.
     pub fn column(&self) -> u32
-        ensures { result ≡ self.now.column }
+        ensures value { result ≡ self.now.column }
+        ensures positive { 0 < result }
     {
         self.column
     }
@@ -129,6 +134,16 @@ impl<'a> Cursor<'a> {
         ensures { IsTrue result ↔ (self.now.rest ≡ []) }
     {
         self.rest.is_empty()
+    }
+
+    /// Whether a piece of the line was missing.
+    pub fn is_bad(&self) -> bool
+        ensures { result ≡ is_bad self.now.error }
+    {
+        match self.error {
+            None => false,
+            Some(error) => error.column == 0,
+        }
     }
 
     /// The error of the line as a whole: it is not one of a listing, or may not occur here. At the end of a
@@ -163,6 +178,8 @@ impl<'a> Cursor<'a> {
     /// Notes an error within the line. Of two errors the one at the lesser column is kept.
     pub fn note(&mut self, column: u32, reason: BuildReason)
         ensures rest { self.new.rest ≡ self.old.rest }
+        ensures line { self.new.line ≡ self.old.line }
+        ensures column { self.new.column ≡ self.old.column }
         ensures wrong { IsRight self.new → ⊥ }
         ensures first { self.new.error ≡ first_error self.old.error (error_at column reason) }
     {
@@ -174,11 +191,20 @@ impl<'a> Cursor<'a> {
         self.error = Some(LineError { column, reason });
     }
 
+    /// Notes that a piece of the line is missing here: `BadText`, before all other errors of the line.
+    pub fn bad(&mut self)
+        ensures { Fails self.old self.new }
+    {
+        self.note(0, BuildReason::BadText);
+    }
+
     /// Passes over the spaces that come next, if any.
     pub fn pass_spaces(&mut self)
         ensures front { IsSpaceFront self.old.rest self.new.rest }
+        ensures last { (more : List ℕ) → self.new.rest ≡ 32 ∷ more → ⊥ }
         ensures error { self.new.error ≡ self.old.error }
         ensures within { length self.new.rest ≤ length self.old.rest }
+        ensures column { self.new.column + length self.new.rest ≡ self.old.column + length self.old.rest }
         ensures line { self.new.line ≡ self.old.line }
     {
         self.advance_to(after_spaces(self.rest));
@@ -197,13 +223,14 @@ impl<'a> Cursor<'a> {
         self.column = column;
     }
 
-    // Checks that the line may end here, and has no error.
+    // Checks that the line may end here, and has no error. `BadText` if it may not, or a piece of it was missing.
     fn check_end(&self) -> Result<(), ReadStop>
         ensures end { OnOk result (IsLineEnd self.now.rest) }
         ensures right { OnOk result (IsRight self.now) }
-        ensures wrong { (line column : ℕ) (reason : BuildReason) → result ≡ Err (ReadStop.At line column reason) → IsWrongEnd self.now line column reason }
+        ensures wrong { (line column : ℕ) (reason : BuildReason) → result ≡ Err (ReadStop.At line column reason)
+            → IsWrongEnd self.now line column reason }
     {
-        if !is_line_end(self.rest) {
+        if self.is_bad() || !is_line_end(self.rest) {
             return Err(self.bad_line());
         }
         match self.error {
@@ -218,12 +245,13 @@ impl<'a> Cursor<'a> {
 
     /// Ends a line: passes over the spaces after it, its line feed, if any, and blank lines.
     ///
-    /// `BadText` if anything else follows on the line, and else its first error.
+    /// `BadText` if anything else follows on the line or a piece of it was missing, and else its first error.
     pub fn end_line(&mut self) -> Result<(), ReadStop>
         ensures right { OnOk result (IsRight self.old) }
         ensures ends { OnOk result (EndsLine self.old.rest self.new.rest) }
         ensures within { OnOk result (length self.new.rest ≤ length self.old.rest) }
-        ensures wrong { (line column : ℕ) (reason : BuildReason) → result ≡ Err (ReadStop.At line column reason) → IsNamed self.old line column reason }
+        ensures wrong { (line column : ℕ) (reason : BuildReason) → result ≡ Err (ReadStop.At line column reason)
+            → IsNamed self.old line column reason }
     {
         self.pass_spaces();
         self.check_end()?;

@@ -1,9 +1,10 @@
 //! Expressions in infix form, as a listing has them. The functions whose operands are still being read are
 //! kept on a stack of their own, so that no depth of a text is a depth of calls.
 
-ghost use Rattle.std.specs.Prelude.{◌≡◌, ◌≤◌, ◌<◌, ◌∷◌, ◌++◌, [], true, false, length, IfOk, OnOk, IfSome};
-ghost use Rattle.mufom_build_text.specs.Pieces.{value_pieces};
+ghost use Rattle.std.specs.Prelude.{◌≡◌, ◌≤◌, ◌<◌, ◌+◌, ◌∷◌, ◌++◌, [], true, false, length, IfOk, OnOk, IfSome};
+ghost use Rattle.mufom_build_text.specs.Pieces.{words, value_pieces};
 ghost use Rattle.mufom_build_text.specs.Reads.{Place, Reads};
+ghost use Rattle.mufom_build_text.specs.Errors.{IsSound};
 ghost use Rattle.mufom_build_text.specs.Infix.{is_first, has_operator, FitsMiddle, frame_text};
 ghost use Rattle.mufom_build_text.specs.Infix.{IsLeaf, IsBefore, IsBehind, IsBetween, IsClosed, IsRead};
 
@@ -112,16 +113,39 @@ fn letter(text: &[u8]) -> Option<Letter> {
     }
 }
 
+// Checks that no piece of the line was missing.
+fn check(cursor: &Cursor) -> Result<(), ReadStop>
+    ensures { OnOk result (IsSound cursor.now) }
+{
+    if cursor.is_bad() {
+        return Err(cursor.bad_line());
+    }
+    Ok(())
+}
+
+// Passes over words, where they are next.
+fn pass(cursor: &mut Cursor, text: &str) -> Result<(), ReadStop>
+    ensures reads { OnOk result (Reads (words text.now) cursor.old cursor.new) }
+    ensures within { OnOk result (length cursor.new.rest + length text.now ≤ length cursor.old.rest) }
+{
+    cursor.words(text.as_bytes());
+    check(cursor)
+}
+
 // Reads a number or a variable.
 fn leaf(cursor: &mut Cursor) -> Result<Token, ReadStop>
     ensures reads { IfOk result (λ token. IsLeaf cursor.old cursor.new token) }
     ensures within { OnOk result (length cursor.new.rest < length cursor.old.rest) }
 {
     let Some(letter) = letter(cursor.rest()) else {
-        return Ok(Token::Number(cursor.number()?));
+        let number = cursor.number();
+        check(cursor)?;
+        return Ok(Token::Number(number));
     };
-    cursor.words(letter_name(letter).as_bytes())?;
-    Ok(Token::Var(letter, cursor.place()?))
+    pass(cursor, letter_name(letter))?;
+    let place = cursor.place();
+    check(cursor)?;
+    Ok(Token::Var(letter, place))
 }
 
 impl Infix {
@@ -159,7 +183,7 @@ impl Infix {
         ensures within { OnOk result (length cursor.new.rest ≤ length cursor.old.rest) }
     {
         while let Some(frame) = opened(cursor.rest()) {
-            cursor.words(opening(frame).as_bytes())?;
+            pass(cursor, opening(frame))?;
             self.frames.push(frame)?;
         }
         Ok(())
@@ -186,7 +210,7 @@ impl Infix {
                 Frame::First(middle) => return Ok(Some(middle)),
                 Frame::Last(function) => function,
             };
-            cursor.words(b")")?;
+            pass(cursor, ")")?;
             self.add(cursor, Token::Fun(function))?;
         }
         Ok(None)
@@ -198,7 +222,7 @@ impl Infix {
         ensures within { OnOk result (length cursor.new.rest ≤ length cursor.old.rest) }
     {
         let function = function_of(cursor, middle)?;
-        cursor.words(infix_middle(function).as_bytes())?;
+        pass(cursor, infix_middle(function))?;
         self.frames.push(Frame::Last(function))?;
         Ok(())
     }

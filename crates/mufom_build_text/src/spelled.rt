@@ -1,15 +1,16 @@
-//! The pieces of a line: words, numbers, names and bytes. Each call returns `BadText` for the line where
-//! something else comes next.
+//! The pieces of a line: words, numbers, names and bytes. Each call notes that the piece is missing where
+//! something else comes next, and passes over nothing then.
 
-ghost use Rattle.std.specs.Prelude.{◌≡◌, ◌≢◌, ◌≤◌, ◌<◌, ◌+◌, ◌∷◌, ◌++◌, [], List, ℕ, length, take, IsTrue, IfOk};
+ghost use Rattle.std.specs.Prelude.{◌≡◌, ◌≤◌, ◌<◌, ◌+◌, ◌∷◌, ◌++◌, ◌↔◌, [], List, ℕ, length, take, drop, IsTrue, IfOk};
 ghost use Rattle.std.specs.Prelude.{OnOk, IfSome, Some, MatchOption, ◌^◌};
 ghost use Rattle.std.specs.Str.Parse.{AllDigits, digits_value};
 ghost use Rattle.hex.specs.Hex.{hex_digit_value};
 ghost use Rattle.mufom_text.specs.Words.{stands_for_itself};
-ghost use Rattle.mufom_build_text.specs.Pieces.{gap, byte, figure, position, name, digits, word_piece, words, number_piece, place_piece, small_piece};
-ghost use Rattle.mufom_build_text.specs.Pieces.{name_piece, AreDigitsOf, SpellsNameByte, MOST_BYTE, MOST_POSITION, MOST_NUMBER};
-ghost use Rattle.mufom_build_text.specs.Reads.{IsRight, Reads, ReadsNumeral, IsDigitsFront, IsNameFront};
-ghost use Rattle.mufom_build_text.specs.Errors.{judged, NotesFigure, NotesPosition};
+ghost use Rattle.mufom_build_text.specs.Pieces.{AreDigitsOf, SpellsNameByte, SpellsNameBytes, SpellsName, MOST_BYTE, MOST_POSITION, MOST_NUMBER};
+ghost use Rattle.mufom_build_text.specs.Reads.{IsRight, ReadsNumeral, IsDigitsFront, IsNameFront};
+ghost use Rattle.mufom_build_text.specs.Errors.{judged, IsSound, NotesFigure, NotesPosition};
+ghost use Rattle.mufom_build_text.specs.Loosely.{Avoids, IsFigure, TakesDigits, IsQuotedFront, IsFront, IsAfterGap};
+ghost use Rattle.mufom_build_text.specs.Loosely.{ReadsByte, ReadsGap, ReadsDigits, ReadsWords, ReadsFigure, ReadsPosition, ReadsName, ReadsHex};
 
 use crate::cursor::{Cursor, after_spaces};
 use crate::refusal::{BuildReason, ReadStop};
@@ -20,6 +21,7 @@ use std::alloc::Global;
 fn count_digits(text: &[u8]) -> usize
     ensures within { result ≤ length text.now }
     ensures digits { AllDigits 10 (take result text.now) }
+    ensures last { Avoids IsFigure (drop result text.now) }
 {
     for (count, byte) in text.iter().enumerate() {
         if !byte.is_ascii_digit() {
@@ -60,7 +62,8 @@ fn hex_digit(byte: u8) -> Option<u8>
 
 // The byte of two hexadecimal digits, if they are digits.
 fn byte_of(high: u8, low: u8) -> Option<u8>
-    ensures { IfSome result (λ b. AreDigitsOf b high low) }
+    ensures digits { IfSome result (λ b. AreDigitsOf b high low) }
+    ensures takes { (b : ℕ) → AreDigitsOf b high low → result ≡ Some b }
 {
     let high = hex_digit(high)?;
     let low = hex_digit(low)?;
@@ -70,6 +73,8 @@ fn byte_of(high: u8, low: u8) -> Option<u8>
 // The byte by whose two digits the text begins, and what follows these.
 fn split_byte(text: &[u8]) -> Option<(u8, &[u8])>
     ensures front { IfSome result (λ r. (high : ℕ) × (low : ℕ) × (text.now ≡ high ∷ low ∷ r.1.now) × AreDigitsOf r.0 high low) }
+    ensures takes { (b high low : ℕ) (rest : List ℕ) → text.now ≡ high ∷ low ∷ rest → AreDigitsOf b high low
+        → MatchOption result ⊥ (λ r. (r.0 ≡ b) × (r.1.now ≡ rest)) }
     ensures within { IfSome result (λ r. length r.1.now < length text.now) }
 {
     let (high, after) = text.split_first()?;
@@ -81,6 +86,7 @@ fn split_byte(text: &[u8]) -> Option<(u8, &[u8])>
 // The bytes of the pairs of hexadecimal digits at the front of a text, and what follows them.
 fn split_hex(alloc: Global, text: &[u8]) -> Result<(Vec<u8>, &[u8]), NoMemory>
     ensures front { IfOk result (λ r. IsDigitsFront r.0.items text.now r.1.now) }
+    ensures takes { IfOk result (λ r. TakesDigits r.0.items text.now r.1.now) }
     ensures within { IfOk result (λ r. length r.1.now ≤ length text.now) }
 {
     let mut bytes = Vec::new(alloc);
@@ -102,6 +108,8 @@ fn stands_for_itself(byte: u8) -> bool
 // The byte of a name at the front of a text, and what follows it: a byte by itself, or by its digits.
 fn split_name_byte(text: &[u8]) -> Option<(u8, &[u8])>
     ensures front { IfSome result (λ r. (front : List ℕ) × (text.now ≡ front ++ r.1.now) × SpellsNameByte r.0 front) }
+    ensures takes { (b : ℕ) (front rest : List ℕ) → text.now ≡ front ++ rest → SpellsNameByte b front
+        → MatchOption result ⊥ (λ r. (r.0 ≡ b) × (r.1.now ≡ rest)) }
     ensures within { IfSome result (λ r. length r.1.now < length text.now) }
 {
     let (first, after) = text.split_first()?;
@@ -122,6 +130,8 @@ fn split_name_byte(text: &[u8]) -> Option<(u8, &[u8])>
 // The bytes of a name up to its closing quote, and what follows that; nothing where there is none.
 fn split_name(alloc: Global, text: &[u8]) -> Result<Option<(Vec<u8>, &[u8])>, NoMemory>
     ensures front { IfOk result (λ r. IfSome r (λ p. IsNameFront p.0.items text.now (0x22 ∷ p.1.now))) }
+    ensures takes { (bytes inside rest : List ℕ) → text.now ≡ inside ++ 0x22 ∷ rest → SpellsNameBytes bytes inside
+        → IfOk result (λ r. MatchOption r ⊥ (λ p. (p.0.items ≡ bytes) × (p.1.now ≡ rest))) }
     ensures within { IfOk result (λ r. IfSome r (λ p. length p.1.now < length text.now)) }
 {
     let mut name = Vec::new(alloc);
@@ -139,122 +149,145 @@ fn split_name(alloc: Global, text: &[u8]) -> Result<Option<(Vec<u8>, &[u8])>, No
     Ok(None)
 }
 
+// A name in quotes at the front of a text, and what follows it; nothing where there is none.
+fn split_quoted(alloc: Global, text: &[u8]) -> Result<Option<(Vec<u8>, &[u8])>, NoMemory>
+    ensures front { IfOk result (λ r. IfSome r (λ p. IsQuotedFront p.0.items text.now p.1.now)) }
+    ensures takes { (bytes front rest : List ℕ) → text.now ≡ front ++ rest → SpellsName bytes front
+        → IfOk result (λ r. MatchOption r ⊥ (λ p. (p.0.items ≡ bytes) × (p.1.now ≡ rest))) }
+    ensures within { IfOk result (λ r. IfSome r (λ p. length p.1.now < length text.now)) }
+{
+    let Some((first, inside)) = text.split_first() else {
+        return Ok(None);
+    };
+    if *first != b'"' {
+        return Ok(None);
+    }
+    split_name(alloc, inside)
+}
+
 impl<'a> Cursor<'a> {
     // Passes over this byte.
-    fn byte(&mut self, wanted: u8) -> Result<(), ReadStop>
-        ensures reads { OnOk result (Reads (byte wanted ∷ []) self.old self.new) }
-        ensures within { OnOk result (length self.new.rest < length self.old.rest) }
+    fn byte(&mut self, wanted: u8)
+        ensures reads { ReadsByte wanted self.old self.new }
     {
         let Some((first, after)) = self.rest().split_first() else {
-            return Err(self.bad_line());
+            self.bad();
+            return;
         };
         if *first != wanted {
-            return Err(self.bad_line());
+            self.bad();
+            return;
         }
         self.advance_to(after);
-        Ok(())
     }
 
     // Passes over one space or more.
-    fn gap(&mut self) -> Result<(), ReadStop>
-        ensures reads { OnOk result (Reads (gap ∷ []) self.old self.new) }
-        ensures within { OnOk result (length self.new.rest < length self.old.rest) }
+    fn gap(&mut self)
+        ensures reads { ReadsGap self.old self.new }
     {
-        self.byte(b' ')?;
+        self.byte(b' ');
         self.pass_spaces();
-        Ok(())
     }
 
     // Passes over a byte of words.
-    fn word_byte(&mut self, wanted: u8) -> Result<(), ReadStop>
-        ensures reads { OnOk result (Reads (word_piece wanted ∷ []) self.old self.new) }
-        ensures within { OnOk result (length self.new.rest < length self.old.rest) }
+    fn word_byte(&mut self, wanted: u8)
+        ensures reads { ReadsWords (wanted ∷ []) self.old self.new }
     {
         if wanted == b' ' {
-            return self.gap();
+            self.gap();
+        } else {
+            self.byte(wanted);
         }
-        self.byte(wanted)
     }
 
     /// Passes over words. Each space of these stands for one space or more.
-    pub fn words(&mut self, text: &[u8]) -> Result<(), ReadStop>
-        ensures reads { OnOk result (Reads (words text.now) self.old self.new) }
-        ensures within { OnOk result (length self.new.rest + length text.now ≤ length self.old.rest) }
+    pub fn words(&mut self, text: &[u8])
+        ensures reads { ReadsWords text.now self.old self.new }
+        ensures within { length self.new.rest ≤ length self.old.rest }
+        ensures shorter { IsSound self.new → length self.new.rest + length text.now ≤ length self.old.rest }
     {
         for byte in text {
-            self.word_byte(*byte)?;
+            self.word_byte(*byte);
         }
-        Ok(())
     }
 
     /// Whether these bytes come next.
-    pub fn is_next(&self, bytes: &[u8]) -> bool {
+    pub fn is_next(&self, bytes: &[u8]) -> bool
+        ensures { IsTrue result ↔ IsFront bytes.now self.now.rest }
+    {
         self.rest().starts_with(bytes)
     }
 
     /// The byte that comes next after any spaces, if one does.
-    pub fn after_gap(&self) -> Option<u8> {
+    pub fn after_gap(&self) -> Option<u8>
+        ensures { IsAfterGap result self.now.rest }
+    {
         after_spaces(self.rest()).first().copied()
     }
 
     /// Passes over a number. Returns nothing where 64 bits do not hold it.
-    pub fn numeral(&mut self) -> Result<Option<u64>, ReadStop>
-        ensures reads { IfOk result (λ n. ReadsNumeral n self.old self.new) }
-        ensures within { OnOk result (length self.new.rest < length self.old.rest) }
+    pub fn numeral(&mut self) -> Option<u64>
+        ensures reads { ReadsDigits result self.old self.new }
+        ensures number { IsSound self.new → ReadsNumeral result self.old self.new }
+        ensures within { length self.new.rest ≤ length self.old.rest }
+        ensures shorter { IsSound self.new → length self.new.rest < length self.old.rest }
     {
         let text = self.rest();
         let (digits, after) = text.split_at(count_digits(text));
         if digits.is_empty() {
-            return Err(self.bad_line());
+            self.bad();
+            return None;
         }
         self.advance_to(after);
-        Ok(number_of(digits))
+        number_of(digits)
     }
 
     // Passes over a number of at most `most`, and notes `TooGreat` where it is greater.
-    fn figure(&mut self, most: u64) -> Result<u64, ReadStop>
-        ensures reads { IfOk result (λ n. Reads (figure most n ∷ []) self.old self.new) }
-        ensures most { IfOk result (λ n. n ≤ most) }
-        ensures noted { OnOk result (NotesFigure most self.old self.new) }
-        ensures within { OnOk result (length self.new.rest < length self.old.rest) }
+    fn figure(&mut self, most: u64) -> u64
+        ensures reads { ReadsFigure most result self.old self.new }
+        ensures most { result ≤ most }
+        ensures noted { IsSound self.new → NotesFigure most self.old self.new }
+        ensures within { length self.new.rest ≤ length self.old.rest }
+        ensures shorter { IsSound self.new → length self.new.rest < length self.old.rest }
     {
         let column = self.column();
-        match self.numeral()? {
-            Some(number) if number <= most => Ok(number),
+        match self.numeral() {
+            Some(number) if number <= most => number,
             _ => {
                 self.note(column, BuildReason::TooGreat);
-                Ok(0)
+                0
             }
         }
     }
 
     /// Passes over a number of 64 bits.
-    pub fn number(&mut self) -> Result<u64, ReadStop>
-        ensures reads { IfOk result (λ n. Reads (number_piece n) self.old self.new) }
-        ensures noted { OnOk result (NotesFigure MOST_NUMBER self.old self.new) }
-        ensures within { OnOk result (length self.new.rest < length self.old.rest) }
+    pub fn number(&mut self) -> u64
+        ensures reads { ReadsFigure MOST_NUMBER result self.old self.new }
+        ensures noted { IsSound self.new → NotesFigure MOST_NUMBER self.old self.new }
+        ensures within { length self.new.rest ≤ length self.old.rest }
+        ensures shorter { IsSound self.new → length self.new.rest < length self.old.rest }
     {
         self.figure(u64::MAX)
     }
 
     /// Passes over the position of an entry that another line has.
-    pub fn place(&mut self) -> Result<u32, ReadStop>
-        ensures reads { IfOk result (λ n. Reads (place_piece n) self.old self.new) }
-        ensures noted { OnOk result (NotesFigure MOST_POSITION self.old self.new) }
-        ensures within { OnOk result (length self.new.rest < length self.old.rest) }
+    pub fn place(&mut self) -> u32
+        ensures reads { ReadsFigure MOST_POSITION result self.old self.new }
+        ensures noted { IsSound self.new → NotesFigure MOST_POSITION self.old self.new }
+        ensures within { length self.new.rest ≤ length self.old.rest }
+        ensures shorter { IsSound self.new → length self.new.rest < length self.old.rest }
     {
-        let place = self.figure(u32::MAX as u64)?;
-        Ok(place as u32)
+        self.figure(u32::MAX as u64) as u32
     }
 
     /// Passes over a number of 8 bits.
-    pub fn small(&mut self) -> Result<u8, ReadStop>
-        ensures reads { IfOk result (λ n. Reads (small_piece n) self.old self.new) }
-        ensures noted { OnOk result (NotesFigure MOST_BYTE self.old self.new) }
-        ensures within { OnOk result (length self.new.rest < length self.old.rest) }
+    pub fn small(&mut self) -> u8
+        ensures reads { ReadsFigure MOST_BYTE result self.old self.new }
+        ensures noted { IsSound self.new → NotesFigure MOST_BYTE self.old self.new }
+        ensures within { length self.new.rest ≤ length self.old.rest }
+        ensures shorter { IsSound self.new → length self.new.rest < length self.old.rest }
     {
-        let number = self.figure(u8::MAX as u64)?;
-        Ok(number as u8)
+        self.figure(u8::MAX as u64) as u8
     }
 
     /// Notes what is wrong with a position or a count that the line states at this column: `TooGreat` where it
@@ -268,6 +301,8 @@ impl<'a> Cursor<'a> {
         reason: BuildReason,
     )
         ensures rest { self.new.rest ≡ self.old.rest }
+        ensures line { self.new.line ≡ self.old.line }
+        ensures column { self.new.column ≡ self.old.column }
         ensures right { IsRight self.new → IsRight self.old × (stated ≡ Some right) }
         ensures noted { self.new.error ≡ judged self.old.error column stated most right reason }
     {
@@ -282,13 +317,14 @@ impl<'a> Cursor<'a> {
     }
 
     /// Passes over the position of the line's entry, which is that of the count of such entries before it.
-    pub fn position(&mut self, count: usize) -> Result<(), ReadStop>
-        ensures reads { OnOk result (Reads (position count ∷ []) self.old self.new) }
-        ensures noted { OnOk result (NotesPosition count self.old self.new) }
-        ensures within { OnOk result (length self.new.rest < length self.old.rest) }
+    pub fn position(&mut self, count: usize)
+        ensures reads { ReadsPosition count self.old self.new }
+        ensures noted { IsSound self.new → NotesPosition count self.old self.new }
+        ensures within { length self.new.rest ≤ length self.old.rest }
+        ensures shorter { IsSound self.new → length self.new.rest < length self.old.rest }
     {
         let column = self.column();
-        let stated = self.numeral()?;
+        let stated = self.numeral();
         self.judge(
             column,
             stated,
@@ -296,33 +332,33 @@ impl<'a> Cursor<'a> {
             count as u64,
             BuildReason::Position,
         );
-        Ok(())
     }
 
     /// Passes over a name in quotes.
-    pub fn name(&mut self, alloc: Global) -> Result<Bytes, ReadStop>
-        ensures reads { IfOk result (λ bytes. Reads (name_piece bytes) self.old self.new) }
-        ensures within { OnOk result (length self.new.rest < length self.old.rest) }
+    pub fn name(&mut self, alloc: Global) -> Result<Bytes, NoMemory>
+        ensures reads { IfOk result (λ bytes. ReadsName bytes self.old self.new) }
+        ensures within { length self.new.rest ≤ length self.old.rest }
+        ensures shorter { OnOk result (IsSound self.new → length self.new.rest < length self.old.rest) }
     {
-        self.byte(b'"')?;
-        let Some((name, after)) = split_name(alloc, self.rest())? else {
-            return Err(self.bad_line());
+        let Some((name, after)) = split_quoted(alloc, self.rest())? else {
+            self.bad();
+            return Ok(Bytes::new(alloc));
         };
         self.advance_to(after);
-        Ok(Bytes::from_slice(alloc, &name)?)
+        Bytes::from_slice(alloc, &name)
     }
 
     /// Passes over bytes by their digits, one byte or more.
-    pub fn hex(&mut self, alloc: Global) -> Result<Bytes, ReadStop>
-        ensures reads { IfOk result (λ bytes. Reads (digits bytes ∷ []) self.old self.new) }
-        ensures some { IfOk result (λ bytes. bytes ≢ []) }
-        ensures within { OnOk result (length self.new.rest ≤ length self.old.rest) }
+    pub fn hex(&mut self, alloc: Global) -> Result<Bytes, NoMemory>
+        ensures reads { IfOk result (λ bytes. ReadsHex bytes self.old self.new) }
+        ensures within { length self.new.rest ≤ length self.old.rest }
     {
         let (bytes, after) = split_hex(alloc, self.rest())?;
         if bytes.is_empty() {
-            return Err(self.bad_line());
+            self.bad();
+            return Ok(Bytes::new(alloc));
         }
         self.advance_to(after);
-        Ok(Bytes::from_slice(alloc, &bytes)?)
+        Bytes::from_slice(alloc, &bytes)
     }
 }

@@ -1,10 +1,15 @@
+use Rattle.mufom_build_text.proofs.Loosely.{reads_exactly}
 use Rattle.mufom_build_text.proofs.Reading.{◌▸◌}
-use Rattle.mufom_build.proofs.Entries.{by_word, whole_line}
+use Rattle.mufom_build.proofs.Entries.{by_word, one_line}
 use Rattle.mufom_build.proofs.sections.read_section.Goals as goal
 
-pub returns-clause-lines : goal.returns-clause-lines
-returns-clause-lines c = whole_line (by_word 115 _) (
-    c.in_ok-words.ensures.reads ▸ c.in_ok-position.ensures.reads ▸ c.in_ok-words-2.ensures.reads ▸ c.in_ok-name.ensures.reads
-    ▸ c.in_ok-words-3.ensures.reads ▸ c.in_ok-absolute.ensures.reads ▸ c.in_ok-purpose.ensures.reads ▸ c.in_ok-words-4.ensures.reads
-    ▸ c.in_ok-size.ensures.reads ▸ c.in_ok-words-5.ensures.reads ▸ c.in_ok-align.ensures.reads ▸ c.in_ok-base.ensures.reads)
-    c.in_ok-end_line.ensures.right c.in_ok-end_line.ensures.ends
+pub returns : goal.returns
+returns c =
+    let (lines, shorter) = one_line (by_word 115 _) (
+    reads_exactly c.words.ensures.reads ▸ reads_exactly c.position.ensures.reads ▸ reads_exactly c.words-2.ensures.reads
+    ▸ reads_exactly c.in_ok-name.ensures.reads ▸ reads_exactly c.words-3.ensures.reads
+    ▸ c.read_type-absolute.ensures.reads ▸ c.read_purpose-purpose.ensures.reads ▸ reads_exactly c.words-4.ensures.reads
+    ▸ reads_exactly c.number-size.ensures.reads ▸ reads_exactly c.words-5.ensures.reads
+    ▸ reads_exactly c.number-align.ensures.reads ▸ c.read_base-base.ensures.reads)
+    c.in_ok-end_line.ensures.right c.in_ok-end_line.ensures.ends c.in_ok-end_line.ensures.within in
+    record { lines = lines; within = shorter }

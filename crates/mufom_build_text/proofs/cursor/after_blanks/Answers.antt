@@ -14,5 +14,6 @@ loop-first-preserved c =
       front = blank_more _ _ _ _ c.loop-first.invariant.front c.in-Some.ensures.cases.0 blank;
       line = omega (arith, c.in-Some.ensures.cases.1);
       column = omega (arith, c.in-Some.ensures.cases.1);
+      positive = c.place_after.ensures.positive;
       within = omega (arith, c.in-Some.ensures.cases.1);
     }

@@ -7,6 +7,7 @@ invariant-loop-first l = record {
   front : IsBlankFront l.text l.rest;
   line : l.line + length l.rest < 2 ^ 32;
   column : l.column + length l.rest < 2 ^ 32;
+  positive : 0 < l.column;
   within : length l.rest ≤ length l.text;
 }
 

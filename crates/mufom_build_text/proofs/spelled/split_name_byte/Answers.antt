@@ -1,4 +1,4 @@
-use Rattle.std.proofs.Common.{◌≡◌, ◌∷◌, ap, sym, ◌∙◌}
+use Rattle.std.proofs.Common.{◌∷◌, ap, sym, ◌∙◌}
 use Rattle.mufom_build_text.proofs.Fronts.{by_itself, by_digits}
 use Rattle.mufom_build_text.proofs.spelled.split_name_byte.Goals as goal
 

@@ -1,4 +1,4 @@
-use Rattle.std.proofs.Common.{◌≡◌, ◌∷◌, ◌++◌, [], List, length, refl, ap, ◌∙◌, arith}
+use Rattle.std.proofs.Common.{◌∷◌, ◌++◌, [], refl, ap, ◌∙◌, arith}
 use Rattle.mufom_build_text.proofs.InfixReading.{between, closed, whole_read}
 use Rattle.mufom_build_text.proofs.Lists.{empty}
 use Rattle.mufom_build_text.proofs.expression.Infix.close.Goals as goal
@@ -10,11 +10,11 @@ returns-in-First-clause-reads c = λ start behind. between start c.loop-frame.cu
 
 pub loop-frame-preserved : goal.loop-frame-preserved
 loop-frame-preserved c = record {
-  reads = λ start behind. closed start c.loop-frame.cursor c.words.new.self c.loop-frame.self c.add.new.self c.pop.new.self.items c.in-Last.function
+  reads = λ start behind. closed start c.loop-frame.cursor c.pass.new.cursor c.loop-frame.self c.add.new.self c.pop.new.self.items c.in-Last.function
       (c.loop-frame.invariant.reads start behind)
       (c.in-Some.ensures.items ∙ ap (λ f. c.pop.new.self.items ++ f ∷ []) c.in-Last.is)
-      c.in_ok-words.ensures.reads c.in_ok-add.ensures.frames c.in_ok-add.ensures.long c.in_ok-add.ensures.tokens;
-  within = omega (arith, c.in_ok-words.ensures.within);
+      c.in_ok-pass.ensures.reads c.in_ok-add.ensures.frames c.in_ok-add.ensures.long c.in_ok-add.ensures.tokens;
+  within = omega (arith, c.in_ok-pass.ensures.within);
 }
 
 pub returns-clause-reads : goal.returns-clause-reads

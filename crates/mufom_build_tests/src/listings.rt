@@ -1,6 +1,6 @@
 //! Listings that are built and printed again, and the errors of others.
 
-use crate::{BuildReason, BuildRefusal, build};
+use mufom_build::{BuildReason, BuildRefusal, build};
 use mufom_module::Defect;
 use mufom_text::{TextForm, text_bytes};
 use std::alloc::Global;
