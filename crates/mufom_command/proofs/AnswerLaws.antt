@@ -1,18 +1,23 @@
 -- The error line after the work of a command: the answer keeps its cause. And the answer is complete, since a run comes to one end.
-use Rattle.std.proofs.Common.{◌≡◌, ◌≢◌, ◌⊎◌, ℕ, ◌≤◌, List, Option, Some, None, Result, Ok, Err, OnSome, take, refl, sym, ap, subst, ◌∙◌, inl, inr, arith}
+use Rattle.std.proofs.Common.{◌≡◌, ◌≢◌, ◌⊎◌, ℕ, ◌≤◌, Bool, true, false, List, Option, Some, None, Result, Ok, Err, OnSome, take, refl, sym, ap, subst, ◌∙◌, inl, inr, arith}
 use Rattle.std.proofs.lemmas.List.{append-nil}
 use Rattle.mufom_host.specs.World.{Faults, Meaning, NamedFile, GrowsBy, GrowsByPrefix, OnlyPrintsErrors}
 use Rattle.mufom_words.specs.declared.command.Command.{Command}
 use Rattle.mufom_words.specs.declared.stop.WordsStop.{WordsStop}
 use Rattle.mufom_words.specs.declared.stop.WordsStop.TheVariants as words_stop
+use Rattle.mufom_words.specs.Answer.{answer_of}
+use Rattle.mufom_words.specs.Explain.{explained}
+use Rattle.mufom_words.specs.Options.{explains}
 use Rattle.mufom_command.specs.declared.outcome.Outcome.{Outcome}
 use Rattle.mufom_command.specs.declared.outcome.Outcome.TheVariants as outcome
 use Rattle.mufom_groups.specs.Work.{Work}
 use Rattle.mufom_command.specs.Stop.{Stop}
 use Rattle.mufom_command.specs.Commands.{Output, printed, made, work_of}
 use Rattle.mufom_command.specs.Complaint.{complaint}
-use Rattle.mufom_command.specs.Run.{AddsErrorLine, AnswersBy, AnswersFor, IsOpenedCount, NoneFalls, OpensBy}
-use Rattle.mufom_command.specs.RunParts.{Does, DoesBy, IsPrintedAs, MayLackMemory}
+use Rattle.mufom_command.specs.Contract.{AnswersBy, AnswersWith, OpensFor, OpensWith}
+use Rattle.mufom_command.specs.Explain.{EndsBy, EndsFor, ExplainsTo, IsExplanation}
+use Rattle.mufom_command.specs.Run.{AddsErrorLine, AnswersFor, BeginsText, IsOpenedCount, NoneFalls, OpensBy, PrintsText}
+use Rattle.mufom_command.specs.RunParts.{DoesBy, DoesWith, IsPrintedAs, MayLackMemory}
 use Rattle.mufom_command.specs.Run.{OpensInputs, PrintsErrorLine, PutsOut, PutsOutNothing, PutsOutPrefix, inputs_of, stop_answer}
 use Rattle.mufom_command.proofs.InputLaws.{call_between}
 
@@ -79,45 +84,131 @@ module _ (old mid : Meaning) (before between : Faults) (err : Option (List ℕ))
   stop-after s o result (inl same) (inr is) = inr (same ∙ is)
   stop-after s o result (inr (same, may)) is = inr same
 
-  all-after : (r : Result Command WordsStop) (o result : Outcome) → IsPrintedAs o result → between.complaints ≤ complaints
-      → DoesBy r (call_between old mid before between) o
-      → AnswersBy r (call_between old new before now) result × OpensBy r (call_between old new before now) result × NoneFalls (call_between old new before now)
-  all-after (Ok c) o result shown later does = (
-    answers-after c (λ files. work_of c.verb files c) o result shown does.answers,
-    opens-after c o result shown does.opens,
-    record { reads = does.counts.reads; writes = does.counts.writes; complaints = let first = does.counts.complaints in omega (arith, first, later) },
-  )
-  all-after (Err s) o result shown later (is, stays, counts) = (
-    record { is = stop-after s o result shown is; stays = ap (λ (m : Meaning). record m { err = err }) stays },
-    ap (λ (m : Meaning). m.opened) stays,
-    record {
-      reads = let same = ap (λ (f : Faults). f.reads) counts in omega (arith, same);
-      writes = let same = ap (λ (f : Faults). f.writes) counts in omega (arith, same);
-      complaints = let same = ap (λ (f : Faults). f.complaints) counts in omega (arith, same, later);
-    },
-  )
+  -- ---- a text on other arguments
+
+  explanation-kept : (words : List (List ℕ)) (text : List ℕ) → IsExplanation words (call_between old mid before between) text
+      → IsExplanation words (call_between old new before now) text
+  explanation-kept words text is = record {
+    answer = is.answer;
+    details = is.details;
+    ends = ends-kept (answer_of words) is.answer is.details is.ends;
+    opens = opens-kept (answer_of words) is.answer is.opens;
+    are = is.are;
+  } where
+    for-kept : (c : Command) (work : List NamedFile → Work Stop Output) (o : Outcome) (details : List ℕ)
+        → EndsFor c work (call_between old mid before between) o details → EndsFor c work (call_between old new before now) o details
+    for-kept c work outcome.Done details is = is
+    for-kept c work (outcome.Refused r) details is = is
+    for-kept c work (outcome.Usage f) details is = absurd is
+    for-kept c work (outcome.ReadFault at) details is = is
+    for-kept c work outcome.WriteFault details is = absurd is
+    for-kept c work outcome.NoMemory details is = absurd is
+
+    ends-kept : (r : Result Command WordsStop) (o : Outcome) (details : List ℕ) → EndsBy r (call_between old mid before between) o details
+        → EndsBy r (call_between old new before now) o details
+    ends-kept (Ok c) o details is = for-kept c (λ files. work_of c.verb files c) o details is
+    ends-kept (Err s) o details is = is
+
+    opens-kept : (r : Result Command WordsStop) (o : Outcome) → OpensBy r (call_between old mid before between) o
+        → OpensBy r (call_between old new before now) o
+    opens-kept (Ok c) o is = record { count = is.count; exact = is.exact; within = is.within; opened = is.opened }
+    opens-kept (Err s) o is = is
+
+  text-kept : (text : List ℕ) → PrintsText text (call_between old mid before between) → PrintsText text (call_between old new before now)
+  text-kept text is = output-kept (printed text) is
+
+  begin-kept : (text : List ℕ) → BeginsText text (call_between old mid before between) → BeginsText text (call_between old new before now)
+  begin-kept text is = prefix-kept (printed text) is
+
+  module _ (words : List (List ℕ)) where
+    explains-kept : (o : Outcome) → ExplainsTo words (call_between old mid before between) o → ExplainsTo words (call_between old new before now) o
+    explains-kept outcome.Done (text, is, puts) = (text, explanation-kept words text is, text-kept text puts)
+    explains-kept (outcome.Refused r) is = absurd is
+    explains-kept (outcome.Usage f) is = absurd is
+    explains-kept (outcome.ReadFault at) is = absurd is
+    explains-kept outcome.WriteFault (rose, (text, is, puts)) = (rose, (text, explanation-kept words text is, begin-kept text puts))
+    explains-kept outcome.NoMemory nothing = nothing-kept nothing
+
+    explains-lacked : (o : Outcome) → MayLackMemory o → ExplainsTo words (call_between old mid before between) o
+        → PutsOutNothing (call_between old new before now)
+    explains-lacked outcome.Done may is = absurd may
+    explains-lacked (outcome.Refused r) may is = absurd is
+    explains-lacked (outcome.Usage f) may is = absurd may
+    explains-lacked (outcome.ReadFault at) may is = absurd is
+    explains-lacked outcome.WriteFault may is = absurd may
+    explains-lacked outcome.NoMemory may is = absurd may
+
+    explains-after : (o result : Outcome) → IsPrintedAs o result → ExplainsTo words (call_between old mid before between) o
+        → ExplainsTo words (call_between old new before now) result
+    explains-after o result (inl same) is = subst (λ (x : Outcome). ExplainsTo words (call_between old new before now) x) (sym same) (explains-kept o is)
+    explains-after o result (inr (same, may)) is = subst (λ (x : Outcome). ExplainsTo words (call_between old new before now) x) (sym same)
+        (explains-lacked o may is)
+
+    some-kept : (r : Result Command WordsStop) → OpensBy r (call_between old mid before between) outcome.NoMemory
+        → OpensBy r (call_between old new before now) outcome.NoMemory
+    some-kept (Ok c) is = record { count = is.count; exact = is.exact; within = is.within; opened = is.opened }
+    some-kept (Err s) is = is
+
+  module _ (words : List (List ℕ)) where
+    later-counts : between.complaints ≤ complaints → NoneFalls (call_between old mid before between) → NoneFalls (call_between old new before now)
+    later-counts later is = record { reads = is.reads; writes = is.writes; complaints = let first = is.complaints in omega (arith, first, later) }
+
+    with-after : (b : Bool) (c : Command) (o result : Outcome) → IsPrintedAs o result → between.complaints ≤ complaints
+        → DoesWith b words c (call_between old mid before between) o
+        → AnswersWith b words c (call_between old new before now) result × OpensWith b words c (call_between old new before now) result
+        × NoneFalls (call_between old new before now)
+    with-after true c o result shown later does = (
+      explains-after (explained words) o result shown does.answers,
+      some-kept (explained words) (answer_of (explained words)) does.opens,
+      later-counts later does.counts,
+    )
+    with-after false c o result shown later does = (
+      answers-after c (λ files. work_of c.verb files c) o result shown does.answers,
+      opens-after c o result shown does.opens,
+      later-counts later does.counts,
+    )
+
+    all-after : (r : Result Command WordsStop) (o result : Outcome) → IsPrintedAs o result → between.complaints ≤ complaints
+        → DoesBy words r (call_between old mid before between) o
+        → AnswersBy words r (call_between old new before now) result × OpensFor words r (call_between old new before now) result
+        × NoneFalls (call_between old new before now)
+    all-after (Ok c) o result shown later does = with-after (explains c.verb) c o result shown later does
+    all-after (Err s) o result shown later (is, stays, counts) = (
+      record { is = stop-after s o result shown is; stays = ap (λ (m : Meaning). record m { err = err }) stays },
+      ap (λ (m : Meaning). m.opened) stays,
+      record {
+        reads = let same = ap (λ (f : Faults). f.reads) counts in omega (arith, same);
+        writes = let same = ap (λ (f : Faults). f.writes) counts in omega (arith, same);
+        complaints = let same = ap (λ (f : Faults). f.complaints) counts in omega (arith, same, later);
+      },
+    )
 
 -- the answer after its error line, and what stands before it was printed
-pub record IsAnswered (r : Result Command WordsStop) (old new : Meaning) (before now : Faults) (result : Outcome) : Type 0 where
-  pub answers : AnswersBy r (call_between old new before now) result
-  pub opens : OpensBy r (call_between old new before now) result
+pub record IsAnswered (words : List (List ℕ)) (r : Result Command WordsStop) (old new : Meaning) (before now : Faults) (result : Outcome) : Type 0 where
+  pub answers : AnswersBy words r (call_between old new before now) result
+  pub opens : OpensFor words r (call_between old new before now) result
   pub counts : NoneFalls (call_between old new before now)
 
-pub answered : (r : Result Command WordsStop) (old mid new : Meaning) (before between now : Faults) (o result : Outcome) → IsPrintedAs o result
-    → OnlyPrintsErrors mid new between now
-    → DoesBy r (call_between old mid before between) o → IsAnswered r old new before now result
-answered r old mid new before between now o result shown (stays, counts, later) does =
-    let all = all-after old mid before between new.err now.complaints r o result shown later does in
-    subst (λ (m : Meaning). IsAnswered r old m before now result) (sym stays)
-    (subst (λ (f : Faults). IsAnswered r old (record mid { err = new.err }) before f result) (sym counts)
+pub answered : (words : List (List ℕ)) (r : Result Command WordsStop) (old mid new : Meaning) (before between now : Faults) (o result : Outcome)
+    → IsPrintedAs o result → OnlyPrintsErrors mid new between now
+    → DoesBy words r (call_between old mid before between) o → IsAnswered words r old new before now result
+answered words r old mid new before between now o result shown (stays, counts, later) does =
+    let all = all-after old mid before between new.err now.complaints words r o result shown later does in
+    subst (λ (m : Meaning). IsAnswered words r old m before now result) (sym stays)
+    (subst (λ (f : Faults). IsAnswered words r old (record mid { err = new.err }) before f result) (sym counts)
     (record { answers = all.0; opens = all.1; counts = all.2 }))
 
 -- ---- the error output before the error line
 
-pub err-before : (r : Result Command WordsStop) (old mid : Meaning) (before between : Faults) (o : Outcome)
-    → DoesBy r (call_between old mid before between) o → (mid.err ≡ old.err) × (before.complaints ≤ between.complaints)
-err-before (Ok c) old mid before between o does = (does.err, does.counts.complaints)
-err-before (Err s) old mid before between o (is, stays, counts) =
+err-with : (words : List (List ℕ)) (b : Bool) (c : Command) (old mid : Meaning) (before between : Faults) (o : Outcome)
+    → DoesWith b words c (call_between old mid before between) o → (mid.err ≡ old.err) × (before.complaints ≤ between.complaints)
+err-with words true c old mid before between o does = (does.err, does.counts.complaints)
+err-with words false c old mid before between o does = (does.err, does.counts.complaints)
+
+pub err-before : (words : List (List ℕ)) (r : Result Command WordsStop) (old mid : Meaning) (before between : Faults) (o : Outcome)
+    → DoesBy words r (call_between old mid before between) o → (mid.err ≡ old.err) × (before.complaints ≤ between.complaints)
+err-before words (Ok c) old mid before between o does = err-with words (explains c.verb) c old mid before between o does
+err-before words (Err s) old mid before between o (is, stays, counts) =
     (ap (λ (m : Meaning). m.err) stays, let same = ap (λ (f : Faults). f.complaints) counts in omega (arith, same))
 
 adds-since : (old mid new : Meaning) (before between now : Faults) (text : List ℕ) → mid.err ≡ old.err → before.complaints ≤ between.complaints
@@ -145,31 +236,35 @@ line-since old mid new before between now outcome.NoMemory same later line =
 
 -- ---- what the words ask for
 
-pub does-command : (r : Result Command WordsStop) (c : Command) (old new : Meaning) (before now : Faults) (o : Outcome) → r ≡ Ok c
-    → Does c (λ files. work_of c.verb files c) (call_between old new before now) o
-    → DoesBy r (call_between old new before now) o
-does-command r c old new before now o same does = subst (λ (x : Result Command WordsStop). DoesBy x (call_between old new before now) o) (sym same) does
-
 opens-none : (names : List (List ℕ)) (o : Option (List (List ℕ))) → OnSome o (GrowsBy o o (take 0 names))
 opens-none names None = tt
 opens-none names (Some l) = ap (λ (x : List (List ℕ)). Some x) (sym (append-nil l))
 
-does-nothing : (r : Result Command WordsStop) (m : Meaning) (f : Faults) → DoesBy r (call_between m m f f) outcome.NoMemory
-does-nothing (Ok c) m f = record {
-  answers = refl;
-  opens = record { count = 0; exact = tt; within = omega arith; opened = opens-none (inputs_of c) m.opened };
-  err = refl;
-  counts = record { reads = omega arith; writes = omega arith; complaints = omega arith };
-}
-does-nothing (Err s) m f = (inr refl, refl, refl)
+-- nothing was opened
+pub opens-nothing : (r : Result Command WordsStop) (m : Meaning) (f : Faults) → OpensBy r (call_between m m f f) outcome.NoMemory
+opens-nothing (Ok c) m f = record { count = 0; exact = tt; within = omega arith; opened = opens-none (inputs_of c) m.opened }
+opens-nothing (Err s) m f = refl
+
+same-counts : (m : Meaning) (f : Faults) → NoneFalls (call_between m m f f)
+same-counts m f = record { reads = omega arith; writes = omega arith; complaints = omega arith }
+
+does-nothing-with : (words : List (List ℕ)) (b : Bool) (c : Command) (m : Meaning) (f : Faults) → DoesWith b words c (call_between m m f f) outcome.NoMemory
+does-nothing-with words true c m f =
+    record { answers = refl; opens = opens-nothing (answer_of (explained words)) m f; err = refl; counts = same-counts m f }
+does-nothing-with words false c m f = record { answers = refl; opens = opens-nothing (Ok c) m f; err = refl; counts = same-counts m f }
+
+does-nothing : (words : List (List ℕ)) (r : Result Command WordsStop) (m : Meaning) (f : Faults) → DoesBy words r (call_between m m f f) outcome.NoMemory
+does-nothing words (Ok c) m f = does-nothing-with words (explains c.verb) c m f
+does-nothing words (Err s) m f = (inr refl, refl, refl)
 
 -- the words were refused, or not read
-pub does-words : (r : Result Command WordsStop) (m : Meaning) (f : Faults) (s : WordsStop) (o : Outcome) → o ≡ stop_answer s
-    → (s ≢ words_stop.NoMemory → r ≡ Err s) → DoesBy r (call_between m m f f) o
-does-words r m f words_stop.NoMemory o is refused = subst (λ (x : Outcome). DoesBy r (call_between m m f f) x) (sym is) (does-nothing r m f)
-does-words r m f (words_stop.Usage u) o is refused = subst (λ (x : Result Command WordsStop). DoesBy x (call_between m m f f) o)
+pub does-words : (words : List (List ℕ)) (r : Result Command WordsStop) (m : Meaning) (f : Faults) (s : WordsStop) (o : Outcome) → o ≡ stop_answer s
+    → (s ≢ words_stop.NoMemory → r ≡ Err s) → DoesBy words r (call_between m m f f) o
+does-words words r m f words_stop.NoMemory o is refused =
+    subst (λ (x : Outcome). DoesBy words r (call_between m m f f) x) (sym is) (does-nothing words r m f)
+does-words words r m f (words_stop.Usage u) o is refused = subst (λ (x : Result Command WordsStop). DoesBy words x (call_between m m f f) o)
     (sym (refused (λ same. cc))) (inl is, refl, refl)
-does-words r m f (words_stop.TooManyFiles n) o is refused = subst (λ (x : Result Command WordsStop). DoesBy x (call_between m m f f) o)
+does-words words r m f (words_stop.TooManyFiles n) o is refused = subst (λ (x : Result Command WordsStop). DoesBy words x (call_between m m f f) o)
     (sym (refused (λ same. cc))) (inl is, refl, refl)
-does-words r m f (words_stop.TooDeep n) o is refused = subst (λ (x : Result Command WordsStop). DoesBy x (call_between m m f f) o)
+does-words words r m f (words_stop.TooDeep n) o is refused = subst (λ (x : Result Command WordsStop). DoesBy words x (call_between m m f f) o)
     (sym (refused (λ same. cc))) (inl is, refl, refl)

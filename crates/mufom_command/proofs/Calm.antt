@@ -1,17 +1,18 @@
 -- What a run comes to in which nothing failed and memory was found: it is done exactly where its work comes to an output.
-use Rattle.std.proofs.Common.{◌≡◌, List, Some, Result, Ok, subst, refl}
+use Rattle.std.proofs.Common.{◌≡◌, List, Some, Ok, false, subst, refl}
 use Rattle.mufom_host.specs.World.{NamedFile}
 use Rattle.mufom_words.specs.declared.command.Command.{Command}
-use Rattle.mufom_words.specs.declared.stop.WordsStop.{WordsStop}
-use Rattle.mufom_words.specs.Options.{reads_files}
+use Rattle.mufom_words.specs.Options.{explains, reads_files}
 use Rattle.mufom_words.specs.Answer.{answer_of}
 use Rattle.mufom_groups.specs.Work.{gives, stops}
 use Rattle.mufom_command.specs.declared.outcome.Outcome.{Outcome}
 use Rattle.mufom_command.specs.declared.outcome.Outcome.TheVariants as outcome
 use Rattle.mufom_command.specs.Stop.{Stop}
 use Rattle.mufom_command.specs.Commands.{Output, work_of}
-use Rattle.mufom_command.specs.Run.{Answers, AnswersBy, AnswersFor, Call, PutsOut}
+use Rattle.mufom_command.specs.Contract.{Answers}
+use Rattle.mufom_command.specs.Run.{AnswersFor, Call, PutsOut}
 use Rattle.mufom_command.specs.RunLaws.{IsUndisturbed}
+use Rattle.mufom_command.proofs.Plain.{plain-answers}
 use Rattle.mufom_command.proofs.Runs.{over-files}
 
 -- the work came to this output, and it was put out
@@ -38,9 +39,9 @@ module _ (files : List NamedFile) (call : Call) (c : Command) where
   never-done outcome.WriteFault is calm never = absurd (calm.none.writes is.0)
   never-done outcome.NoMemory is calm never = absurd (calm.memory refl)
 
-  pub answers-for : (words : List (List _)) (result : Outcome) → Answers words call result → answer_of words ≡ Ok c
+  pub answers-for : (words : List (List _)) (result : Outcome) → Answers words call result → answer_of words ≡ Ok c → explains c.verb ≡ false
       → AnswersFor c (λ fs. work_of c.verb fs c) call result
-  answers-for words result is named = subst (λ (r : Result Command WordsStop). AnswersBy r call result) named is
+  answers-for words result is named plain = plain-answers words c named plain call result is
 
   pub done-comes : (result : Outcome) → AnswersFor c (λ fs. work_of c.verb fs c) call result → IsUndisturbed files call result
       → result ≡ outcome.Done → CameTo files c call

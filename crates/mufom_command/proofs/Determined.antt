@@ -10,7 +10,7 @@ use Rattle.mufom_command.proofs.Runs.{complete-by, of-files}
 
 pub answers-determined : AnswersAreDetermined
 answers-determined words files call result reached is calm comes =
-    answer (complete-by call files calm.known (answer_of words) (of-files call files calm.known HoldBytes calm.revealed.bytes) result is reached comes)
+    answer (complete-by call files calm.known words (answer_of words) (of-files call files calm.known HoldBytes calm.revealed.bytes) result is reached comes)
   where
     forced : (o : Outcome) → o ≡ result → IsForced call o → ⊥
     forced outcome.Done same bad = bad

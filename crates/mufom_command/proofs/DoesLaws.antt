@@ -68,7 +68,7 @@ module _ (c : Command) (work : List NamedFile → Work Stop Output) (old mid : M
   opens-all names a (Some l) grows = subst (λ (all : List (List ℕ)). GrowsBy a (Some l) all) (sym (take_all (length names) names (omega arith))) grows
 
   module _ (opened : GrowsBy old.opened mid.opened (inputs_of c)) where
-    opens-read : (new : Meaning) (now : Faults) (result : Outcome) → new.opened ≡ mid.opened → IsOpenedCount c result (length (inputs_of c))
+    pub opens-read : (new : Meaning) (now : Faults) (result : Outcome) → new.opened ≡ mid.opened → IsOpenedCount c result (length (inputs_of c))
         → OpensInputs c (call_between old new before now) result
     opens-read new now result same exact = record {
       count = length (inputs_of c);

@@ -15,7 +15,7 @@ use Rattle.mufom_command.specs.Stop.{Stop, plan_refused, file_refused, past_limi
 use Rattle.mufom_command.specs.Inputs.{ComeTo, accepted}
 use Rattle.mufom_command.specs.Commands.{modules_in, plan_in}
 use Rattle.mufom_command.specs.FilesRead.{FilesStop, IsFileCount, OpensFiles}
-use Rattle.mufom_command.specs.InputsRead.{InputsStop, PlanStops, inputs_in}
+use Rattle.mufom_command.specs.InputsRead.{InputsStop, NamesPlan, PlanStops, inputs_in}
 use Rattle.mufom_command.specs.Run.{IsOpenedCount, OpensInputs, OverFiles, inputs_of}
 use Rattle.mufom_command.proofs.InputLaws.{call_between, grows_by_both, grows_then}
 
@@ -130,6 +130,45 @@ module _ (c : Command) (old mid : Meaning) (before between : Faults) (only : Onl
     within = let sum = length-append (option_to_list c.plan) c.files in omega (arith, sum);
     opened = subst (λ (l : List (List ℕ)). OnSome mid.opened (GrowsBy old.opened mid.opened l)) (sym take-plan) opened;
   }
+
+  -- ---- the plan that an outcome names
+
+  pub plan-named : (stop : Outcome) → PlanStops c.plan (call_between old mid before between) stop → NamesPlan c.plan stop
+  plan-named (outcome.Refused (refusal.Plan r)) why = why.0
+  plan-named (outcome.ReadFault input.Plan) why = why.0
+  plan-named (outcome.ReadFault (input.File n)) why = tt
+  plan-named (outcome.Refused (refusal.Bin count)) why = tt
+  plan-named (outcome.Refused (refusal.Keep kept)) why = tt
+  plan-named (outcome.Refused (refusal.Text r)) why = tt
+  plan-named (outcome.Refused (refusal.Read n r)) why = tt
+  plan-named (outcome.Refused (refusal.InputLimit n)) why = tt
+  plan-named (outcome.Refused (refusal.TooManyFiles n)) why = tt
+  plan-named (outcome.Refused (refusal.TooDeep n)) why = tt
+  plan-named (outcome.Refused (refusal.Link l)) why = tt
+  plan-named (outcome.Refused (refusal.Locate l maus)) why = tt
+  plan-named outcome.Done why = tt
+  plan-named (outcome.Usage f) why = tt
+  plan-named outcome.WriteFault why = tt
+  plan-named outcome.NoMemory why = tt
+
+  pub files-named : (new : Meaning) (now : Faults) (stop : Outcome) → FilesStop (not c.no_debug) c.files (call_between mid new between now) stop
+      → NamesPlan c.plan stop
+  files-named new now (outcome.Refused (refusal.Plan r)) why = absurd why
+  files-named new now (outcome.ReadFault input.Plan) why = absurd why
+  files-named new now (outcome.ReadFault (input.File n)) why = tt
+  files-named new now (outcome.Refused (refusal.Bin count)) why = tt
+  files-named new now (outcome.Refused (refusal.Keep kept)) why = tt
+  files-named new now (outcome.Refused (refusal.Text r)) why = tt
+  files-named new now (outcome.Refused (refusal.Read n r)) why = tt
+  files-named new now (outcome.Refused (refusal.InputLimit n)) why = tt
+  files-named new now (outcome.Refused (refusal.TooManyFiles n)) why = tt
+  files-named new now (outcome.Refused (refusal.TooDeep n)) why = tt
+  files-named new now (outcome.Refused (refusal.Link l)) why = tt
+  files-named new now (outcome.Refused (refusal.Locate l maus)) why = tt
+  files-named new now outcome.Done why = tt
+  files-named new now (outcome.Usage f) why = tt
+  files-named new now outcome.WriteFault why = tt
+  files-named new now outcome.NoMemory why = tt
 
   -- ---- the files were not all read
 

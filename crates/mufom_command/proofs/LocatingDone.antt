@@ -24,6 +24,7 @@ use Rattle.mufom_command.specs.Commands.{Kept, Output, absolute_file, kept_of, l
 use Rattle.mufom_command.specs.Commands.{printed_map, raw_file, txt_file, unless_too_long, work_of, writes, writes_module}
 use Rattle.mufom_command.specs.RunLaws.{Accepts, HasNoFact, IsLocating, LocatingIsDone, MayPutOut}
 use Rattle.mufom_command.proofs.Accepted.{EndsAtFact, accepted-gives, accepted-stops, no-link-fact}
+use Rattle.mufom_command.proofs.Plain.{locates-plainly}
 use Rattle.mufom_command.proofs.Calm.{answers-for, done-comes, never-done}
 use Rattle.mufom_command.proofs.MadeLaws.{location-of}
 use Rattle.mufom_command.proofs.Runs.{kept_of-single, of-files}
@@ -101,6 +102,7 @@ module _ (files : List NamedFile) (c : Command) (plan : Plan) (flat : List Parts
   work-exact verb.Make never may = absurd never
   work-exact verb.Help never may = absurd never
   work-exact verb.Version never may = absurd never
+  work-exact verb.Explain never may = absurd never
   work-exact verb.FromTxt never may = absurd never
   work-exact verb.Locate is may = exactly (λ ms plan kept. absolute_file) (λ kept r keeps there s ends. module-never c.out (absolute_of r) s ends)
   work-exact verb.Txt is may = exactly (λ ms plan kept. txt_file) (λ kept r keeps there s ends. writes-never c.out (txt_text r.runs) s ends)
@@ -113,7 +115,7 @@ module _ (files : List NamedFile) (c : Command) (plan : Plan) (flat : List Parts
 pub locating-done : LocatingIsDone
 locating-done words files call result c plan flat is calm named locating accepts may =
     let bytes : HoldBytes files = of-files call files calm.known HoldBytes calm.revealed.bytes in
-    let answer = answers-for files call c words result is named in
+    let answer = answers-for files call c words result is named (locates-plainly c.verb locating) in
     let exact = work-exact files c plan flat bytes accepts c.verb locating may in (
       (λ done. let came = done-comes files call c result answer calm done in exact.0 came.output came.comes),
       (λ none. never-done files call c result answer calm (exact.1 none)),

@@ -133,7 +133,7 @@ module _ (c : Command) (ms : List Parts) (valid : AreValid ms) where
     own-is (Some name) flat is joined own keeps =
         record { kept = own; keeps = rest-kept name M flat sound joined (flat-valid flat is) (gives own) keeps; alike = inl refl }
 
-    own-ends : (keep : Option (List ℕ)) (flat : List Parts) → linked (tree_of c.marks) ms (gives flat) → IsJoined M flat (first_name flat) → (s : Stop)
+    pub own-ends : (keep : Option (List ℕ)) (flat : List Parts) → linked (tree_of c.marks) ms (gives flat) → IsJoined M flat (first_name flat) → (s : Stop)
         → own_kept keep M (stops s) → kept_of keep flat (stops s)
     own-ends None flat is joined s never = absurd never
     own-ends (Some name) flat is joined s ends = rest-kept name M flat sound joined (flat-valid flat is) (stops s) ends

@@ -6,7 +6,7 @@ use Rattle.mufom_words.specs.declared.command.Command.{Command}
 use Rattle.mufom_words.specs.declared.command.Verb.{Verb}
 use Rattle.mufom_words.specs.declared.command.Verb.TheVariants as verb
 use Rattle.mufom_words.specs.declared.stop.WordsStop.{WordsStop}
-use Rattle.mufom_words.specs.Options.{makes_modules, reads_files, reads_plan}
+use Rattle.mufom_words.specs.Options.{explains, makes_modules, reads_files, reads_plan}
 use Rattle.mufom_words.specs.Sound.{IsSound}
 use Rattle.mufom_words.proofs.Sound.{words-sound}
 use Rattle.mufom_meaning.specs.Facts.{LocateFact}
@@ -19,7 +19,8 @@ use Rattle.mufom_command.specs.declared.outcome.Outcome.{Outcome}
 use Rattle.mufom_command.specs.declared.outcome.Outcome.TheVariants as outcome
 use Rattle.mufom_command.specs.Commands.{located_unless, making, work_of}
 use Rattle.mufom_command.specs.MakeLaws.{LacksWritesOrMemory, MakeIsDone}
-use Rattle.mufom_command.specs.Run.{AnswersBy, AnswersFor, Call, IsInputReached, IsStopped, OverFiles}
+use Rattle.mufom_command.proofs.Plain.{plain-answers}
+use Rattle.mufom_command.specs.Run.{AnswersFor, Call, IsInputReached, IsStopped, OverFiles}
 use Rattle.mufom_command.specs.Stop.{Stop}
 
 -- the work of `make` has no end without an output
@@ -58,6 +59,5 @@ module _ (c : Command) (sound : IsSound c) (makes : c.verb ≡ verb.Make) where
 
 pub make-done : MakeIsDone
 make-done words call result c answers is makes =
-    let by : AnswersFor c (λ files. work_of c.verb files c) call result
-    = subst (λ (r : Result Command WordsStop). AnswersBy r call result) is answers in
+    let by : AnswersFor c (λ files. work_of c.verb files c) call result = plain-answers words c is (ap explains makes) call result answers in
     ends c (words-sound words c is) makes call result (subst (λ (v : Verb). AnswersFor c (λ files. work_of v files c) call result) makes by)

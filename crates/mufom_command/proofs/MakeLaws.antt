@@ -32,7 +32,7 @@ made-units zero some = absurd (omega (arith, some))
 made-units (suc count) some = refl
 
 -- what holds of all lists of files
-over-all : (reads : Bool) (P : List NamedFile → Type 0) (files : Option (List NamedFile)) → ((fs : List NamedFile) → P fs) → OverFiles reads files P
+pub over-all : (reads : Bool) (P : List NamedFile → Type 0) (files : Option (List NamedFile)) → ((fs : List NamedFile) → P fs) → OverFiles reads files P
 over-all false P files all = all
 over-all true P None all = tt
 over-all true P (Some fs) all = all fs
@@ -44,7 +44,7 @@ module _ (c : Command) (no_plan : c.plan ≡ None) (no_files : c.files ≡ []) (
   no-inputs : inputs_of c ≡ []
   no-inputs = λ i. option_to_list (no_plan i) ++ no_files i
 
-  none-opened : GrowsBy old.opened old.opened (inputs_of c)
+  pub none-opened : GrowsBy old.opened old.opened (inputs_of c)
   none-opened = subst (λ (names : List (List ℕ)). GrowsBy old.opened old.opened names) (sym no-inputs) (GrowsBy-refl old.opened)
 
   pub make-ends : (o : Outcome) → EndsAt (located (made_plan c.count) (made_modules c.count)) o

@@ -38,7 +38,8 @@ use Rattle.mufom_prune_laws.proofs.Single.{kept_is_single}
 use Rattle.mufom_groups.specs.Work.{Reached, gives, stops, Work, ◌>>=◌, one_with, sure, with_stops, IsSingle}
 use Rattle.mufom_groups.proofs.Singles.{joined-single, linked-single}
 use Rattle.mufom_groups.proofs.Works.{sure-single, stop_at-single, one_with-single, nowhere-single, stops-single, then-single}
-use Rattle.mufom_words.specs.Options.{reads_files}
+use Rattle.mufom_words.specs.Explain.{explained}
+use Rattle.mufom_words.specs.Options.{explains, reads_files}
 use Rattle.mufom_command.specs.Stop.{Stop, words_refused, plan_refused, file_refused, past_limit, link_fact, keep_unknown, locate_fact, raw_too_long}
 use Rattle.mufom_command.specs.Stop.{text_refused}
 use Rattle.mufom_command.specs.Inputs.{HaveOneVerdict, Verdict, accepted, refused, past_limit as past, ComeTo}
@@ -56,8 +57,10 @@ use Rattle.mufom_command.specs.Commands.{Kept, Output, all_of, printed, made, fo
 use Rattle.mufom_command.specs.Commands.{plan_in, modules_in, maus_of, located, located_unless, linked_file, locating, locating_kept, absolute_file}
 use Rattle.mufom_command.specs.Commands.{map_with, mapped_kept, printed_hit, printed_image, rest_of, rest_of_module}
 use Rattle.mufom_command.specs.Commands.{printed_map, raw_file, reading_text, runs_of_text, runs_unless, text_in, txt_file, unless_past_limit}
-use Rattle.mufom_command.specs.Commands.{unless_too_long, listing, linking, linking_of, work_of, work_by, run_of}
-use Rattle.mufom_command.specs.Run.{AnswersBy, AnswersFor, Call, IsForced, OverFiles, outcome_of, stop_outcome, stop_answer}
+use Rattle.mufom_command.specs.Commands.{unless_too_long, listing, linking, linking_of, work_of, work_by}
+use Rattle.mufom_command.specs.Contract.{Answers, AnswersBy, AnswersWith, run_by, run_of, work_with}
+use Rattle.mufom_command.specs.Explain.{ExplainsTo, explaining}
+use Rattle.mufom_command.specs.Run.{AnswersFor, Call, IsForced, OverFiles, outcome_of, stop_outcome, stop_answer}
 use Rattle.mufom_origins.specs.Origins.{origins_of}
 use Rattle.mufom_map.specs.MapText.{map_text}
 use Rattle.mufom_command.specs.FlatFiles.{AreFlatFiles}
@@ -223,7 +226,7 @@ module _ (files : List NamedFile) (bytes : HoldBytes files) (c : Command) where
       → IsSingle (linking output files c)
   linking-single output single = linking_of-single (λ ms. output) (λ ms. single)
 
-  work_of-single : (v : Verb) → IsSingle (work_of v files c)
+  pub work_of-single : (v : Verb) → IsSingle (work_of v files c)
   work_of-single verb.Show = listing-single (λ ms. flat_map (text_of (form_of c)) ms)
   work_of-single verb.Check = listing-single check_text
   work_of-single verb.Link = linking-single linked_file (linked_file-single c)
@@ -240,15 +243,14 @@ module _ (files : List NamedFile) (bytes : HoldBytes files) (c : Command) where
   work_of-single verb.FromTxt = reading_text-single files c
   work_of-single verb.Help = sure-single (printed (unwrap_or c.help []))
   work_of-single verb.Version = sure-single (printed (unwrap_or c.help []))
+  work_of-single verb.Explain = nowhere-single
   work_of-single verb.Make = then-single (located (made_plan c.count) (made_modules c.count)) (λ r. prints (summary c.count r))
       (located-single (made_plan c.count) (made_modules c.count)) (λ r. sure-single (printed (summary c.count r)))
 
--- A run comes to one end at most.
-pub run_of-single : (words : List (List ℕ)) (files : List NamedFile) → HoldBytes files → IsSingle (run_of words files)
-run_of-single words files bytes = by (answer_of words) where
-  by : (r : Result Command WordsStop) → IsSingle (work_by r files)
-  by (Ok c) = work_of-single files bytes c c.verb
-  by (Err s) = stop_at-single (words_refused s)
+-- The work in the table comes to one end at most.
+pub work_by-single : (r : Result Command WordsStop) (files : List NamedFile) → HoldBytes files → IsSingle (work_by r files)
+work_by-single (Ok c) files bytes = work_of-single files bytes c c.verb
+work_by-single (Err s) files bytes = stop_at-single (words_refused s)
 
 -- ---- so an answer that has its cause is complete
 
@@ -276,21 +278,39 @@ module _ (call : Call) (files : List NamedFile) (known : call.old.files ≡ Some
   refused-end s (gives output) comes = absurd comes
   refused-end s (stops t) comes = ap stop_outcome (sym comes)
 
-  pub complete-by : (r : Result Command WordsStop) → HoldBytes files → (result : Outcome) → AnswersBy r call result → (reached : Reached Stop Output)
-      → work_by r files reached → (result ≡ outcome_of reached) ⊎ IsForced call result
-  complete-by (Ok c) bytes result is reached comes = complete-for c (λ fs. work_of c.verb fs c) (work_of-single files bytes c c.verb) reached comes result is
-  complete-by (Err s) bytes result is reached comes = by is.is where
-    by : (result ≡ stop_answer s) ⊎ (result ≡ outcome.NoMemory) → (result ≡ outcome_of reached) ⊎ IsForced call result
-    by (inl same) = inl (same ∙ refused-end s reached comes)
-    by (inr none) = inr (subst (λ (o : Outcome). IsForced call o) (sym none) tt)
+  module _ (words : List (List ℕ)) where
+    -- a text on other arguments was printed, or that was forced
+    explained-complete : (result : Outcome) → ExplainsTo (explained words) call result → (reached : Reached Stop Output)
+        → explaining (explained words) files reached → (result ≡ outcome_of reached) ⊎ IsForced call result
+    explained-complete outcome.Done is (gives output) comes = inl refl
+    explained-complete outcome.Done is (stops s) comes = absurd comes
+    explained-complete (outcome.Refused r) is reached comes = absurd is
+    explained-complete (outcome.Usage f) is reached comes = absurd is
+    explained-complete (outcome.ReadFault at) is reached comes = absurd is
+    explained-complete outcome.WriteFault is reached comes = inr is.0
+    explained-complete outcome.NoMemory is reached comes = inr tt
+
+    complete-with : (b : Bool) (c : Command) → HoldBytes files → (result : Outcome) → AnswersWith b words c call result → (reached : Reached Stop Output)
+        → work_with b words c files reached → (result ≡ outcome_of reached) ⊎ IsForced call result
+    complete-with true c bytes result is reached comes = explained-complete result is reached comes
+    complete-with false c bytes result is reached comes =
+        complete-for c (λ fs. work_of c.verb fs c) (work_of-single files bytes c c.verb) reached comes result is
+
+    pub complete-by : (r : Result Command WordsStop) → HoldBytes files → (result : Outcome) → AnswersBy words r call result
+        → (reached : Reached Stop Output) → run_by words r files reached → (result ≡ outcome_of reached) ⊎ IsForced call result
+    complete-by (Ok c) bytes result is reached comes = complete-with (explains c.verb) c bytes result is reached comes
+    complete-by (Err s) bytes result is reached comes = by is.is where
+      by : (result ≡ stop_answer s) ⊎ (result ≡ outcome.NoMemory) → (result ≡ outcome_of reached) ⊎ IsForced call result
+      by (inl same) = inl (same ∙ refused-end s reached comes)
+      by (inr none) = inr (subst (λ (o : Outcome). IsForced call o) (sym none) tt)
 
 known-to : {A : Type 0} (P : A → Type 0) (o : Option A) → ((a : A) → o ≡ Some a → P a) → IfSome o P
 known-to P None each = tt
 known-to P (Some a) each = each a refl
 
 -- An answer that has its cause is complete.
-pub answers-complete : (words : List (List ℕ)) (call : Call) (result : Outcome) → IfSome call.old.files HoldBytes → AnswersBy (answer_of words) call result
+pub answers-complete : (words : List (List ℕ)) (call : Call) (result : Outcome) → IfSome call.old.files HoldBytes → Answers words call result
     → IfSome call.old.files (λ files. (reached : Reached Stop Output) → run_of words files reached → (result ≡ outcome_of reached) ⊎ IsForced call result)
 answers-complete words call result bytes is =
     known-to (λ files. (reached : Reached Stop Output) → run_of words files reached → (result ≡ outcome_of reached) ⊎ IsForced call result) call.old.files
-    (λ files known reached comes. complete-by call files known (answer_of words) (of-files call files known HoldBytes bytes) result is reached comes)
+    (λ files known reached comes. complete-by call files known words (answer_of words) (of-files call files known HoldBytes bytes) result is reached comes)

@@ -149,6 +149,7 @@ module _ (c : Command) (plan : Plan) (ms leaves : List Parts) (means : MeansTheS
   put_out-alike verb.FromTxt = same-work nowhere
   put_out-alike verb.Help = same-work nowhere
   put_out-alike verb.Version = same-work nowhere
+  put_out-alike verb.Explain = same-work nowhere
 
 -- A list that earlier runs linked in stages is put out as the list that the stages began with.
 pub stages-alike : StagesMakeNoDifference
@@ -198,6 +199,7 @@ runs-of-stages files c plan flat leaves bytes is_linking leads came = by_verb c.
   by_verb verb.FromTxt never = absurd never
   by_verb verb.Help never = absurd never
   by_verb verb.Version never = absurd never
+  by_verb verb.Explain never = absurd never
   by_verb verb.Make never = absurd never
   by_verb verb.Map never = absurd never
 

@@ -113,7 +113,7 @@ module _ (c : Command) (name : List ℕ) (no_plan : c.plan ≡ None) (one : c.fi
 
   -- ---- it was not read
 
-  reading-stops : (stop : Outcome) → TextStops name call stop → ReadingStops (λ fs. text_in fs c.files) c call stop
+  pub reading-stops : (stop : Outcome) → TextStops name call stop → ReadingStops (λ fs. text_in fs c.files) c call stop
   reading-stops (outcome.Refused (refusal.InputLimit n)) (zero, why) = record {
     stop = past_limit 0;
     is = ap (λ k. outcome.Refused (refusal.InputLimit k)) zero;
@@ -162,7 +162,7 @@ module _ (c : Command) (name : List ℕ) (no_plan : c.plan ≡ None) (one : c.fi
   text-count outcome.WriteFault why = absurd why
   text-count outcome.NoMemory why = tt
 
-  text-opens : (stop : Outcome) → TextStops name call stop → OnSome mid.opened (GrowsBy old.opened mid.opened (name ∷ [])) → OpensInputs c call stop
+  pub text-opens : (stop : Outcome) → TextStops name call stop → OnSome mid.opened (GrowsBy old.opened mid.opened (name ∷ [])) → OpensInputs c call stop
   text-opens stop why opened = record {
     count = 1;
     exact = text-count stop why;
@@ -180,10 +180,10 @@ module _ (c : Command) (name : List ℕ) (no_plan : c.plan ≡ None) (one : c.fi
 
   module _ (of_files : reads_files c.verb ≡ true) (text : List ℕ) (opened : GrowsBy old.opened mid.opened (name ∷ []))
       (read : IfSome old.files (λ fs. text_in fs (name ∷ []) (gives text))) where
-    all-opened : GrowsBy old.opened mid.opened (inputs_of c)
+    pub all-opened : GrowsBy old.opened mid.opened (inputs_of c)
     all-opened = subst (λ (l : List (List ℕ)). GrowsBy old.opened mid.opened l) (sym one-input) opened
 
-    is-read : IfSome old.files (λ fs. text_in fs c.files (gives text))
+    pub is-read : IfSome old.files (λ fs. text_in fs c.files (gives text))
     is-read = subst (λ (l : List (List ℕ)). IfSome old.files (λ fs. text_in fs l (gives text))) (sym one) read
 
     pub text-ends : (o : Outcome) → EndsAt (runs_of_text c.maus text) o → Does c (λ files. reading_text files c) call o

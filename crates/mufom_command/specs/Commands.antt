@@ -7,7 +7,6 @@ use Rattle.mufom_words.specs.declared.command.Command.{Command}
 use Rattle.mufom_words.specs.declared.command.Verb.{Verb}
 use Rattle.mufom_words.specs.declared.command.Verb.TheVariants as verb
 use Rattle.mufom_words.specs.declared.stop.WordsStop.{WordsStop}
-use Rattle.mufom_words.specs.Answer.{answer_of}
 use Rattle.mufom_words.specs.Tree.{tree_of}
 use Rattle.mufom_module.specs.declared.module.Parts.{Parts}
 use Rattle.mufom_module.specs.Written.{written}
@@ -313,12 +312,10 @@ work_of verb.Txt = linking (locating txt_file)
 work_of verb.FromTxt = reading_text
 work_of verb.Help = helping
 work_of verb.Version = helping
+-- What `explain` comes to depends on the arguments after its name, which a command does not carry (`run_of`).
+work_of verb.Explain = λ files c. nowhere
 
--- the work of the arguments that give this
+-- the work of arguments that give this, and do not ask for an explanation
 abbrev pub work_by : Result Command WordsStop → List NamedFile → Work Stop Output
 work_by (Ok c) files = work_of c.verb files c
 work_by (Err s) files = stop_at (words_refused s)
-
--- What a run with these arguments over these files comes to.
-abbrev pub run_of : List (List ℕ) → List NamedFile → Work Stop Output
-run_of words files = work_by (answer_of words) files

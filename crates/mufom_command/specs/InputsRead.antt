@@ -44,6 +44,12 @@ PlanStops name call (outcome.ReadFault input.Plan) = IsSome name × Rose call.be
 PlanStops name call outcome.NoMemory = Unit {0}
 PlanStops name call _ = ⊥
 
+-- The outcome names the plan only where a plan is named.
+abbrev pub NamesPlan : Option (List ℕ) → Outcome → Type 0
+NamesPlan plan (outcome.Refused (refusal.Plan r)) = IsSome plan
+NamesPlan plan (outcome.ReadFault input.Plan) = IsSome plan
+NamesPlan plan _ = Unit {0}
+
 -- Why not all was read of what a command reads, where reading it is this work.
 abbrev pub ReadingStops : {A : Type 0} → (List NamedFile → Work Stop A) → Command → Call → Outcome → Type 0
 ReadingStops reading c call (outcome.Refused r) = IsStopped true reading call.old.files (outcome.Refused r)

@@ -6,7 +6,12 @@ pub mod LocateRefusals
 pub mod FlatFiles
 pub mod Commands
 pub mod Run
-pub mod RunParts
+pub mod Topic
+pub mod ExplainText
+pub mod HasDetails
+pub mod Explain
+pub mod Told
+pub mod Contract
 pub mod RunLaws
 pub mod FilesRead
 pub mod InputsRead
@@ -14,3 +19,4 @@ pub mod WorkEnds
 pub mod Making
 pub mod MapInputs
 pub mod MakeLaws
+pub mod RunParts

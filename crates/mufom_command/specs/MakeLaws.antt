@@ -6,7 +6,8 @@ use Rattle.mufom_words.specs.declared.command.Verb.TheVariants as verb
 use Rattle.mufom_words.specs.Answer.{answer_of}
 use Rattle.mufom_command.specs.declared.outcome.Outcome.{Outcome}
 use Rattle.mufom_command.specs.declared.outcome.Outcome.TheVariants as outcome
-use Rattle.mufom_command.specs.Run.{Answers, Call}
+use Rattle.mufom_command.specs.Contract.{Answers}
+use Rattle.mufom_command.specs.Run.{Call}
 
 -- a write failed in the call, or memory ran out
 abbrev pub LacksWritesOrMemory : Call → Outcome → Type 0

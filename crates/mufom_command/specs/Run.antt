@@ -1,5 +1,5 @@
--- What the contract of the top call states: the outcome and its cause, what was put out, which inputs were opened, and which error line was
--- printed.
+-- What the contract of the top call speaks of: the outcome of a command and its cause, what was put out, which inputs were opened, and
+-- which error line was printed.
 use Rattle.std.specs.Prelude.{◌≡◌, ◌≢◌, ◌⊎◌, ℕ, ◌+◌, ◌<◌, ◌≤◌, Bool, true, false, not, List, [], ◌∷◌, ◌++◌, length, take, Option, Some, None, Result}
 use Rattle.std.specs.Prelude.{Ok, Err, IfSome, IsSome, OnSome, option_to_list}
 use Rattle.mufom_host.specs.World.{Meaning, Faults, NamedFile, Rose, GrowsBy, GrowsByPrefix}
@@ -7,7 +7,6 @@ use Rattle.mufom_module.specs.declared.module.Parts.{Parts}
 use Rattle.mufom_words.specs.declared.command.Command.{Command}
 use Rattle.mufom_words.specs.declared.stop.WordsStop.{WordsStop}
 use Rattle.mufom_words.specs.declared.stop.WordsStop.TheVariants as words_stop
-use Rattle.mufom_words.specs.Answer.{PrintsHelp, answer_of}
 use Rattle.mufom_words.specs.Options.{reads_files}
 use Rattle.mufom_plan.specs.declared.plan.Plan.{Plan}
 use Rattle.mufom_plan.specs.declared.refusal.PlanRefusal.TheVariants as plan_refusal
@@ -25,7 +24,7 @@ use Rattle.mufom_groups.specs.Work.{Reached, gives, stops, Work}
 use Rattle.mufom_command.specs.LocateRefusals.{locate_refusal}
 use Rattle.mufom_command.specs.Stop.{Stop, words_refused, plan_refused, file_refused, past_limit, link_fact, keep_unknown, locate_fact, raw_too_long}
 use Rattle.mufom_command.specs.Stop.{text_refused}
-use Rattle.mufom_command.specs.Commands.{Output, printed, made, plan_in, work_of, run_of}
+use Rattle.mufom_command.specs.Commands.{Output, printed, made, plan_in}
 
 -- What was outside before a call and after it, and how often calls of the outside had failed.
 pub record Call : Type 0 where
@@ -169,14 +168,6 @@ pub record RefusesWords (stop : WordsStop) (call : Call) (result : Outcome) : Ty
   pub is : (result ≡ stop_answer stop) ⊎ (result ≡ outcome.NoMemory)
   pub stays : call.new ≡ record call.old { err = call.new.err }
 
-abbrev pub AnswersBy : Result Command WordsStop → Call → Outcome → Type 0
-AnswersBy (Ok c) call result = AnswersFor c (λ files. work_of c.verb files c) call result
-AnswersBy (Err s) call result = RefusesWords s call result
-
--- Every outcome has its cause, and exactly its output was made.
-abbrev pub Answers : List (List ℕ) → Call → Outcome → Type 0
-Answers words call result = AnswersBy (answer_of words) call result
-
 -- memory ran out, or a call of the outside failed
 abbrev pub IsForced : Call → Outcome → Type 0
 IsForced call outcome.Done = ⊥
@@ -185,11 +176,6 @@ IsForced call (outcome.Usage f) = ⊥
 IsForced call (outcome.ReadFault at) = Rose call.before.reads call.now.reads
 IsForced call outcome.WriteFault = Rose call.before.writes call.now.writes
 IsForced call outcome.NoMemory = Unit {0}
-
--- What the arguments and the files come to is the outcome, unless it is forced.
-abbrev pub IsComplete : List (List ℕ) → Call → Outcome → Type 0
-IsComplete words call result =
-    IfSome call.old.files (λ files. (reached : Reached Stop Output) → run_of words files reached → (result ≡ outcome_of reached) ⊎ IsForced call result)
 
 -- the names of the inputs, in the order in which they are read
 abbrev pub inputs_of : Command → List (List ℕ)
@@ -220,10 +206,6 @@ abbrev pub OpensBy : Result Command WordsStop → Call → Outcome → Type 0
 OpensBy (Ok c) call result = OpensInputs c call result
 OpensBy (Err s) call result = call.new.opened ≡ call.old.opened
 
--- The inputs of the command, its plan and then its files, were opened in their order, and nothing else was.
-abbrev pub OpensInOrder : List (List ℕ) → Call → Outcome → Type 0
-OpensInOrder words call result = OpensBy (answer_of words) call result
-
 -- the line is added to the error output, or a prefix of it where printing it failed in this call
 abbrev pub AddsErrorLine : Call → List ℕ → Type 0
 AddsErrorLine call text = GrowsBy call.old.err call.new.err text
@@ -239,20 +221,3 @@ pub record NoneFalls (call : Call) : Type 0 where
   pub reads : call.before.reads ≤ call.now.reads
   pub writes : call.before.writes ≤ call.now.writes
   pub complaints : call.before.complaints ≤ call.now.complaints
-
--- ---- the contract
-
--- What is true of a run with these arguments: of the world before it and after it, and of its outcome.
-pub record IsRun (words : List (List ℕ)) (call : Call) (result : Outcome) : Type 0 where
-  -- Every outcome follows from the arguments and the files, or from a failed call of the host that is counted; exactly its output was made.
-  pub answers : Answers words call result
-  -- The outcome is the one that the arguments and the files determine, unless a call of the host failed or memory ran out. This follows from
-  -- `answers`, since arguments and files that hold bytes come to one end at most (`RunsAreSingle`), and the files of a host hold bytes.
-  pub complete : IsComplete words call result
-  -- The inputs that the arguments name were opened in their order, up to the one that the outcome names, and nothing else was.
-  pub opens : OpensInOrder words call result
-  -- Every outcome except `Done` prints its error line.
-  pub line : PrintsErrorLine call result
-  pub counts : NoneFalls call
-  -- The commands that print a text of the program need no memory.
-  pub memory : PrintsHelp words → result ≢ outcome.NoMemory

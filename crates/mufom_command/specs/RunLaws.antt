@@ -32,8 +32,9 @@ use Rattle.mufom_origins.specs.Origins.{FileModule, origins_of}
 use Rattle.mufom_command.specs.FlatFiles.{AreFlatFiles}
 use Rattle.mufom_command.specs.Stop.{Stop}
 use Rattle.mufom_command.specs.Commands.{Kept, Output, made, kept_of, plan_in, modules_in, linked_file, locating, locating_kept, map_with, absolute_file}
-use Rattle.mufom_command.specs.Commands.{printed_hit, printed_image, raw_file, txt_file, work_of, run_of}
-use Rattle.mufom_command.specs.Run.{Call, outcome_of, Answers}
+use Rattle.mufom_command.specs.Commands.{printed_hit, printed_image, raw_file, txt_file, work_of}
+use Rattle.mufom_command.specs.Contract.{Answers, run_of}
+use Rattle.mufom_command.specs.Run.{Call, outcome_of}
 
 -- ---- the outcome of a run
 

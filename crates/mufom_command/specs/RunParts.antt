@@ -1,16 +1,40 @@
 -- What the parts of a run have done: the work of a command, before its error line is printed, and the printing of that line. No clause of
 -- `run` cites them.
-use Rattle.std.specs.Prelude.{◌≡◌, ◌⊎◌, List, ℕ, Result, Ok, Err}
-use Rattle.mufom_host.specs.World.{NamedFile}
+use Rattle.std.specs.Prelude.{◌≡◌, ◌⊎◌, ◌∷◌, ◌<◌, Bool, true, false, List, [], ℕ, length, Option, IfSome, Result, Ok, Err}
+use Rattle.mufom_host.specs.World.{NamedFile, OnlyPrints}
+use Rattle.mufom_module.specs.declared.module.Parts.{Parts}
+use Rattle.mufom_plan.specs.declared.plan.Plan.{Plan}
 use Rattle.mufom_words.specs.declared.command.Command.{Command}
 use Rattle.mufom_words.specs.declared.stop.WordsStop.{WordsStop}
 use Rattle.mufom_words.specs.Answer.{answer_of}
-use Rattle.mufom_groups.specs.Work.{Work}
+use Rattle.mufom_words.specs.Explain.{explained}
+use Rattle.mufom_words.specs.Options.{explains, reads_files}
+use Rattle.mufom_words.specs.Sound.{IsSound}
+use Rattle.mufom_words.specs.Tree.{tree_of}
+use Rattle.mufom_groups.specs.Linked.{linked}
+use Rattle.mufom_groups.specs.Work.{Work, gives}
+use Rattle.mufom_meaning.specs.StagingLaws.{MeansTheSame}
+use Rattle.mufom_origins.specs.declared.origins.Origin.{Origin}
+use Rattle.mufom_origins.specs.Origins.{FileModule, modules_of, origins_of}
 use Rattle.mufom_command.specs.declared.outcome.Outcome.{Outcome}
 use Rattle.mufom_command.specs.declared.outcome.Outcome.TheVariants as outcome
+use Rattle.mufom_command.specs.declared.outcome.Refusal.TheVariants as refusal
+use Rattle.mufom_meaning.specs.declared.located.LocatedParts.{LocatedParts}
+use Rattle.mufom_meaning.specs.Absolute.{absolute_of}
+use Rattle.mufom_numbers.specs.declared.limits.TheConstants.{MOST_FILE_BYTES}
+use Rattle.mufom_words.specs.declared.command.Verb.TheVariants as verb
+use Rattle.mufom_write.specs.Raw.{raw_image}
 use Rattle.mufom_command.specs.Stop.{Stop}
-use Rattle.mufom_command.specs.Commands.{Output, work_of}
-use Rattle.mufom_command.specs.Run.{AnswersFor, Call, NoneFalls, OpensInputs, stop_answer}
+use Rattle.mufom_command.specs.Commands.{IsHeld, Kept, Output, kept_of, kept_origins, work_of}
+use Rattle.mufom_command.specs.FlatFiles.{AreFlatFiles}
+use Rattle.mufom_command.specs.RunLaws.{IsLocating, MayPutOut}
+use Rattle.mufom_command.specs.Explain.{ExplainsTo, OpensSome}
+use Rattle.mufom_command.specs.ExplainText.{explain_text}
+use Rattle.mufom_command.specs.HasDetails.{HasDetails}
+use Rattle.mufom_command.specs.InputsRead.{inputs_in}
+use Rattle.mufom_command.specs.Making.{IsPrinted}
+use Rattle.mufom_command.specs.Run.{AnswersFor, Call, IsOutput, IsStopped, NoneFalls, OpensInputs, PutsOutNothing, stop_answer}
+use Rattle.mufom_command.specs.WorkEnds.{IsOfModules}
 
 -- memory may have run out for the line of these
 abbrev pub MayLackMemory : Outcome → Type 0
@@ -29,13 +53,69 @@ pub record Does (c : Command) (work : List NamedFile → Work Stop Output) (call
   pub err : call.new.err ≡ call.old.err
   pub counts : NoneFalls call
 
-abbrev pub DoesBy : Result Command WordsStop → Call → Outcome → Type 0
-DoesBy (Ok c) call result = Does c (λ files. work_of c.verb files c) call result
-DoesBy (Err s) call result = ((result ≡ stop_answer s) ⊎ (result ≡ outcome.NoMemory)) × (call.new ≡ call.old) × (call.now ≡ call.before)
+-- What a call that explains these arguments has done, before its own error line is printed.
+pub record Explains (words : List (List ℕ)) (call : Call) (result : Outcome) : Type 0 where
+  pub answers : ExplainsTo words call result
+  pub opens : OpensSome words call
+  pub err : call.new.err ≡ call.old.err
+  pub counts : NoneFalls call
+
+-- ---- explaining a command whose inputs were read
+
+-- these are the inputs of the command, where the files are known
+abbrev pub AreReadFrom : Option (List NamedFile) → Command → Plan → List Parts → Type 0
+AreReadFrom files c plan ms = IfSome files (λ fs. inputs_in fs c (gives (plan, ms)))
+
+-- The command is a sound one that locates, these are its inputs, and this is their flat list, which can be linked.
+pub record AreLinkedFlat (files : Option (List NamedFile)) (c : Command) (plan : Plan) (ms : List Parts) (flat : List FileModule) : Type 0 where
+  pub sound : IsSound c
+  pub locating : IsLocating c.verb
+  pub read : AreReadFrom files c plan ms
+  pub are : AreFlatFiles (tree_of c.marks) ms flat
+  pub links : linked (tree_of c.marks) ms (gives (modules_of flat))
+
+-- This is what is kept of such a list, and the module, with these origins, is located in its place: it means the same, and its entries come
+-- from the modules that they came from in the list.
+pub record IsKeptFlat (c : Command) (flat : List FileModule) (object : Parts) (origins : List Origin) (kept : Kept) : Type 0 where
+  pub keeps : kept_of c.keep (modules_of flat) (gives kept)
+  pub same : MeansTheSame (object ∷ []) kept.modules
+  pub from : origins ≡ kept_origins kept.rest (origins_of flat)
+
+-- How a command ends whose inputs were read from these files, before it puts anything out, and the lines of what its outcome names.
+abbrev pub EndsOver : Option (List NamedFile) → Command → Outcome → List ℕ → Type 0
+EndsOver files c outcome.Done details = ((output : Output) × IsOutput c (λ fs. work_of c.verb fs c) files output) × (details ≡ [])
+EndsOver files c (outcome.Refused r) details =
+    (is : IsStopped (reads_files c.verb) (λ fs. work_of c.verb fs c) files (outcome.Refused r)) × IsOfModules is.stop × HasDetails files c is.stop details
+EndsOver files c _ details = ⊥
+
+-- the outcome of a command that located its files: a raw image is too long, or it is done where its absolute module is one that the program
+-- can hold; or memory ran out
+abbrev pub IsLocatedOutcome : Command → LocatedParts → Outcome → Type 0
+IsLocatedOutcome c r outcome.Done = MayPutOut c.verb c r × (c.verb ≡ verb.Locate → IsHeld (absolute_of r))
+IsLocatedOutcome c r (outcome.Refused (refusal.Bin count)) =
+    (c.verb ≡ verb.Bin) × (MOST_FILE_BYTES < length (raw_image c.fill r.runs)) × (count ≡ length (raw_image c.fill r.runs))
+IsLocatedOutcome c r outcome.NoMemory = Unit {0}
+IsLocatedOutcome c r _ = ⊥
+
+-- The text on such an end was printed, and nothing else was put out; or memory ran out.
+pub record Tells (words : List (List ℕ)) (c : Command) (files : Option (List NamedFile)) (call : Call) (result : Outcome) : Type 0 where
+  pub told : (result ≡ outcome.NoMemory) ⊎ ((answer : Outcome) × (details : List ℕ) × EndsOver files c answer details
+      × IsPrinted (explain_text words answer details) call result)
+  pub nothing : result ≡ outcome.NoMemory → PutsOutNothing call
+  pub only : OnlyPrints call.old call.new call.before call.now
+
+-- what a call has done that carries out a command, which explains the arguments after its name or does not
+abbrev pub DoesWith : Bool → List (List ℕ) → Command → Call → Outcome → Type 0
+DoesWith true words c call result = Explains (explained words) call result
+DoesWith false words c call result = Does c (λ files. work_of c.verb files c) call result
+
+abbrev pub DoesBy : List (List ℕ) → Result Command WordsStop → Call → Outcome → Type 0
+DoesBy words (Ok c) call result = DoesWith (explains c.verb) words c call result
+DoesBy words (Err s) call result = ((result ≡ stop_answer s) ⊎ (result ≡ outcome.NoMemory)) × (call.new ≡ call.old) × (call.now ≡ call.before)
 
 -- What a call has done that does what the arguments ask for, before its error line is printed. Where there is no memory it has done nothing.
 abbrev pub DoesWords : List (List ℕ) → Call → Outcome → Type 0
-DoesWords words call result = DoesBy (answer_of words) call result
+DoesWords words call result = DoesBy words (answer_of words) call result
 
 -- these may come where there is no memory at all
 abbrev pub NeedsNoMemory : Outcome → Type 0

@@ -19,8 +19,8 @@ use mufom_titxt::{TxtReason, TxtRefusal};
 use mufom_words::UsageFault;
 use std::alloc::Global;
 
-// A reason's name is its text.
-fn reason_name(reason: Reason) -> &'static str
+/// The name of a reason, as error lines print it.
+pub(crate) fn reason_name(reason: Reason) -> &'static str
     ensures { result.now ≡ reason_text reason }
 {
     match reason {
@@ -61,7 +61,7 @@ fn reason_name(reason: Reason) -> &'static str
     }
 }
 
-/// The line of arguments that are not a command.
+/// The line of an error in the arguments.
 pub(crate) fn usage_line(fault: UsageFault) -> &'static str
     ensures { result.now ≡ complaint (Outcome.Usage fault) }
 {
@@ -81,7 +81,7 @@ pub(crate) fn usage_line(fault: UsageFault) -> &'static str
     }
 }
 
-// The line of a file that is refused.
+// The line of an error in a file.
 fn read_line(alloc: Global, file: u32, refusal: ReadRefusal) -> Result<String, NoMemory>
     ensures { IfOk result (λ text. string_bytes text ≡ complaint (Outcome.Refused (Refusal.Read file refusal))) }
 {
@@ -90,7 +90,7 @@ fn read_line(alloc: Global, file: u32, refusal: ReadRefusal) -> Result<String, N
     Ok(format!(in alloc; "refused: file {file} at {place}: {reason}\n")?)
 }
 
-// The line of the file in which the files pass their limit.
+// The line of the file in which the total length of all files passes the limit.
 fn limit_line(alloc: Global, file: u32) -> Result<String, NoMemory>
     ensures { IfOk result (λ text. string_bytes text ≡ complaint (Outcome.Refused (Refusal.InputLimit file))) }
 {
@@ -121,7 +121,7 @@ fn order_name(order: Order) -> &'static str
     }
 }
 
-// The line of modules that have not all the same descriptor.
+// The line of `Mismatch`.
 fn mismatch_line(alloc: Global, first: Descriptor, other: Descriptor) -> Result<String, NoMemory>
     ensures { IfOk result (λ text. string_bytes text ≡ complaint (Outcome.Refused (Refusal.Link (LinkRefusal.Mismatch first other)))) }
 {
@@ -132,7 +132,7 @@ fn mismatch_line(alloc: Global, first: Descriptor, other: Descriptor) -> Result<
     Ok(format!(in alloc; "refused: link: Mismatch {maus} {order} {other_maus} {other_order}\n")?)
 }
 
-// The line of modules that have a public name twice.
+// The line of `Duplicate`.
 fn duplicate_line(alloc: Global, name: &Bytes) -> Result<Vec<u8>, NoMemory>
     ensures { IfOk result (λ text. text.items ≡ complaint (Outcome.Refused (Refusal.Link (LinkRefusal.Duplicate name.now)))) }
 {
@@ -142,7 +142,7 @@ fn duplicate_line(alloc: Global, name: &Bytes) -> Result<Vec<u8>, NoMemory>
     Ok(line)
 }
 
-// The line of modules that can't be linked.
+// The line of an error in linking.
 fn link_line(alloc: Global, refusal: &LinkRefusal) -> Result<Vec<u8>, NoMemory>
     ensures { IfOk result (λ text. text.items ≡ complaint (Outcome.Refused (Refusal.Link refusal.now))) }
 {
@@ -204,7 +204,7 @@ fn plan_line(alloc: Global, refusal: PlanRefusal) -> Result<Vec<u8>, NoMemory>
     Ok(line)
 }
 
-// The line of modules that can't be located.
+// The line of an error in locating.
 fn locate_line(alloc: Global, refusal: &LocateRefusal, maus: u8) -> Result<Vec<u8>, NoMemory>
     ensures { IfOk result (λ text. text.items ≡ complaint (Outcome.Refused (Refusal.Locate refusal.now maus))) }
 {
@@ -214,7 +214,7 @@ fn locate_line(alloc: Global, refusal: &LocateRefusal, maus: u8) -> Result<Vec<u
     Ok(line)
 }
 
-// The line of a name that is to be kept and that no public symbol has.
+// The line of `Unknown`: no public symbol has the name of `--keep`.
 fn keep_line(alloc: Global, name: &Bytes) -> Result<Vec<u8>, NoMemory>
     ensures { IfOk result (λ text. text.items ≡ complaint (Outcome.Refused (Refusal.Keep name.now))) }
 {
@@ -259,7 +259,7 @@ fn text_line(alloc: Global, refusal: TxtRefusal) -> Result<Vec<u8>, NoMemory>
     Ok(line)
 }
 
-/// The line of a refusal.
+/// The line of an error that the texts call `refused:`.
 pub(crate) fn refusal_line(alloc: Global, refusal: &Refusal) -> Result<Vec<u8>, NoMemory>
     ensures { IfOk result (λ text. text.items ≡ complaint (Outcome.Refused refusal.now)) }
 {

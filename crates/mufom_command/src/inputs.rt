@@ -11,7 +11,7 @@ ghost use Rattle.mufom_groups.specs.Groups.{most_weight};
 ghost use Rattle.mufom_groups.specs.Work.{gives};
 ghost use Rattle.mufom_command.specs.FilesRead.{FileHas, FileStops, FilesStop, HasModule, OpensFiles, outcome_of_source_stop};
 ghost use Rattle.mufom_command.specs.Inputs.{ComeTo, accepted, most_input_bytes};
-ghost use Rattle.mufom_command.specs.InputsRead.{inputs_in, InputsStop};
+ghost use Rattle.mufom_command.specs.InputsRead.{inputs_in, InputsStop, NamesPlan};
 ghost use Rattle.mufom_command.specs.Run.{call_of, inputs_of, OpensInputs};
 
 use crate::outcome::{Input, Outcome, Refusal};
@@ -136,6 +136,7 @@ pub(crate) fn read_inputs<H: Host>(
     ensures valid { IfOk result (λ inputs. AreValid inputs.modules) }
     ensures light { IfOk result (λ inputs. total_weight inputs.modules ≤ most_weight) }
     ensures stops { IfErr result (λ stop. InputsStop command.now (call_of H.meaning H.faults host.old host.new) stop) }
+    ensures named { IfErr result (NamesPlan command.now.plan) }
     ensures opened { IfErr result (λ stop. OpensInputs command.now (call_of H.meaning H.faults host.old host.new) stop) }
     ensures only { OnlyOpens (H.meaning host.old) (H.meaning host.new) (H.faults host.old) (H.faults host.new) }
 {

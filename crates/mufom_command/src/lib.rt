@@ -6,7 +6,8 @@
 //! file of the absolute module of its location by a plan, `dump` prints the image, `bin` makes a file of
 //! its raw bytes and `txt` one of its TI-TXT text, `map` prints what is at which address, and `addr` the
 //! function and the source line at an address. `fromtxt` makes a file of the module of a TI-TXT text. `make` generates modules, locates
-//! them and prints a summary. `help` and `version` print texts of the program. The main clause is the
+//! them and prints a summary. `help` and `version` print texts of the program. `explain` before any of these
+//! prints how it would end, and what its error line names. The main clause is the
 //! contract of [`run`]: each outcome has its cause in the arguments, the files or the counts of faults, and
 //! what was put out, printed as errors and opened is stated exactly.
 #![tactic(auto)]
@@ -14,6 +15,10 @@
 mod command;
 mod complaint;
 mod error_line;
+mod explain;
+mod explain_modules;
+mod explanation;
+mod flat;
 mod help;
 mod images;
 mod inputs;
@@ -28,6 +33,7 @@ mod outcome;
 mod plan_file;
 mod query;
 mod texts;
+mod topic;
 mod whole_file;
 mod writing;
 

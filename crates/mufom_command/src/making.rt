@@ -24,8 +24,8 @@ use std::alloc::Global;
 // How many addressable units an address of the generated modules has.
 const UNITS: u8 = 4;
 
-// The location of `count` generated modules, or the outcome of the run.
-fn generated(alloc: Global, count: u32) -> Result<Located, Outcome>
+/// The location of `count` generated modules, or the outcome of the run.
+pub(crate) fn generated(alloc: Global, count: u32) -> Result<Located, Outcome>
     requires some { 1 ≤ count }
     requires few { count ≤ MOST_MODULES }
     ensures ok { IfOk result (λ r. located (made_plan count) (made_modules count) (gives r)) }

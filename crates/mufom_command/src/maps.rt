@@ -42,12 +42,12 @@ use std::alloc::Global;
 
 /// A module with the origins of its entries.
 #[derive(Drop)]
-struct TracedModule {
+pub(crate) struct TracedModule {
     /// The modules of the flat list, with their files and the numbers of those of their entries that the
     /// module has.
-    origins: Origins,
+    pub(crate) origins: Origins,
     /// The link of the flat list, or what is kept of it.
-    object: Module,
+    pub(crate) object: Module,
 }
 
 /// What a map is printed from.
@@ -61,9 +61,9 @@ struct MapInputs {
     located: Located,
 }
 
-// The module into which the modules of the command are linked, with the members that it contains, or the
-// outcome of the run.
-fn linked_members(
+/// The module into which the modules of the command are linked, with the members that it contains, or the
+/// outcome of the run.
+pub(crate) fn linked_members(
     alloc: Global,
     command: &Command,
     modules: List<Module>,
@@ -86,8 +86,8 @@ fn linked_members(
     }
 }
 
-// The origins of those modules that are linked.
-fn flat_origins(
+/// The origins of those modules that are linked.
+pub(crate) fn flat_origins(
     alloc: Global,
     origins: &Origins,
     linked: &LinkedModules,
@@ -135,9 +135,13 @@ fn pruned_part(alloc: Global, whole: &TracedModule, name: &[u8]) -> Result<Trace
     }
 }
 
-// The module, or what remains of it where the command names a public symbol to keep; or the outcome of
-// the run.
-fn kept_part(alloc: Global, command: &Command, whole: TracedModule) -> Result<TracedModule, Outcome>
+/// The module, or what remains of it where the command names a public symbol to keep; or the outcome of
+/// the run.
+pub(crate) fn kept_part(
+    alloc: Global,
+    command: &Command,
+    whole: TracedModule,
+) -> Result<TracedModule, Outcome>
     requires names { AreDistinct (names_of whole.object.names.publics) }
     requires light { weight whole.object < most_weight + 2 ^ 16 }
     ensures ok { IfOk result (IsKeptPart command.now.keep whole) }

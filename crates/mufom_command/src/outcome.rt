@@ -2,6 +2,7 @@
 
 ghost use Rattle.std.specs.Prelude.{◌≡◌};
 ghost use Rattle.mufom_command.specs.Complaint.{status_of};
+ghost use Rattle.mufom_command.specs.Run.{stop_answer};
 
 use mufom_image::LocateRefusal;
 use mufom_link::LinkRefusal;
@@ -9,7 +10,7 @@ use mufom_numbers::Bytes;
 use mufom_plan::PlanRefusal;
 use mufom_read::ReadRefusal;
 use mufom_titxt::TxtRefusal;
-use mufom_words::UsageFault;
+use mufom_words::{UsageFault, WordsStop};
 
 /// An input of a run.
 #[derive(Clone, Copy, Debug, PartialEq, Eq)]
@@ -75,5 +76,17 @@ impl Outcome {
             Outcome::WriteFault => 4,
             Outcome::NoMemory => 5,
         }
+    }
+}
+
+/// The outcome of arguments that are not a command.
+pub(crate) fn outcome_of_stop(stop: WordsStop) -> Outcome
+    ensures { result ≡ stop_answer stop }
+{
+    match stop {
+        WordsStop::Usage(fault) => Outcome::Usage(fault),
+        WordsStop::TooManyFiles(count) => Outcome::Refused(Refusal::TooManyFiles(count)),
+        WordsStop::TooDeep(depth) => Outcome::Refused(Refusal::TooDeep(depth)),
+        WordsStop::NoMemory => Outcome::NoMemory,
     }
 }

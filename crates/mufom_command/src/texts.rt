@@ -26,16 +26,20 @@ use mufom_titxt::{TxtStop, read_txt, text_module};
 use mufom_words::Command;
 use std::alloc::Global;
 
-// The name of the only file of a command.
-fn only_file(command: &Command) -> &str
+/// The name of the only file of a command.
+pub(crate) fn only_file(command: &Command) -> &str
     requires { length command.now.files ≡ 1 }
     ensures { command.now.files ≡ result.now ∷ [] }
 {
     command.files.as_slice()[0].as_str()
 }
 
-// The bytes of the text with this name, or the outcome of the run if they are not read or are too many.
-fn read_text<H: Host>(alloc: Global, name: &str, host: &mut H) -> Result<Vec<u8>, Outcome>
+/// The bytes of the text with this name, or the outcome of the run if they are not read or are too many.
+pub(crate) fn read_text<H: Host>(
+    alloc: Global,
+    name: &str,
+    host: &mut H,
+) -> Result<Vec<u8>, Outcome>
     ensures text { IfOk result (λ bytes. IfSome (H.meaning host.old).files (λ files. text_in files (name.now ∷ []) (gives bytes.items))) }
     ensures short { IfOk result (λ bytes. length bytes.items ≤ most) }
     ensures stops { IfErr result (λ stop. TextStops name.now (call_of H.meaning H.faults host.old host.new) stop) }
@@ -68,8 +72,8 @@ fn runs_of(alloc: Global, text: &[u8], maus: u8) -> Result<List<Run>, Outcome>
     }
 }
 
-// The module of a text, or the outcome of the run. An address has `maus` units.
-fn module_of(alloc: Global, text: &[u8], maus: u8) -> Result<Module, Outcome>
+/// The module of a text, or the outcome of the run. An address has `maus` units.
+pub(crate) fn module_of(alloc: Global, text: &[u8], maus: u8) -> Result<Module, Outcome>
     requires low { 1 ≤ maus }
     requires high { maus ≤ 8 }
     requires short { length text.now ≤ most }

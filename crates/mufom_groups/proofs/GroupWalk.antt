@@ -51,10 +51,10 @@ get-last (x ∷ xs) n = get-last xs n
 one-less : (xs : List ℕ) (n : ℕ) → length (xs ++ n ∷ []) - 1 ≡ length xs
 one-less xs n = let sum = length-append xs (n ∷ []) in omega (arith, sum)
 
-last-of-more : (begun : List ℕ) (n : ℕ) → last_of (begun ++ n ∷ []) ≡ n
+pub last-of-more : (begun : List ℕ) (n : ℕ) → last_of (begun ++ n ∷ []) ≡ n
 last-of-more begun n = ap (λ (k : ℕ). get_or (begun ++ n ∷ []) k 0) (one-less begun n) ∙ get-last begun n
 
-outer-of-more : (begun : List ℕ) (n : ℕ) → outer (begun ++ n ∷ []) ≡ begun
+pub outer-of-more : (begun : List ℕ) (n : ℕ) → outer (begun ++ n ∷ []) ≡ begun
 outer-of-more begun n = ap (λ (k : ℕ). take k (begun ++ n ∷ [])) (one-less begun n) ∙ take-before begun (n ∷ [])
 
 -- ---- files

@@ -1,9 +1,12 @@
 pub mod GroupWalk
+pub mod RangeWalk
+pub mod RefusedLaws
 pub mod ShortNames
 pub mod Stages
 pub mod LinkWalk
 pub mod LinkSteps
 pub mod Selecting
+pub mod SelectedLaws
 pub mod LinkFrom
 pub mod RootsLink
 pub mod WholeLink

@@ -31,7 +31,7 @@ first-before (list ∷ lists) more f found = by_case (link_answer list) found (f
   by_case None found later = later found
   by_case (Some g) found later = found
 
-links-found : (lists : List (List Parts)) (f : LinkFact) → links lists (stops f) → first_some link_answer lists ≡ Some f
+pub links-found : (lists : List (List Parts)) (f : LinkFact) → links lists (stops f) → first_some link_answer lists ≡ Some f
 links-found lists f ends = by_case (first_some link_answer lists) ends where
   by_case : (o : Option LinkFact) → unless_fact o (stops f) → o ≡ Some f
   by_case None ends = absurd ends

@@ -67,7 +67,7 @@ groups-of-take k ms (group inner more) below =
 
 -- ---- the members
 
-selected-there : (R : Parts) (own : List Parts) (others : List Parts) (chosen : List ℕ) → IsLinkOrItself R own → IsSelected (R ∷ []) others chosen
+pub selected-there : (R : Parts) (own : List Parts) (others : List Parts) (chosen : List ℕ) → IsLinkOrItself R own → IsSelected (R ∷ []) others chosen
     → IsSelected own others chosen
 selected-there _ _ others chosen (itself m) is = is
 selected-there _ _ others chosen (a_link R own name j none) is =

@@ -7,9 +7,11 @@
 
 mod laws;
 mod linking;
+mod refused;
 
 pub use laws::{
     groups_make_no_difference, link_facts_stand, linked_is_flat, links_are_single,
     links_stand_for_flat_lists,
 };
 pub use linking::{LinkedModules, link_modules, link_with_members};
+pub use refused::{flat_files, refused_files};

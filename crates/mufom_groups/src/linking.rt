@@ -203,8 +203,8 @@ fn own_files(mark: &Mark) -> usize
     }
 }
 
-// How many files the marks name.
-fn file_count(marks: &[Mark]) -> usize
+/// How many files the marks name.
+pub(crate) fn file_count(marks: &[Mark]) -> usize
     ensures { result ≡ length (files_of marks.now) }
 {
     let mut count = 0;

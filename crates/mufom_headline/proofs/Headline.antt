@@ -30,7 +30,7 @@ use Rattle.mufom_command.specs.Stop.{Stop, locate_fact, raw_too_long}
 use Rattle.mufom_origins.specs.Origins.{FileModule, origins_of}
 use Rattle.mufom_command.specs.Commands.{Kept, Output, absolute_file, kept_of, linking, linking_of, located, located_unless, locating, locating_kept}
 use Rattle.mufom_command.specs.Commands.{map_with, maus_of, printed_hit, printed_image, printed_map, raw_file, txt_file}
-use Rattle.mufom_command.specs.Commands.{unless_too_long, work_by, work_of}
+use Rattle.mufom_command.specs.Commands.{unless_too_long, work_of}
 use Rattle.mufom_command.specs.FlatFiles.{AreFlatFiles}
 use Rattle.mufom_command.specs.Run.{Call, PutsOut, outcome_of}
 use Rattle.mufom_command.specs.RunLaws.{Accepts, CameByStages, HasNoFact, IsLocating, IsSameWork, IsUndisturbed, MayPutOut, put_out_of}
@@ -41,6 +41,7 @@ use Rattle.mufom_command.proofs.Runs.{kept_of-single, of-files}
 use Rattle.mufom_command.proofs.SameWorks.{same-trans, same-work}
 use Rattle.mufom_command.proofs.StageLaws.{maps-alike, means-same, put_out-alike}
 use Rattle.mufom_headline.specs.Headline.{HasLocated, LocatesAll, PutsOutLocation, TheHeadline}
+use Rattle.mufom_command.proofs.Plain.{locates-plainly, plain-run}
 use Rattle.mufom_command.proofs.Calm.{CameTo, answers-for, done-comes, never-done}
 use Rattle.mufom_command.proofs.Accepted.{EndsAtFact, accepted-back, accepted-gives, accepted-stops, no-link-fact}
 use Rattle.mufom_command.proofs.LocatingDone.{module-never, no-end, no-fact-there, raw-never, writes-never}
@@ -241,14 +242,14 @@ the-headline words files call result c plan flat is calm named locates accepts =
   bytes = of-files call files calm.known HoldBytes calm.revealed.bytes
 
   came : result ≡ outcome.Done → CameTo files c call
-  came same = done-comes files call c result (answers-for files call c words result is named) calm same
+  came same = done-comes files call c result (answers-for files call c words result is named (locates-plainly c.verb locates)) calm same
 
   done : ((s : Stop) → work_of c.verb files c (stops s) → ⊥) → result ≡ outcome.Done
-  done never = never-done files call c result (answers-for files call c words result is named) calm never
+  done never = never-done files call c result (answers-for files call c words result is named (locates-plainly c.verb locates)) calm never
 
   answer : (x : Reached Stop Output) → work_of c.verb files c x → result ≡ outcome_of x
   answer x comes =
-      answers-determined words files call result x is calm (subst (λ (r : Result Command WordsStop). work_by r files x) (sym named) comes)
+      answers-determined words files call result x is calm (plain-run words c named (locates-plainly c.verb locates) files x comes)
 
   own : (own : List FileModule) × AreFlatFiles (tree_of c.marks) accepts.modules own
   own = flat-files c accepts.modules flat accepts.is_flat
@@ -272,6 +273,7 @@ the-headline words files call result c plan flat is calm named locates accepts =
   by verb.Make same never = absurd never
   by verb.Help same never = absurd never
   by verb.Version same never = absurd never
+  by verb.Explain same never = absurd never
   by verb.FromTxt same never = absurd never
   by verb.Locate same is_one =
       by-location verb.Locate same absolute_file refl refl

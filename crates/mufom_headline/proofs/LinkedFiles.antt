@@ -1,7 +1,8 @@
 -- The result of `link` is that of linking its flat list, and each list from which that was linked in stages.
-use Rattle.std.proofs.Common.{◌≡◌, Bool, not, ℕ, List, [], ◌∷◌, length, Option, Some, None, unwrap_or, refl, sym, subst, ◌∙◌}
+use Rattle.std.proofs.Common.{◌≡◌, Bool, not, ℕ, List, [], ◌∷◌, length, Option, Some, None, unwrap_or, refl, sym, ap, subst, ◌∙◌}
 use Rattle.mufom_host.specs.World.{HoldBytes, NamedFile}
 use Rattle.mufom_words.specs.declared.command.Command.{Command}
+use Rattle.mufom_words.specs.Options.{explains}
 use Rattle.mufom_words.specs.declared.command.Verb.{Verb}
 use Rattle.mufom_words.specs.declared.command.Verb.TheVariants as verb
 use Rattle.mufom_words.specs.Tree.{leaves as files_in, tree_of}
@@ -85,7 +86,7 @@ links-are-put-out words files call result c plan flat is calm named links accept
       record {
         done = ((λ done. sym same ∙ exactly.0 done), (λ none. exactly.1 (same ∙ none)));
         output = λ done.
-            let came = done-comes files call c result (answers-for files call c words result is named) calm done in
+            let came = done-comes files call c result (answers-for files call c words result is named (ap explains links)) calm done in
             let (linkable, puts) = accepted-gives files c plan flat bytes accepts (λ ms. linked_file) came.output
             (subst (λ (v : Verb). work_of v files c (gives came.output)) links came.comes) in
             link-put-out c plan list valid call came.output ((alike (gives came.output)).0 puts) came.puts_out;

@@ -1,7 +1,8 @@
 -- A link is done exactly where no link fact stands against the flat list.
-use Rattle.std.proofs.Common.{◌≡◌, ◌⊎◌, List, None, subst, inl, inr}
+use Rattle.std.proofs.Common.{◌≡◌, ◌⊎◌, List, None, ap, subst, inl, inr}
 use Rattle.mufom_host.specs.World.{HoldBytes}
 use Rattle.mufom_words.specs.declared.command.Command.{Command}
+use Rattle.mufom_words.specs.Options.{explains}
 use Rattle.mufom_words.specs.declared.command.Verb.{Verb}
 use Rattle.mufom_module.specs.declared.module.Parts.{Parts}
 use Rattle.mufom_plan.specs.declared.plan.Plan.{Plan}
@@ -28,7 +29,7 @@ linking-is-done words files call result c plan flat is calm named links accepts 
 
   there : result ≡ outcome.Done → link_answer flat ≡ None
   there done =
-      let came = done-comes files call c result (answers-for files call c words result is named) calm done in
+      let came = done-comes files call c result (answers-for files call c words result is named (ap explains links)) calm done in
       (accepted-gives files c plan flat bytes accepts (λ ms. linked_file) came.output
       (subst (λ (v : Verb). work_of v files c (gives came.output)) links came.comes)).0
 
@@ -40,4 +41,4 @@ linking-is-done words files call result c plan flat is calm named links accepts 
         by (inr (linkable, stopped)) = file-never c plan flat s stopped
 
   back : link_answer flat ≡ None → result ≡ outcome.Done
-  back none = never-done files call c result (answers-for files call c words result is named) calm (λ s stopped. ends s none stopped)
+  back none = never-done files call c result (answers-for files call c words result is named (ap explains links)) calm (λ s stopped. ends s none stopped)

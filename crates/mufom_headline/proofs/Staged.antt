@@ -153,6 +153,7 @@ staged-runs-are-flat files c plan flat leaves bytes is_linking accepts came = by
   by_verb verb.FromTxt never = absurd never
   by_verb verb.Help never = absurd never
   by_verb verb.Version never = absurd never
+  by_verb verb.Explain never = absurd never
   by_verb verb.Make never = absurd never
   by_verb verb.Map never = absurd never
 

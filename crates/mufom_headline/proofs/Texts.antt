@@ -26,14 +26,17 @@ use Rattle.mufom_groups.specs.Linked.{IsFlatList, linked, links}
 use Rattle.mufom_groups.specs.Work.{gives}
 use Rattle.mufom_groups.proofs.Works.{value-same}
 use Rattle.mufom_command.specs.Inputs.{ComeTo, accepted}
-use Rattle.mufom_command.specs.Commands.{all_of, modules_in, Output, run_of, work_by, kept_of, located, located_unless, locating, made, plan_in, runs_of_text}
+use Rattle.mufom_command.specs.Commands.{all_of, modules_in, Output, kept_of, located, located_unless, locating, made, plan_in, runs_of_text}
 use Rattle.mufom_command.specs.Commands.{text_in, txt_file, unless_past_limit, work_of, writes, writes_module}
 use Rattle.mufom_command.specs.declared.outcome.Outcome.{Outcome}
 use Rattle.mufom_command.specs.declared.outcome.Outcome.TheVariants as outcome
-use Rattle.mufom_command.specs.Run.{Answers, Call, MakesFile, PutsOut}
+use Rattle.mufom_command.specs.Contract.{Answers, run_of}
+use Rattle.mufom_command.specs.Run.{Call, MakesFile, PutsOut}
 use Rattle.mufom_command.specs.RunLaws.{IsUndisturbed}
 use Rattle.mufom_command.proofs.Determined.{answers-determined}
-use Rattle.mufom_command.proofs.Runs.{of-files, run_of-single}
+use Rattle.mufom_command.proofs.ExplainSingle.{run_of-single}
+use Rattle.mufom_command.proofs.Plain.{plain-run, works-plainly}
+use Rattle.mufom_command.proofs.Runs.{of-files}
 use Rattle.mufom_command.proofs.TextRuns.{text-rows}
 use Rattle.mufom_command.proofs.WorkLaws.{module-gives, writes-gives}
 use Rattle.mufom_headline.specs.Texts.{IsFromTxt, IsTxtAlone, Makes, TextsComeBack}
@@ -124,7 +127,7 @@ module _ (text : List ℕ) (maus : ℕ) (runs : List Run) (low : 1 ≤ maus) (hi
 module _ (files : List NamedFile) (c : Command) (name bytes : List ℕ) (works : work_of c.verb files c (gives (made name bytes))) where
   module _ (words : List (List ℕ)) (named : answer_of words ≡ Ok c) where
     of-run : (o : Output) → work_of c.verb files c (gives o) → run_of words files (gives o)
-    of-run o is = subst (λ (r : Result Command WordsStop). work_by r files (gives o)) (sym named) is
+    of-run o is = plain-run words c named (works-plainly c.verb files c (gives (made name bytes)) works) files (gives o) is
 
     module _ (call : Call) (result : Outcome) (is : Answers words call result) (calm : IsUndisturbed files call result) where
       is-done : result ≡ outcome.Done
@@ -132,7 +135,7 @@ module _ (files : List NamedFile) (c : Command) (name bytes : List ℕ) (works :
 
       makes-file : MakesFile name bytes call
       makes-file =
-          let came = done-comes files call c result (answers-for files call c words result is named) calm is-done in
+          let came = done-comes files call c result (answers-for files call c words result is named (works-plainly c.verb files c (gives (made name bytes)) works)) calm is-done in
           let hold : HoldBytes files = of-files call files calm.known HoldBytes calm.revealed.bytes in
           let same : came.output ≡ made name bytes = value-same came.output (made name bytes)
           (run_of-single words files hold (gives came.output) (gives (made name bytes)) (of-run came.output came.comes) (of-run (made name bytes) works)) in

@@ -29,7 +29,8 @@ use Rattle.mufom_command.specs.declared.outcome.Refusal.TheVariants as refusal
 use Rattle.mufom_command.specs.LocateRefusals.{locate_refusal}
 use Rattle.mufom_command.specs.Commands.{Kept, kept_of, mapped_kept, maus_of}
 use Rattle.mufom_command.specs.FlatFiles.{AreFlatFiles}
-use Rattle.mufom_command.specs.Run.{Call, Answers, PrintsText}
+use Rattle.mufom_command.specs.Contract.{Answers}
+use Rattle.mufom_command.specs.Run.{Call, PrintsText}
 use Rattle.mufom_command.specs.RunLaws.{Accepts, CameByStages, HasNoFact, IsLocating, IsUndisturbed, MayPutOut}
 use Rattle.mufom_command.specs.Text.{hit_text}
 use Rattle.mufom_headline.specs.ReadBack.{IsPutInFile, MakesOutFile}

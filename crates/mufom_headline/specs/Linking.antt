@@ -19,7 +19,8 @@ use Rattle.mufom_command.specs.declared.outcome.Outcome.TheVariants as outcome
 use Rattle.mufom_command.specs.Stop.{Stop, link_fact}
 use Rattle.mufom_command.specs.Commands.{Output, locating_kept, map_with, work_of}
 use Rattle.mufom_command.specs.FlatFiles.{AreFlatFiles}
-use Rattle.mufom_command.specs.Run.{Call, Answers}
+use Rattle.mufom_command.specs.Contract.{Answers}
+use Rattle.mufom_command.specs.Run.{Call}
 use Rattle.mufom_command.specs.RunLaws.{Accepts, CameByStages, IsLinking, IsSameWork, IsUndisturbed, put_out_of}
 use Rattle.mufom_headline.specs.ReadBack.{IsPutInFile}
 

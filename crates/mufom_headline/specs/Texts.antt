@@ -15,7 +15,8 @@ use Rattle.mufom_groups.specs.Work.{gives}
 use Rattle.mufom_command.specs.declared.outcome.Outcome.{Outcome}
 use Rattle.mufom_command.specs.declared.outcome.Outcome.TheVariants as outcome
 use Rattle.mufom_command.specs.Commands.{made, work_of}
-use Rattle.mufom_command.specs.Run.{Answers, Call, MakesFile}
+use Rattle.mufom_command.specs.Contract.{Answers}
+use Rattle.mufom_command.specs.Run.{Call, MakesFile}
 use Rattle.mufom_command.specs.RunLaws.{IsUndisturbed}
 use Rattle.mufom_headline.specs.ReadBack.{IsReadBack}
 

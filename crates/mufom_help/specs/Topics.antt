@@ -14,6 +14,7 @@ use Rattle.mufom_help.specs.declared.commands.TheConstants.{
   FROM_TXT,
   ADDR,
   MAKE,
+  EXPLAIN,
   HELP,
   VERSION,
 }
@@ -100,6 +101,7 @@ commands =
     (codes "fromtxt", FROM_TXT.now) ∷
     (codes "addr", ADDR.now) ∷
     (codes "make", MAKE.now) ∷
+    (codes "explain", EXPLAIN.now) ∷
     (codes "help", HELP.now) ∷
     (codes "version", VERSION.now) ∷
     []

@@ -24,7 +24,8 @@ To write the image as raw bytes or as TI-TXT:
 To make modules, from a TI-TXT file or for a self-test:
   fromtxt [--maus N] -o OUT FILE
   make COUNT
-For help:
+To learn why a command is refused, or for help:
+  explain COMMAND [OPTION ...] OPERAND ...
   help [COMMAND or NAME]
   version
 
@@ -38,6 +39,8 @@ For more:
   mufom help NAME      what an error means and what to do about it; for the
                        line `refused: locate: Misfit section 3 region 0`
                        that is `mufom help Misfit`
+A line `usage: ..` means that the arguments are wrong: compare them with the
+form that `mufom help COMMAND` prints.
 ";
 
 /// The text of `help show`.
@@ -261,10 +264,10 @@ pub const TXT: &str = "txt: links and locates modules, and writes the image as a
 Usage: mufom txt [--no-debug] [--plan PLAN] [--keep NAME] -o OUT FILES
 
 Links and locates FILES as `locate` does, and writes the loaded bytes to OUT as
-TI-TXT, which flash programmers read: for each row of loaded addresses a line
-`@` with its first address, then lines of up to 16 bytes, and at the end the
-line `q`. Addresses and bytes are hexadecimal. The start address, the public
-symbols and the debug items are not in it.
+TI-TXT, which flash programmers read: for each run of bytes at consecutive
+addresses a line `@` with the first address, then lines of up to 16 bytes, and
+at the end the line `q`. Addresses and bytes are hexadecimal. The start
+address, the public symbols and the debug items are not in it.
 
 FILES are files and groups, then perhaps a + and members:
   a.695 [ b.695 c.695 ] + library.695
@@ -292,8 +295,8 @@ pub const FROM_TXT: &str = "fromtxt: makes a module from a TI-TXT file
 Usage: mufom fromtxt [--maus N] -o OUT FILE
 
 Reads a TI-TXT file and writes a module to OUT that loads its bytes at its
-addresses: an absolute section for each row of neighbouring addresses, and
-nothing else. The module can be linked, located and dumped like any other.
+addresses: an absolute section for each run of bytes at consecutive addresses,
+and nothing else. The module can be linked, located and dumped like any other.
 
 A line of FILE is `@` and an address of 1 to 16 hexadecimal digits; or bytes of
 two hexadecimal digits with spaces between them; or `q`, which ends the text.
@@ -301,8 +304,8 @@ Blank lines, spaces around a line, and digits of either case are allowed. FILE
 has at most 67,108,864 bytes.
 
 Options:
-  --maus N   the number of bytes in an address of the module, 1 to 8; 4 without
-             this option
+  --maus N   the number of bytes (MAUs, minimum addressable units) in an address
+             of the module, 1 to 8; 4 without this option
   -o OUT     the file to write; required
   --         end the options; what follows is the name of a file
 
@@ -361,6 +364,32 @@ Example:
   mufom make 1000
 ";
 
+/// The text of `help explain`.
+pub const EXPLAIN: &str = "explain: tells why a command ends with an error, and what to do
+
+Usage: mufom explain COMMAND [OPTION ...] OPERAND ...
+
+Put `explain` before a command that was refused. The command is carried out up
+to its first output: its files are read, but no file is written, and nothing
+that it would print is printed. Instead, this is printed:
+  - the error line of the command, or `done` if it would succeed up to there;
+  - what the numbers and names in that line are: files, sections, regions, and
+    the modules that define a name or refer to it;
+  - an empty line, and what `mufom help` prints for the error.
+If the arguments are wrong, that is the text of the command that they name, or
+the list of commands. After a read fault, the input alone is named.
+
+There are no options. All arguments after `explain` are those of the command;
+`explain` can't explain itself.
+
+Exit status:
+  0 done, whatever the command would end with, 2 usage (there is no command),
+  4 write fault, 5 out of memory
+
+Example:
+  mufom explain dump --plan plan.toml program.695
+";
+
 /// The text of `help help`.
 pub const HELP: &str = "help: prints the commands, or explains a command or an error
 
@@ -400,8 +429,8 @@ Example:
   mufom version
 ";
 
-/// The text of a command, by its name.
-pub(crate) fn command_topic(word: &str) -> Option<&'static str>
+/// The text of a command, by its name; `None` for any other word.
+pub fn command_topic(word: &str) -> Option<&'static str>
     ensures { option_map (λ text. text.now) result ≡ topic_in commands word.now }
 {
     match word {
@@ -416,6 +445,7 @@ pub(crate) fn command_topic(word: &str) -> Option<&'static str>
         "fromtxt" => Some(FROM_TXT),
         "addr" => Some(ADDR),
         "make" => Some(MAKE),
+        "explain" => Some(EXPLAIN),
         "help" => Some(HELP),
         "version" => Some(VERSION),
         _ => None,

@@ -18,8 +18,8 @@ Usual causes:
   - A library for another processor is named after the +.
 
 What to do:
-  - Look at the first line that `mufom show` prints for each file: it has
-    `maus` and `order`.
+  - Put `explain` before the command: it names the two modules and their files.
+    The first line that `mufom show FILE` prints has `maus` and `order`.
   - Compile all modules for the same processor, or leave the module out.
 ";
 
@@ -38,8 +38,8 @@ Usual causes:
     defines it too is needed for another name.
 
 What to do:
-  - Find the modules: `mufom show FILE` prints a line `public N NAME` for each
-    public symbol.
+  - Put `explain` before the command: it names each module that defines NAME,
+    and its file.
   - Remove one of the definitions, make it local to its module, or rename it.
   - Put a library after the +. Its modules are then linked only if they are
     needed.
@@ -58,8 +58,7 @@ Usual causes:
   - A file is named twice, or is also part of a partial link that is named.
 
 What to do:
-  - Find the modules: the last line that `mufom show FILE` prints begins with
-    `start`.
+  - Put `explain` before the command: it names the two modules and their files.
   - Remove the start address in all sources but one: it is usually the operand
     of the assembler's END.
 ";

@@ -18,9 +18,7 @@ Usual causes:
   - No region has * in its list.
 
 What to do:
-  - Find section N: link the same files with `link -o t`, and look for the line
-    `section N` that `show t` prints. With --keep, sections that are left out
-    are not counted.
+  - Put `explain` before the command: it names section N and its file.
   - Add its name, or *, to the `sections` of a region:
       sections = [\".text\", \"*\"]
 ";
@@ -44,11 +42,9 @@ Usual causes:
   - For a section with a base: the base is wrong.
 
 What to do:
-  - Find section N: link the same files with `link -o t`, and look for the line
-    `section N` that `show t` prints. A number past the last section is a
-    common: space that weak references with a size request. Or run `map` with
-    the same options and a plan that has space; with --keep, only that works,
-    since sections that are left out are not counted.
+  - Put `explain` before the command: it names section N and its file, and how
+    far the sections of region R reach above its base. A common is named in the
+    same way: it is space that weak references with a size request.
   - Make the region larger, or list some names in a region that has space.
   - Remove what is not needed.
 ";
@@ -69,10 +65,9 @@ Usual causes:
   - The base or size of a region is wrong, so that it covers another.
 
 What to do:
-  - Find sections N and M: link the same files with `link -o t`, and look for
-    the lines `section N` and `section M` that `show t` prints. A section with
-    `base` has a base address of its own. A number past the last section is a
-    common. With --keep, sections that are left out are not counted.
+  - Put `explain` before the command: it names both sections and their files. A
+    section with `base` in its line has a base address of its own. A common is
+    named in the same way: it is space that weak references with a size request.
   - Move one of them: change its address in the source, or `base` and `size` of
     the region so that they begin after the other.
 ";
@@ -93,8 +88,8 @@ Usual causes:
   - The module that defines NAME keeps it local.
 
 What to do:
-  - Find who needs it: `mufom show FILE` prints a line `reference N NAME`, with
-    `weak` after it if the reference is weak.
+  - Put `explain` before the command: it names each module that refers to NAME,
+    and does the same for all other undefined names.
   - Name the file that defines NAME, before the + or after it.
 ";
 
@@ -115,7 +110,8 @@ Usual causes:
 What to do:
   - Add one line to the region for variables, and to no other:
       common = true
-  - Or link the module that defines NAME.
+  - Or link the module that defines NAME. `explain` before the command names
+    each module that refers to it.
 ";
 
 /// The text of `help Cycle`.
@@ -132,6 +128,8 @@ Usual causes:
     between upper and lower case was lost.
 
 What to do:
+  - Put `explain` before the command: it names the module that defines NAME, and
+    those that refer to it.
   - See the expressions: link the same files with `link -o t`, and look at the
     lines `public` that `show t` prints. I3 in an expression is the symbol with
     the number 3 there; follow them from NAME.
@@ -180,8 +178,9 @@ Usual causes:
   - A symbol that the divisor uses is 0 by mistake.
 
 What to do:
-  - See the expression: link the same files with `link -o t`, and look for the
-    section or the symbol in what `show t` prints.
+  - Put `explain` before the command: it names the section and its file, or the
+    module that defines the symbol. Then look for the section or the symbol in
+    what `mufom show FILE` prints.
   - Correct the divisor in the source, or link the module that defines it.
   - For a debug expression, use --no-debug.
 ";
@@ -202,9 +201,9 @@ Usual causes:
   - A section was continued after it was full.
 
 What to do:
-  - Find section N: link the same files with `link -o t`, and compare its line
-    `section N` with the lines after `select N` and `counter N` that `show t`
-    prints. With --keep, sections that are left out are not counted.
+  - Put `explain` before the command: it names section N and its file. Then
+    compare its size with its loads, which `mufom show FILE` prints after the
+    lines `select` and `counter` with its number in that file.
   - Correct the size, or the origin, in the source.
 ";
 
@@ -246,9 +245,8 @@ Usual causes:
   - A constant is too large, or is negative in an unsigned field.
 
 What to do:
-  - Find section N: link the same files with `link -o t`, and look at the lines
-    `field` after `select N` that `show t` prints. With --keep, sections that
-    are left out are not counted.
+  - Put `explain` before the command: it names section N and its file. Then look
+    at the lines `field` of that section in what `mufom show FILE` prints.
   - Use the long form of the instruction in the source.
   - Or place the target nearer: list the two sections next to each other in the
     plan, or move the region to low addresses.

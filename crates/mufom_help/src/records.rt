@@ -157,13 +157,15 @@ Expressions are in postfix form and must leave one value. In file N, counted
 from 0, the expression that ends before OFFSET leaves two or more.
 
 Usual causes:
+  - The size of a field follows the expression without a comma (90). mufom does
+    not read this form; gcc for the 68000 family causes it with -mpcrel.
   - A function is missing after its operands.
   - A number that belongs to the next field follows the expression at once, so
     that it is read as a part of it.
 
 What to do:
   - Look at the bytes before OFFSET: xxd FILE.
-  - Write the file again with one function for each pair of operands.
+  - If a compiler option causes this, such as -mpcrel, compile without it.
   - If OFFSET is in the debug part, use --no-debug to skip that part.
 ";
 

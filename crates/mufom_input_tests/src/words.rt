@@ -1,7 +1,8 @@
 //! Words of command lines: the commands that they give, and the first thing that is wrong with
 //! them.
 
-use mufom_words::{commands_are_sound, read_words, trees_are_spelled};
+use mufom_numbers::Text;
+use mufom_words::{Command, Mark, commands_are_sound, read_words, trees_are_spelled};
 use std::alloc::Global;
 use std::process::Abort;
 
@@ -15,11 +16,106 @@ fn words_of(rt: &impl Abort, alloc: Global, line: &str) -> Vec<String> {
     words
 }
 
+// Adds the file with this number, as `NUMBER:NAME`.
+fn push_file(rt: &impl Abort, alloc: Global, text: &mut String, files: &[Text], number: usize) {
+    let name = files.get(number).expect(rt, "a file").as_str();
+    let file = format!(in alloc; " {number}:{name}").expect(rt, "memory");
+    text.push_str(file.as_str()).expect(rt, "memory");
+}
+
+// Adds the files that are not members, with their brackets. Returns how many they are.
+fn push_tree(rt: &impl Abort, alloc: Global, text: &mut String, command: &Command) -> usize {
+    let mut count: usize = 0;
+    for mark in command.marks.as_slice() {
+        match mark {
+            Mark::Open => text.push_str(" [").expect(rt, "memory"),
+            Mark::Close => text.push_str(" ]").expect(rt, "memory"),
+            Mark::File(number) => {
+                push_file(rt, alloc, text, command.files.as_slice(), *number as usize);
+                count = count.saturating_add(1);
+            }
+        }
+    }
+    count
+}
+
+// Adds a `+` and the members, if there are any.
+fn push_members(rt: &impl Abort, alloc: Global, text: &mut String, files: &[Text], first: usize) {
+    if first < files.len() {
+        text.push_str(" +").expect(rt, "memory");
+    }
+    for number in first..files.len() {
+        push_file(rt, alloc, text, files, number);
+    }
+}
+
+// Adds the names that the options give.
+fn push_names(rt: &impl Abort, alloc: Global, text: &mut String, command: &Command) {
+    if let Some(name) = &command.name {
+        let name = name.as_slice();
+        let given = format!(in alloc; " name={name:?}").expect(rt, "memory");
+        text.push_str(given.as_str()).expect(rt, "memory");
+    }
+    if let Some(out) = &command.out {
+        text.push_str(" out=").expect(rt, "memory");
+        text.push_str(out.as_str()).expect(rt, "memory");
+    }
+    if let Some(plan) = &command.plan {
+        text.push_str(" plan=").expect(rt, "memory");
+        text.push_str(plan.as_str()).expect(rt, "memory");
+    }
+    if let Some(keep) = &command.keep {
+        let keep = keep.as_slice();
+        let given = format!(in alloc; " keep={keep:?}").expect(rt, "memory");
+        text.push_str(given.as_str()).expect(rt, "memory");
+    }
+    if let Some(help) = &command.help {
+        text.push_str(" help=").expect(rt, "memory");
+        text.push_str(help.as_str()).expect(rt, "memory");
+    }
+}
+
+// Adds a number with its name, unless it is the number without the option.
+fn push_number(
+    rt: &impl Abort,
+    alloc: Global,
+    text: &mut String,
+    name: &str,
+    value: u64,
+    none: u64,
+) {
+    if value != none {
+        let given = format!(in alloc; " {name}={value}").expect(rt, "memory");
+        text.push_str(given.as_str()).expect(rt, "memory");
+    }
+}
+
+// A command in words: its verb, what its options give, and its files. What it would be without an option is
+// left out, so a row has no word on options that its line has not.
+fn told(rt: &impl Abort, alloc: Global, command: &Command) -> String {
+    let verb = command.verb;
+    let mut text = format!(in alloc; "{verb:?}").expect(rt, "memory");
+    if command.no_debug {
+        text.push_str(" no_debug").expect(rt, "memory");
+    }
+    if command.listing {
+        text.push_str(" listing").expect(rt, "memory");
+    }
+    push_names(rt, alloc, &mut text, command);
+    push_number(rt, alloc, &mut text, "count", command.count as u64, 0);
+    push_number(rt, alloc, &mut text, "fill", command.fill as u64, 0);
+    push_number(rt, alloc, &mut text, "at", command.at, 0);
+    push_number(rt, alloc, &mut text, "maus", command.maus as u64, 4);
+    let roots = push_tree(rt, alloc, &mut text, command);
+    push_members(rt, alloc, &mut text, command.files.as_slice(), roots);
+    text
+}
+
 // What words come to: a command with all that it gives, or why they are none.
 fn answer(rt: &impl Abort, alloc: Global, words: &[String]) -> String {
     assert!(rt; words.len() < 1 << 32);
     match read_words(alloc, words) {
-        Ok(command) => format!(in alloc; "{command:?}").expect(rt, "memory"),
+        Ok(command) => told(rt, alloc, &command),
         Err(stop) => format!(in alloc; "{stop:?}").expect(rt, "memory"),
     }
 }
@@ -31,156 +127,56 @@ fn comes_to(rt: &impl Abort, alloc: Global, line: &str, want: &str) {
     assert_eq!(rt; text.as_str(), want, "{line}");
 }
 
-// Lines and the commands that they give.
-static COMMANDS: [(&str, &str); 24] = [
+// Lines and the commands that they give, with files by their numbers.
+static COMMANDS: [(&str, &str); 26] = [
     // Files in their order.
-    (
-        "show a",
-        "Command { verb: Show, no_debug: false, name: None, out: None, plan: None, marks: List { items: [File(0)] }, \
-            files: List { items: [Text { text: \"a\" }] }, count: 0, listing: false, fill: 0, at: 0, maus: 4, keep: None, help: None }",
-    ),
-    (
-        "dump a",
-        "Command { verb: Dump, no_debug: false, name: None, out: None, plan: None, marks: List { items: [File(0)] }, \
-            files: List { items: [Text { text: \"a\" }] }, count: 0, listing: false, fill: 0, at: 0, maus: 4, keep: None, help: None }",
-    ),
-    (
-        "check b a b",
-        "Command { verb: Check, no_debug: false, name: None, out: None, plan: None, marks: List { items: [File(0), File(1), File(2)] }, \
-            files: List { items: [Text { text: \"b\" }, Text { text: \"a\" }, Text { text: \"b\" }] }, \
-            count: 0, listing: false, fill: 0, at: 0, maus: 4, keep: None, help: None }",
-    ),
+    ("show a", "Show 0:a"),
+    ("dump a", "Dump 0:a"),
+    ("check b a b", "Check 0:b 1:a 2:b"),
     // An option before, between and after files.
-    (
-        "show --no-debug a",
-        "Command { verb: Show, no_debug: true, name: None, out: None, plan: None, marks: List { items: [File(0)] }, \
-            files: List { items: [Text { text: \"a\" }] }, count: 0, listing: false, fill: 0, at: 0, maus: 4, keep: None, help: None }",
-    ),
-    (
-        "check a --no-debug b",
-        "Command { verb: Check, no_debug: true, name: None, out: None, plan: None, marks: List { items: [File(0), File(1)] }, \
-            files: List { items: [Text { text: \"a\" }, Text { text: \"b\" }] }, \
-            count: 0, listing: false, fill: 0, at: 0, maus: 4, keep: None, help: None }",
-    ),
-    (
-        "check a b --no-debug",
-        "Command { verb: Check, no_debug: true, name: None, out: None, plan: None, marks: List { items: [File(0), File(1)] }, \
-            files: List { items: [Text { text: \"a\" }, Text { text: \"b\" }] }, \
-            count: 0, listing: false, fill: 0, at: 0, maus: 4, keep: None, help: None }",
-    ),
+    ("show --no-debug a", "Show no_debug 0:a"),
+    ("check a --no-debug b", "Check no_debug 0:a 1:b"),
+    ("check a b --no-debug", "Check no_debug 0:a 1:b"),
     // Two dashes end the options, and one dash names a file.
-    (
-        "check -- --no-debug -x",
-        "Command { verb: Check, no_debug: false, name: None, out: None, plan: None, marks: List { items: [File(0), File(1)] }, \
-            files: List { items: [Text { text: \"--no-debug\" }, Text { text: \"-x\" }] }, \
-            count: 0, listing: false, fill: 0, at: 0, maus: 4, keep: None, help: None }",
-    ),
-    (
-        "check - a",
-        "Command { verb: Check, no_debug: false, name: None, out: None, plan: None, marks: List { items: [File(0), File(1)] }, \
-            files: List { items: [Text { text: \"-\" }, Text { text: \"a\" }] }, \
-            count: 0, listing: false, fill: 0, at: 0, maus: 4, keep: None, help: None }",
-    ),
-    (
-        "show help",
-        "Command { verb: Show, no_debug: false, name: None, out: None, plan: None, marks: List { items: [File(0)] }, \
-            files: List { items: [Text { text: \"help\" }] }, count: 0, listing: false, fill: 0, at: 0, maus: 4, keep: None, help: None }",
-    ),
-    (
-        "show ",
-        "Command { verb: Show, no_debug: false, name: None, out: None, plan: None, marks: List { items: [File(0)] }, \
-            files: List { items: [Text { text: \"\" }] }, count: 0, listing: false, fill: 0, at: 0, maus: 4, keep: None, help: None }",
-    ),
+    ("check -- --no-debug -x", "Check 0:--no-debug 1:-x"),
+    ("check - a", "Check 0:- 1:a"),
+    ("show help", "Show 0:help"),
+    ("show ", "Show 0:"),
     // Groups and members, with a plan.
     (
         "dump [ [ a ] b ] c + --plan p d",
-        "Command { verb: Dump, no_debug: false, name: None, out: None, plan: Some(Text { text: \"p\" }), \
-            marks: List { items: [Open, Open, File(0), Close, File(1), Close, File(2)] }, \
-            files: List { items: [Text { text: \"a\" }, Text { text: \"b\" }, Text { text: \"c\" }, Text { text: \"d\" }] }, \
-            count: 0, listing: false, fill: 0, at: 0, maus: 4, keep: None, help: None }",
+        "Dump plan=p [ [ 0:a ] 1:b ] 2:c + 3:d",
     ),
     // Options with values.
     (
         "link --name=n -oc a --no-debug",
-        "Command { verb: Link, no_debug: true, name: Some(Bytes { held: [110] }), out: Some(Text { text: \"c\" }), plan: None, \
-            marks: List { items: [File(0)] }, files: List { items: [Text { text: \"a\" }] }, \
-            count: 0, listing: false, fill: 0, at: 0, maus: 4, keep: None, help: None }",
+        "Link no_debug name=[110] out=c 0:a",
     ),
-    (
-        "locate -o=c --plan  a",
-        "Command { verb: Locate, no_debug: false, name: None, out: Some(Text { text: \"c\" }), plan: Some(Text { text: \"\" }), \
-            marks: List { items: [File(0)] }, files: List { items: [Text { text: \"a\" }] }, \
-            count: 0, listing: false, fill: 0, at: 0, maus: 4, keep: None, help: None }",
-    ),
-    (
-        "make 0065536",
-        "Command { verb: Make, no_debug: false, name: None, out: None, plan: None, marks: List { items: [] }, \
-            files: List { items: [] }, count: 65536, listing: false, fill: 0, at: 0, maus: 4, keep: None, help: None }",
-    ),
+    ("locate -o=c --plan  a", "Locate out=c plan= 0:a"),
+    ("make 0065536", "Make count=65536"),
     // A flag of one command, and values that are numbers.
-    (
-        "show --listing a",
-        "Command { verb: Show, no_debug: false, name: None, out: None, plan: None, marks: List { items: [File(0)] }, \
-            files: List { items: [Text { text: \"a\" }] }, count: 0, listing: true, fill: 0, at: 0, maus: 4, keep: None, help: None }",
-    ),
-    (
-        "bin --fill=fE -oc a",
-        "Command { verb: Bin, no_debug: false, name: None, out: Some(Text { text: \"c\" }), plan: None, \
-            marks: List { items: [File(0)] }, files: List { items: [Text { text: \"a\" }] }, \
-            count: 0, listing: false, fill: 254, at: 0, maus: 4, keep: None, \
-            help: None }",
-    ),
+    ("show --listing a", "Show listing 0:a"),
+    ("bin --fill=fE -oc a", "Bin out=c fill=254 0:a"),
     (
         "addr --at 00FfFFffFFffFFff a",
-        "Command { verb: Addr, no_debug: false, name: None, out: None, plan: None, marks: List { items: [File(0)] }, \
-            files: List { items: [Text { text: \"a\" }] }, \
-            count: 0, listing: false, fill: 0, at: 72057594037927935, maus: 4, keep: None, help: None }",
+        "Addr at=72057594037927935 0:a",
     ),
     // Members of a map.
-    (
-        "map a --plan p + b",
-        "Command { verb: Map, no_debug: false, name: None, out: None, plan: Some(Text { text: \"p\" }), \
-            marks: List { items: [File(0)] }, files: List { items: [Text { text: \"a\" }, Text { text: \"b\" }] }, count: 0, \
-            listing: false, fill: 0, at: 0, maus: 4, keep: None, help: None }",
-    ),
+    ("map a --plan p + b", "Map plan=p 0:a + 1:b"),
     // A name that is kept, which may be empty.
-    (
-        "dump --keep main a",
-        "Command { verb: Dump, no_debug: false, name: None, out: None, plan: None, marks: List { items: [File(0)] }, \
-            files: List { items: [Text { text: \"a\" }] }, count: 0, listing: false, fill: 0, at: 0, maus: 4, \
-            keep: Some(Bytes { held: [109, 97, 105, 110] }), help: None }",
-    ),
-    (
-        "bin --keep= -oc a",
-        "Command { verb: Bin, no_debug: false, name: None, out: Some(Text { text: \"c\" }), plan: None, \
-            marks: List { items: [File(0)] }, files: List { items: [Text { text: \"a\" }] }, count: 0, listing: false, fill: 0, at: 0, \
-            maus: 4, keep: Some(Bytes { held: [] }), help: None }",
-    ),
-    (
-        "map a --keep=m",
-        "Command { verb: Map, no_debug: false, name: None, out: None, plan: None, marks: List { items: [File(0)] }, \
-            files: List { items: [Text { text: \"a\" }] }, count: 0, listing: false, fill: 0, at: 0, maus: 4, \
-            keep: Some(Bytes { held: [109] }), help: None }",
-    ),
+    ("dump --keep main a", "Dump keep=[109, 97, 105, 110] 0:a"),
+    ("bin --keep= -oc a", "Bin out=c keep=[] 0:a"),
+    ("map a --keep=m", "Map keep=[109] 0:a"),
     // Texts of images.
     (
         "txt a --plan=p --no-debug -o c",
-        "Command { verb: Txt, no_debug: true, name: None, out: Some(Text { text: \"c\" }), plan: Some(Text { text: \"p\" }), \
-            marks: List { items: [File(0)] }, files: List { items: [Text { text: \"a\" }] }, count: 0, listing: false, fill: 0, at: 0, \
-            maus: 4, keep: None, help: None }",
+        "Txt no_debug out=c plan=p 0:a",
     ),
-    (
-        "fromtxt --maus 8 -oc a",
-        "Command { verb: FromTxt, no_debug: false, name: None, out: Some(Text { text: \"c\" }), plan: None, \
-            marks: List { items: [File(0)] }, files: List { items: [Text { text: \"a\" }] }, count: 0, listing: false, fill: 0, at: 0, \
-            maus: 8, keep: None, help: None }",
-    ),
-    (
-        "-V",
-        "Command { verb: Version, no_debug: false, name: None, out: None, plan: None, marks: List { items: [] }, \
-            files: List { items: [] }, \
-            count: 0, listing: false, fill: 0, at: 0, maus: 4, keep: None, help: Some(HelpText { text: \"mufom 1.0.0\\n\" }) }",
-    ),
+    ("fromtxt --maus 8 -oc a", "FromTxt out=c maus=8 0:a"),
+    // What is explained is not read.
+    ("explain -- dump a", "Explain"),
+    ("explain --help", "Explain"),
+    ("-V", "Version help=mufom 1.0.0\n"),
 ];
 
 #[test]
@@ -193,7 +189,7 @@ fn lines_give_commands(rt: HostRuntime) {
 }
 
 // Lines that give none, and the first thing that is wrong with each.
-static FAULTS: [(&str, &str); 63] = [
+static FAULTS: [(&str, &str); 66] = [
     // Without a command.
     ("dmup a", "Usage(NoCommand)"),
     ("-- help", "Usage(NoCommand)"),
@@ -201,6 +197,10 @@ static FAULTS: [(&str, &str); 63] = [
     ("help nothing", "Usage(BadWords)"),
     ("--help dump show", "Usage(BadWords)"),
     ("version 1", "Usage(BadWords)"),
+    // Nothing to explain, or an explanation.
+    ("explain", "Usage(BadWords)"),
+    ("explain explain dump a", "Usage(BadWords)"),
+    ("--explain dump a", "Usage(NoCommand)"),
     // Numbers that are written otherwise.
     ("bin --fill 0 -oc a", "Usage(BadByte)"),
     ("bin --fill= -oc a", "Usage(BadByte)"),

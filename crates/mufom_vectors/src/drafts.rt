@@ -4,14 +4,21 @@
 use std::alloc::Global;
 use std::process::Abort;
 
-/// What is before the length of addresses: the processor, and the module's name `m`.
-const HEAD: &[u8] = b"\xE0\x0568000\x01m\xEC\x08";
+/// What is before the module's name: the processor.
+const HEAD: &[u8] = b"\xE0\x0568000";
+
+/// The name `m`, after its length.
+const NAME: &[u8] = b"\x01m";
+
+/// What is before the length of addresses.
+const DESCRIPTOR: &[u8] = b"\xEC\x08";
 
 /// The letter after the length of addresses: the most significant byte goes first.
 const MOST_FIRST: u8 = 0xCD;
 
-/// Where the first part begins: after the head, the length, the letter, and eight offsets of 12 bytes.
-const FIRST_PART: u64 = 109;
+/// Where the first part begins, less the length of the name: after the head, the descriptor, the length of
+/// addresses, the letter, and eight offsets of 12 bytes.
+const FIRST_PART: u64 = 107;
 
 const END: &[u8] = b"\xE1";
 
@@ -43,8 +50,19 @@ fn add_offset(rt: &impl Abort, file: &mut Vec<u8>, number: u8, part: &[u8], star
     start.saturating_add(part.len() as u64)
 }
 
-/// The file of a module with these records, and with addresses of `maus` units.
+/// The file of a module `m` with these records, and with addresses of `maus` units.
 pub(crate) fn module(rt: &impl Abort, alloc: Global, maus: u8, records: Records) -> Vec<u8> {
+    named_module(rt, alloc, NAME, maus, records)
+}
+
+/// The same with another name, after its length.
+pub(crate) fn named_module(
+    rt: &impl Abort,
+    alloc: Global,
+    name: &[u8],
+    maus: u8,
+    records: Records,
+) -> Vec<u8> {
     let none = b"".as_slice();
     let parts = [
         (0, none),
@@ -58,8 +76,10 @@ pub(crate) fn module(rt: &impl Abort, alloc: Global, maus: u8, records: Records)
     ];
     let mut file = Vec::new(alloc);
     add(rt, &mut file, HEAD);
+    add(rt, &mut file, name);
+    add(rt, &mut file, DESCRIPTOR);
     add(rt, &mut file, &[maus, MOST_FIRST]);
-    let mut start = FIRST_PART;
+    let mut start = FIRST_PART.saturating_add(name.len() as u64);
     for (number, part) in parts {
         start = add_offset(rt, &mut file, number, part, start);
     }

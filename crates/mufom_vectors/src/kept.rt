@@ -1,6 +1,6 @@
 //! What a public symbol needs is kept, and all else is left out.
 
-use crate::drafts::SECTION;
+use crate::drafts::{REFERENCE, SECTION};
 use crate::runs::{Case, File, Held, all_come_to, makes};
 
 /// Three sections of four bytes. `main` is in the first, which names the third; the second names `q`, which
@@ -36,6 +36,111 @@ const FILES: &[File] = &[
         "w",
         Held::Section(SECTION, b"\xE8\x20\x01z\xE2\xC9\x20\xD2\x01", b""),
     ),
+];
+
+/// Room for the sections of three modules, and for commons.
+const WIDE: &[u8] =
+    b"[[region]]\nname = \"r\"\nbase = 0\nsize = 32\nsections = [\"*\"]\ncommon = true\n";
+
+/// A public and the section with a base that it is in.
+const BASED: Held = Held::Section(
+    b"\xE6\x01\xC1\xD3\x01t\xE2\xD3\x01\x02\xE2\xCC\x01\x20",
+    b"\xE8\x20\x01y\xE2\xC9\x20\xD2\x01",
+    b"\xE5\x01\xED\x02\x05\x06",
+);
+
+/// Two sections: the one of `main` asks for the common `v`, and the other for the common `u`.
+const ASKING: Held = Held::Section(
+    b"\xE6\x01\xC3\x01a\xE2\xD3\x01\x04\xE6\x02\xC3\x01b\xE2\xD3\x02\x04",
+    b"\xE8\x20\x04main\xE2\xC9\x20\xD2\x01\xE9\x0B\x01u\xF4\x0B\x06\xE9\x0C\x01v\xF4\x0C\x04",
+    b"\xE5\x01\xE4\xBE\xD8\x0C\xBF\xE5\x02\xE4\xBE\xD8\x0B\xBF",
+);
+
+/// The map of what `main` needs of it.
+const ASKING_MAP: &str = "module 0 \"m\" file 0\n\
+        region 0 \"r\" at 00000000 size 32 used 8 free 24 [####....####....................]\n\
+        section 0 00000000 size 4 align 1 \"a\" module 0 region 0\n\
+        common 1 00000008 size 4 align 8 \"v\" region 0\n\
+        public 00000000 \"main\" module 0\n\
+        sections 2 bytes 8 loaded 4\n";
+
+/// Three sections: the counter of the one of `main` is set by an expression that names the third.
+const COUNTING: Held = Held::Section(
+    b"\xE6\x01\xC3\x01a\xE2\xD3\x01\x04\xE6\x02\xC3\x01b\xE2\xD3\x02\x04\xE6\x03\xC3\x01c\xE2\xD3\x03\x04",
+    b"\xE8\x20\x04main\xE2\xC9\x20\xD2\x01",
+    b"\xE5\x01\xE2\xD0\x01\xD2\x01\xD2\x03\xA5\xD2\x03\xA6\xED\x04\x0A\x0B\x0C\x0D\xE5\x03\xED\x04\x01\x02\x03\x04",
+);
+
+/// Modules of which more is needed than the section of a public and those that its fields name, and plans.
+const USES: &[File] = &[
+    ("p", Held::Bytes(PLAN)),
+    ("wide", Held::Bytes(WIDE)),
+    ("a", MODULE),
+    ("based", BASED),
+    ("asking", ASKING),
+    ("counting", COUNTING),
+    ("program", Held::Relocatable),
+    ("library", Held::Library),
+    // `main`, and a reference to `z`.
+    (
+        "x",
+        Held::Section(
+            SECTION,
+            b"\xE8\x20\x04main\xE2\xC9\x20\xD2\x01\xE9\x0B\x01z",
+            REFERENCE,
+        ),
+    ),
+    (
+        "w",
+        Held::Section(SECTION, b"\xE8\x20\x01z\xE2\xC9\x20\xD2\x01", b""),
+    ),
+];
+
+/// What is kept by each rule of docs/COMMANDS.md.
+static RULES: [Case; 5] = [
+    // What the start address uses, and what that needs: of `program` all but its public.
+    Case {
+        files: USES,
+        first: "",
+        line: "dump --plan wide --keep z program library w",
+        status: 0,
+        text: "00000000: 4E 71 4E 71 00 00 00 04 00 00 00 04 4E 75\n\
+            start 00000004\n\
+            public 0000000C \"exit\"\n\
+            public 0000000E \"z\"\n",
+    },
+    // A section with a base, but not its public.
+    Case {
+        files: USES,
+        first: "",
+        line: "dump --plan p --keep main a based",
+        status: 0,
+        text: "00000000: 00 00 00 04 01 02 03 04\n00000020: 05 06\npublic 00000000 \"main\"\n",
+    },
+    // A common that a kept section asks for, and not the other one.
+    Case {
+        files: USES,
+        first: "",
+        line: "map --plan wide --keep main asking",
+        status: 0,
+        text: ASKING_MAP,
+    },
+    // A public of another module, by a reference.
+    Case {
+        files: USES,
+        first: "",
+        line: "dump --plan p --keep main x w",
+        status: 0,
+        text: "00000000: 00 00 00 04\npublic 00000000 \"main\"\npublic 00000004 \"z\"\n",
+    },
+    // A section that only the setting of a program counter names.
+    Case {
+        files: USES,
+        first: "",
+        line: "dump --plan p --keep main counting",
+        status: 0,
+        text: "00000000: 0A 0B 0C 0D 01 02 03 04\npublic 00000000 \"main\"\n",
+    },
 ];
 
 static RUNS: [Case; 13] = [
@@ -154,4 +259,9 @@ fn what_a_public_needs_is_kept(rt: HostRuntime) {
         "txt --plan p --keep main -o c a",
         b"@0000\n00 00 00 04 01 02 03 04\nq\n",
     );
+}
+
+#[test]
+fn each_rule_keeps_what_it_says(rt: HostRuntime) {
+    all_come_to(&rt, rt.alloc(), &RULES);
 }

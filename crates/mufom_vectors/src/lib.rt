@@ -14,6 +14,8 @@ mod debug;
 #[cfg(test)]
 mod drafts;
 #[cfg(test)]
+mod explain;
+#[cfg(test)]
 mod failing;
 #[cfg(test)]
 mod faults;

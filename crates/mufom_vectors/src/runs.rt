@@ -215,6 +215,29 @@ pub(crate) fn all_come_to(rt: &impl Abort, alloc: Global, cases: &[Case]) {
     }
 }
 
+/// Over these files, a line of arguments is done and prints these lines and, if there is one, an empty line
+/// and the text of help. No file is made or begun.
+pub(crate) fn explains(
+    rt: &impl Abort,
+    alloc: Global,
+    files: &[File],
+    line: &str,
+    lines: &str,
+    help: &str,
+) {
+    let mut host = host_of(rt, alloc, listed(rt, alloc, files));
+    assert_eq!(rt; status_of(rt, alloc, &mut host, line), 0, "{line}");
+    let mut text = Vec::from_slice(alloc, lines.as_bytes()).expect(rt, "memory");
+    if !help.is_empty() {
+        text.push(b'\n').expect(rt, "memory");
+        text.extend_from_slice(help.as_bytes()).expect(rt, "memory");
+    }
+    assert!(rt; host.out() == text.as_slice(), "{line}");
+    assert!(rt; host.err().is_empty());
+    assert!(rt; host.made().is_none());
+    assert!(rt; host.making().is_none());
+}
+
 /// These arguments make a file of these bytes.
 pub(crate) fn makes(rt: &impl Abort, alloc: Global, files: &[File], line: &str, bytes: &[u8]) {
     let made = made_of(rt, alloc, files, line);

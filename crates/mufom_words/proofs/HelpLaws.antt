@@ -1,11 +1,11 @@
 -- What the words of a command that prints a text of the program come to.
-use Rattle.std.proofs.Common.{◌≡◌, ◌≢◌, ◌≤◌, ◌⊎◌, ℕ, List, [], ◌∷◌, length, Option, Some, None, Result, Ok, Err, refl, sym, subst, arith}
+use Rattle.std.proofs.Common.{◌≡◌, ◌≢◌, ◌≤◌, List, [], ◌∷◌, length, Option, Some, None, Result, Ok, Err, refl, arith}
 use Rattle.std.specs.Prelude.{IfOk}
 use Rattle.mufom_words.specs.declared.command.Command.{Command}
 use Rattle.mufom_words.specs.declared.command.Verb.{Verb}
 use Rattle.mufom_words.specs.declared.stop.WordsStop.{WordsStop}
 use Rattle.mufom_words.specs.declared.stop.WordsStop.TheVariants as stop
-use Rattle.mufom_words.specs.Help.{help_text, own_answer, own_text, own_verb, printing}
+use Rattle.mufom_words.specs.Help.{help_text, own_answer, own_verb, printing}
 use Rattle.mufom_words.specs.Options.{Text}
 use Rattle.mufom_words.specs.Sound.{IsSound}
 use Rattle.mufom_words.proofs.Sound.{own-sound}

@@ -1,6 +1,6 @@
 -- Hexadecimal digits alone are read as the number that they state.
-use Rattle.std.proofs.Common.{◌≡◌, ℕ, ◌≤◌, ◌<◌, ◌^◌, ◌&&◌, ◌==◌, rules, drop, Bool, cond, true, false, nat_le, nat_lt, List, [], ◌∷◌, length, Result}
-use Rattle.std.proofs.Common.{Ok, Err, Some, None, refl, sym, ap, subst, arith}
+use Rattle.std.proofs.Common.{◌≡◌, ℕ, ◌≤◌, ◌<◌, ◌^◌, ◌&&◌, ◌==◌, rules, drop, Bool, cond, true, false, nat_le, List, [], ◌∷◌, length, Result}
+use Rattle.std.proofs.Common.{Ok, Err, Some, None, refl, ap, subst, arith}
 use Rattle.std.specs.Char.{digit_value}
 use Rattle.std.specs.List.{list_all}
 use Rattle.std.specs.Result.{OkIff}

@@ -9,3 +9,4 @@ mod Worked
 mod WorkedGroups
 mod Hexadecimal
 mod HelpLaws
+pub mod ExplainGiven

@@ -1,6 +1,6 @@
 -- Each command that words give is sound.
 use Rattle.std.proofs.Common.{◌≡◌, ◌≢◌, ◌≤◌, ℕ, Bool, cond, true, false, nat_lt, refl, ap, sym, ◌∙◌, arith, true≢false, codes, inl, inr, ◌⊎◌, ◌||◌}
-use Rattle.std.proofs.Common.{◌-◌, length, List, [], ◌∷◌, Option, Some, None, Ok, subst, Result}
+use Rattle.std.proofs.Common.{◌-◌, length, List, [], ◌∷◌, Option, Some, None, Ok, Err, subst, Result}
 use Rattle.std.specs.Prelude.{IfSome, IsSome, is_none, unwrap_or, not, nat_le, ◌==◌, ◌&&◌}
 use Rattle.std.specs.List.{list_all}
 use Rattle.std.specs.Result.{result_unwrap_or}
@@ -22,6 +22,7 @@ use Rattle.mufom_words.specs.declared.options.Setting.TheVariants as setting
 use Rattle.mufom_words.specs.declared.stop.UsageFault.{UsageFault}
 use Rattle.mufom_words.specs.declared.stop.UsageFault.TheVariants as fault
 use Rattle.mufom_words.specs.declared.stop.WordsStop.{WordsStop}
+use Rattle.mufom_words.specs.declared.stop.WordsStop.TheVariants as stop
 use Rattle.mufom_words.specs.Options.{Text, Usage, Given, usage_of, app_for, form_of, takes, id_of, given_by, keeps_what_is_needed, makes_file}
 use Rattle.mufom_words.specs.Options.{makes_modules, names_module, prints_help, reads_files, reads_plan, takes_one_file}
 use Rattle.mufom_words.specs.Operands.{word_of, file_words, is_name, names_in, operands_fault, number_fault, count_fault, count_of, is_digit}
@@ -31,11 +32,12 @@ use Rattle.std.specs.Str.{bytes_eq}
 use Rattle.mufom_words.specs.declared.command.Verb.{Verb}
 use Rattle.mufom_words.specs.declared.command.Verb.TheVariants as verb
 use Rattle.mufom_words.specs.Help.{own_answer, own_command, own_text, own_verb, printing}
-use Rattle.mufom_words.specs.Values.{byte_of, address_of, maus_of}
+use Rattle.mufom_words.specs.Explain.{explain_answer, explain_command, may_be_explained, names_explain}
+use Rattle.mufom_words.specs.Values.{maus_of}
 use Rattle.mufom_words.specs.Tree.{tree_of, leaves}
 use Rattle.mufom_words.specs.Answer.{◌or_else◌, most_files, longest_name, given_fault, missing_fault, number_by, options_fault, name_fault}
-use Rattle.mufom_words.specs.Answer.{unless_read, usage_fault, value_fault, limit_stop, limit_stop_by, usage, words_stop, command_by, unless_stopped}
-use Rattle.mufom_words.specs.Answer.{answer_by, answer_for, answer_of, given}
+use Rattle.mufom_words.specs.Answer.{usage_fault, value_fault, limit_stop, limit_stop_by, usage, words_stop, command_by, unless_stopped}
+use Rattle.mufom_words.specs.Answer.{answer_by, answer_for, answer_of, answer_unless, given}
 use Rattle.mufom_words.specs.Sound.{numbers_from, IsSound, CommandsAreSound}
 use Rattle.mufom_words.proofs.TreeOfWords.{tree_count, count-some, count-some-plain, length-numbers_from, IsTreeOf, tree-of-words, tree-of-plain}
 
@@ -56,7 +58,7 @@ test_failed n m x e = go (nat_lt n m) refl e where
   go false lt e = ltb-false n m lt
 
 -- the command of words that have no stop
-accepted : (s : Option WordsStop) (c d : Command) → unless_stopped s c ≡ Ok d → (s ≡ None) × (c ≡ d)
+pub accepted : (s : Option WordsStop) (c d : Command) → unless_stopped s c ≡ Ok d → (s ≡ None) × (c ≡ d)
 accepted None c d e = (refl, ap (λ (r : Result Command WordsStop). result_unwrap_or r c) e)
 accepted (Some s) c d e = absurd cc
 
@@ -380,7 +382,7 @@ commands-sound f words c e =
 
 -- ---- a command that prints a text of the program
 
-own-verbs : (word : Text) (v : Verb) → own_verb word ≡ Some v → (v ≡ verb.Help) ⊎ (v ≡ verb.Version)
+pub own-verbs : (word : Text) (v : Verb) → own_verb word ≡ Some v → (v ≡ verb.Help) ⊎ (v ≡ verb.Version)
 own-verbs word v is = by (bytes_eq word (codes "help") || (bytes_eq word (codes "--help") || bytes_eq word (codes "-h")))
     (bytes_eq word (codes "version") || (bytes_eq word (codes "--version") || bytes_eq word (codes "-V"))) is where
       by : (a b : Bool) → cond a (Some verb.Help) (cond b (Some verb.Version) None) ≡ Some v → (v ≡ verb.Help) ⊎ (v ≡ verb.Version)
@@ -428,6 +430,33 @@ printing-sound v (Some text) c one is =
 pub own-sound : (word : Text) (words : List Text) (v : Verb) (c : Command) → own_verb word ≡ Some v → own_answer v words ≡ Ok c → IsSound c
 own-sound word words v c is named = printing-sound v (own_text v words) c (own-verbs word v is) named
 
+-- ---- the command that explains others
+
+explain-sound : IsSound explain_command
+explain-sound = record {
+  tree = record { spelled = refl; numbered = refl; within = omega arith };
+  files = record { some = λ reads. absurd cc; none = λ reads. refl; one = λ one. absurd cc; few = omega arith };
+  options = record {
+    out = λ makes. absurd cc;
+    no_out = λ makes. refl;
+    no_plan = λ reads. refl;
+    no_name = λ names. refl;
+    no_keep = λ keeps. refl;
+    count = λ makes. absurd cc;
+    maus = (omega arith, omega arith);
+    short = tt;
+    help = λ prints. absurd cc;
+  };
+}
+
+pub explaining-sound : (words : List Text) (c : Command) → explain_answer words ≡ Ok c → IsSound c
+explaining-sound words c named = by (may_be_explained words) named where
+  by : (b : Bool) → cond b (Ok explain_command) (Err (stop.Usage fault.BadWords)) ≡ Ok c → IsSound c
+  by true named =
+      let same : explain_command ≡ c = ap (λ (r : Result Command WordsStop). result_unwrap_or r explain_command) named in
+      subst IsSound same explain-sound
+  by false named = absurd cc
+
 sound-by : (words : List Text) (f : Option Form) (c : Command) → answer_for f words ≡ Ok c → IsSound c
 sound-by words None c named = absurd cc
 sound-by words (Some f) c named = commands-sound f words c named
@@ -437,5 +466,8 @@ pub words-sound : (words : List Text) (c : Command) → answer_of words ≡ Ok c
 words-sound [] c named = absurd cc
 words-sound (word ∷ words) c named = by (own_verb word) refl named where
   by : (v : Option Verb) → own_verb word ≡ v → answer_by v word words ≡ Ok c → IsSound c
-  by None is named = sound-by (word ∷ words) (form_of word) c named
+  by None is named = by_name (names_explain word) named where
+    by_name : (b : Bool) → answer_unless b word words ≡ Ok c → IsSound c
+    by_name true named = explaining-sound words c named
+    by_name false named = sound-by (word ∷ words) (form_of word) c named
   by (Some v) is named = own-sound word words v c is named

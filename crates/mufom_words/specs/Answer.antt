@@ -21,6 +21,7 @@ use Rattle.mufom_words.specs.declared.stop.WordsStop.TheVariants as stop
 use Rattle.mufom_words.specs.Options.{Text, Usage, Given, usage_of, app_for, form_of, takes, given_by}
 use Rattle.mufom_words.specs.declared.command.Verb.{Verb}
 use Rattle.mufom_words.specs.Help.{own_answer, own_verb}
+use Rattle.mufom_words.specs.Explain.{explain_answer, names_explain}
 use Rattle.mufom_words.specs.Values.{byte_of, address_of, maus_of}
 use Rattle.mufom_words.specs.Operands.{operands_fault, number_fault, count_fault, files_of, marks_of, depth_of, number_of}
 
@@ -147,9 +148,14 @@ abbrev pub answer_for : Option Form → List Text → Result Command WordsStop
 answer_for None words = Err (stop.Usage fault.NoCommand)
 answer_for (Some f) words = unless_stopped (words_stop (usage_of f) (fault_of (app_for f) words) (given f words)) (command_by (usage_of f) (given f words))
 
+-- the command of words, of which the first names the command that explains the others, or not
+abbrev pub answer_unless : Bool → Text → List Text → Result Command WordsStop
+answer_unless true word words = explain_answer words
+answer_unless false word words = answer_for (form_of word) (word ∷ words)
+
 -- the command of words, of which the first names a command that prints a text of the program, or none of these
 abbrev pub answer_by : Option Verb → Text → List Text → Result Command WordsStop
-answer_by None word words = answer_for (form_of word) (word ∷ words)
+answer_by None word words = answer_unless (names_explain word) word words
 answer_by (Some v) word words = own_answer v words
 
 -- The command of the arguments, or the first thing that is wrong with them.

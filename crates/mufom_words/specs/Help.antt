@@ -1,5 +1,5 @@
 -- The commands that print a text of the program itself. Their words are compared letter by letter, and `clap` reads none of them.
-use Rattle.std.specs.Prelude.{◌≡◌, ◌||◌, List, [], ◌∷◌, Option, Some, None, Result, Ok, Err, codes, false, if◌then◌else◌}
+use Rattle.std.specs.Prelude.{◌||◌, List, [], ◌∷◌, Option, Some, None, Result, Ok, Err, codes, false, if◌then◌else◌}
 use Rattle.std.specs.Str.{bytes_eq}
 use Rattle.mufom_help.specs.Topics.{topic_in, topics}
 use Rattle.mufom_help.specs.declared.commands.TheConstants.{LIST}

@@ -122,6 +122,7 @@ abbrev pub reads_files : Verb → Bool
 reads_files verb.Make = false
 reads_files verb.Help = false
 reads_files verb.Version = false
+reads_files verb.Explain = false
 reads_files _ = true
 
 -- the command prints a text of the program itself
@@ -129,6 +130,11 @@ abbrev pub prints_help : Verb → Bool
 prints_help verb.Help = true
 prints_help verb.Version = true
 prints_help _ = false
+
+-- the command explains how other arguments end
+abbrev pub explains : Verb → Bool
+explains verb.Explain = true
+explains _ = false
 
 -- ---- the table of options
 

@@ -10,28 +10,30 @@ pub enum Verb {
     Show,
     /// Reads modules and prints a line for each.
     Check,
-    /// Writes the module that files are linked into.
+    /// Links files, and writes the linked module.
     Link,
-    /// Writes the absolute module that files are located as.
+    /// Links and locates files, and writes the absolute module.
     Locate,
-    /// Prints the image that files are located as.
+    /// Links and locates files, and prints the image.
     Dump,
-    /// Prints the map of the program that files are located as.
+    /// Links and locates files, and prints what is at which address.
     Map,
     /// Generates modules, links and locates them, and prints a summary.
     Make,
-    /// Prints the function and the line at an address of a located program.
+    /// Links and locates files, and prints the function and the line at an address.
     Addr,
-    /// Writes the raw bytes of the image that files are located as.
+    /// Links and locates files, and writes the image as raw bytes.
     Bin,
-    /// Writes the image that files are located as, as a TI-TXT text.
+    /// Links and locates files, and writes the image as a TI-TXT text.
     Txt,
-    /// Writes the module of a TI-TXT text.
+    /// Reads a TI-TXT text, and writes a module that loads its bytes.
     FromTxt,
-    /// Prints a text about the commands or about a refusal.
+    /// Prints the list of commands, or a text about a command or an error.
     Help,
     /// Prints the version of the program.
     Version,
+    /// Runs the command after it up to its first output, and explains how that ends.
+    Explain,
 }
 
 /// A text that `help` or `version` prints, which is part of the program. Contracts see its bytes.
@@ -66,7 +68,7 @@ impl HelpText {
     }
 }
 
-/// A word of the spelling of a tree of files.
+/// One argument of FILES: a bracket, or a file.
 #[derive(Clone, Copy, Debug, PartialEq, Eq)]
 pub enum Mark {
     /// A group begins.
@@ -81,30 +83,30 @@ pub enum Mark {
 #[derive(Debug, Drop)]
 pub struct Command {
     pub verb: Verb,
-    /// The debug parts are passed over.
+    /// `--no-debug`: the debug parts are skipped.
     pub no_debug: bool,
-    /// The name of the linked module, where one is given.
+    /// `--name`: the name of the linked module.
     pub name: Option<Bytes>,
-    /// The name of the file to be made. It is there exactly where the command makes one.
+    /// `-o`: the file to write. It is `Some` if and only if the command writes one.
     pub out: Option<Text>,
-    /// The name of the plan's file, where one is given.
+    /// `--plan`: the file of the memory plan.
     pub plan: Option<Text>,
-    /// The tree of the files that are not members: groups in brackets, files by their numbers.
+    /// The files that are not members, with the brackets around groups.
     pub marks: List<Mark>,
-    /// The names of the files in the order of their arguments. The members follow those of the tree.
+    /// The names of all files, in the order of the arguments. The members come last.
     pub files: List<Text>,
-    /// How many modules are generated; 0 if the command generates none.
+    /// COUNT of `make`: how many modules are generated; 0 for other commands.
     pub count: u32,
-    /// A module is printed in the form from which it can be built.
+    /// `--listing`: the module is printed in full.
     pub listing: bool,
-    /// The byte of an address that no load fills; 0 where `--fill` is absent.
+    /// `--fill`: the byte for addresses without a loaded byte; 0 without the option.
     pub fill: u8,
-    /// The address that is looked up; 0 where `--at` is absent.
+    /// `--at`: the address that is looked up; 0 without the option.
     pub at: u64,
-    /// The number of bytes in an address of a module that is made of a text; 4 where `--maus` is absent.
+    /// `--maus`: the number of bytes in an address of the module that `fromtxt` makes; 4 without the option.
     pub maus: u8,
-    /// The name of the public symbol of which what it needs is kept and all else left out, where one is given.
+    /// `--keep`: the public symbol to keep. What it does not need is left out.
     pub keep: Option<Bytes>,
-    /// What is printed of the program itself, where that is all that the command does.
+    /// The text that `help` or `version` prints; `None` for other commands.
     pub help: Option<HelpText>,
 }

@@ -8,6 +8,7 @@
 
 mod command;
 mod count;
+mod explain;
 mod form;
 mod found;
 mod help;

@@ -13,6 +13,7 @@ ghost use Rattle.mufom_words.specs.Sound.{IsSound};
 ghost use Rattle.mufom_words.specs.Values.{address_of as address, byte_of as byte, maus_of as maus};
 
 use crate::command::Command;
+use crate::explain::{explain_answer, names_explain};
 use crate::form::{Form, Operands};
 use crate::found::{is_given, matches_in, operands_in, value_in};
 use crate::help::{own_answer, own_verb};
@@ -259,7 +260,8 @@ pub(crate) fn command_for(alloc: Global, form: Form, words: &[String]) -> Result
 ///
 /// `words` are the command line's arguments without the program's name, fewer than 2^32. The first
 /// names the command, and `clap` reads the others, except those of `help` and `version`, which are
-/// compared letter by letter. Errors are looked for in this order, and the first is returned: no
+/// compared letter by letter, and those of `explain`, which are not read: they are the arguments of a
+/// call of their own. Errors are looked for in this order, and the first is returned: no
 /// command; the options; brackets and `+` from left to right, then those that the end leaves open,
 /// then that there is no file; the number of files; the name; the count; the values of `--maus`,
 /// `--fill` and `--at`; and after all these more than 1,024 files, and more than 64 groups that are open at
@@ -278,6 +280,9 @@ pub fn read_words(alloc: Global, words: &[String]) -> Result<Command, WordsStop>
     };
     if let Some(verb) = own_verb(first.as_str()) {
         return own_answer(alloc, verb, others);
+    }
+    if names_explain(first.as_str()) {
+        return explain_answer(alloc, others);
     }
     match Form::from_name(first.as_str()) {
         Some(form) => command_for(alloc, form, words),

@@ -16,10 +16,10 @@ returns g c =
     let before : Faults = g.H.World.faults c.args.host.now in let between : Faults = g.H.World.faults c.answer-outcome.new.host in
     let now : Faults = g.H.World.faults c.print_error_line.new.host in
     let call : Call = call_of g.H.World.meaning g.H.World.faults c.args.host.now c.print_error_line.new.host in
-    let is : IsAnswered (answer_of words) old new before now c.print_error_line.result =
-    answered (answer_of words) old mid new before between now c.answer-outcome.result c.print_error_line.result c.print_error_line.ensures.same
+    let is : IsAnswered words (answer_of words) old new before now c.print_error_line.result =
+    answered words (answer_of words) old mid new before between now c.answer-outcome.result c.print_error_line.result c.print_error_line.ensures.same
     c.print_error_line.ensures.only c.answer-outcome.ensures.does in
-    let stays = err-before (answer_of words) old mid before between c.answer-outcome.result c.answer-outcome.ensures.does in
+    let stays = err-before words (answer_of words) old mid before between c.answer-outcome.result c.answer-outcome.ensures.does in
     record {
       answers = is.answers;
       complete = answers-complete words call c.print_error_line.result (g.H.World.together c.args.host.now).bytes is.answers;

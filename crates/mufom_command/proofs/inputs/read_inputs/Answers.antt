@@ -1,4 +1,4 @@
-use Rattle.mufom_command.proofs.InputsLaws.{files-opens, files-stops, plan-opens, plan-stops}
+use Rattle.mufom_command.proofs.InputsLaws.{files-named, files-opens, files-stops, plan-named, plan-opens, plan-stops}
 use Rattle.mufom_command.proofs.inputs.read_inputs.Goals as goal
 
 pub returns-in-Err-clause-stops : goal.returns-in-Err-clause-stops
@@ -24,3 +24,15 @@ returns-in-Err-read_files-clause-opened g c =
     (g.H.World.faults c.command_plan.new.host) c.in-Ok.ensures.only
     (g.H.World.meaning c.read_files.new.host) (g.H.World.faults c.read_files.new.host) c.in-Err-read_files.stop c.in-Ok.ensures.opens
     (rw c.as_slice.ensures at c.in-Err-read_files.ensures.opened)
+
+pub returns-in-Err-clause-named : goal.returns-in-Err-clause-named
+returns-in-Err-clause-named g c =
+    plan-named c.args.command.now (g.H.World.meaning c.args.host.now) (g.H.World.meaning c.command_plan.new.host) (g.H.World.faults c.args.host.now)
+    (g.H.World.faults c.command_plan.new.host) c.in-Err.ensures.only c.in-Err.stop c.in-Err.ensures.stops
+
+pub returns-in-Err-read_files-clause-named : goal.returns-in-Err-read_files-clause-named
+returns-in-Err-read_files-clause-named g c =
+    files-named c.args.command.now (g.H.World.meaning c.args.host.now) (g.H.World.meaning c.command_plan.new.host) (g.H.World.faults c.args.host.now)
+    (g.H.World.faults c.command_plan.new.host) c.in-Ok.ensures.only
+    (g.H.World.meaning c.read_files.new.host) (g.H.World.faults c.read_files.new.host) c.in-Err-read_files.stop
+    (rw c.as_slice.ensures at c.in-Err-read_files.ensures.stops)

@@ -1,4 +1,4 @@
-use Rattle.std.proofs.Common.{map, length, arith, sym, ◌≡◌, ◌≤◌}
+use Rattle.std.proofs.Common.{map, length, arith, sym, ◌≡◌}
 use Rattle.std.proofs.lemmas.List.{length-map}
 use Rattle.std.specs.String.{string_bytes}
 use Rattle.mufom_words.proofs.HelpLaws.{no-text}

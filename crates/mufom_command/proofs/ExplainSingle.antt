@@ -1,0 +1,143 @@
+-- The text on some arguments is one, and so a run comes to one end at most.
+use Rattle.std.proofs.Common.{◌≡◌, ℕ, Bool, true, false, List, Option, Some, None, Result, Ok, Err, inl, inr, sym, ap, subst, ◌∙◌}
+use Rattle.mufom_host.specs.World.{HoldBytes, NamedFile}
+use Rattle.mufom_module.specs.declared.module.Parts.{Parts}
+use Rattle.mufom_meaning.specs.Facts.{LinkFact, LocateFact}
+use Rattle.mufom_meaning.proofs.locations.SelectionSingle.{selection_is_single}
+use Rattle.mufom_words.specs.declared.command.Command.{Command}
+use Rattle.mufom_words.specs.declared.stop.WordsStop.{WordsStop}
+use Rattle.mufom_words.specs.Alike.{flat_list, linked_lists}
+use Rattle.mufom_words.specs.Answer.{answer_of}
+use Rattle.mufom_words.specs.Explain.{explained}
+use Rattle.mufom_words.specs.Options.{explains}
+use Rattle.mufom_words.specs.Tree.{tree_of}
+use Rattle.mufom_groups.specs.Linked.{members, roots}
+use Rattle.mufom_groups.specs.Refused.{IsRefusedFlatList, IsRefusedList, refused_among}
+use Rattle.mufom_groups.specs.Refusals.{link_refusal}
+use Rattle.mufom_groups.specs.Work.{IsSingle, Reached, Work, ◌>>=◌, gives, one_with, stops, sure}
+use Rattle.mufom_groups.proofs.Works.{one_with-single, stop_at-single, sure-single, then-single, value-same}
+use Rattle.mufom_origins.specs.Origins.{FileModule, modules_of}
+use Rattle.mufom_explain.specs.Details.{link_details, locate_details, name_details}
+use Rattle.mufom_explain.specs.Lines.{file_line, plan_line}
+use Rattle.mufom_text.specs.Words.{Text}
+use Rattle.mufom_command.specs.Stop.{Stop, words_refused, plan_refused, file_refused, past_limit, link_fact, keep_unknown, locate_fact, raw_too_long}
+use Rattle.mufom_command.specs.Stop.{text_refused}
+use Rattle.mufom_command.specs.Commands.{Output, kept_of, modules_in, plan_in, printed, work_by}
+use Rattle.mufom_command.specs.Contract.{run_by, run_of, work_with}
+use Rattle.mufom_command.specs.Explain.{HasLines, IsTextOn, explaining}
+use Rattle.mufom_command.specs.ExplainText.{explain_text}
+use Rattle.mufom_command.specs.FlatFiles.{AreFlatFiles}
+use Rattle.mufom_command.specs.HasDetails.{HasDetails, HasFileLine, HasPlanLine, IsRefusedFlat, explained_by, files_at, lines_of_link, lines_of_locate, lines_of_name}
+use Rattle.mufom_command.specs.LocateRefusals.{locate_refusal}
+use Rattle.mufom_command.specs.Run.{outcome_of}
+use Rattle.mufom_command.proofs.MapLaws.{flat-files-single}
+use Rattle.mufom_command.proofs.Runs.{kept_of-single, modules_in-single, plan_in-single, work_by-single, work_of-single}
+
+-- ---- the list that is refused
+
+-- the files that were found, and these where none were
+abbrev files-or : List ℕ → Option (List ℕ × LinkFact) → List ℕ
+files-or files None = files
+files-or files (Some p) = p.0
+
+module _ (c : Command) (ms : List Parts) (f : LinkFact) where
+  flat-list-single : (a b : List ℕ) → IsRefusedFlatList c ms a f → IsRefusedFlatList c ms b f → a ≡ b
+  flat-list-single a b one other =
+      let same : one.chosen ≡ other.chosen
+      = selection_is_single (roots (tree_of c.marks) ms) (members (tree_of c.marks) ms) one.chosen other.chosen one.selected other.selected in
+      one.are ∙ (ap (flat_list c) same ∙ sym other.are)
+
+  list-single : (a b : List ℕ) → IsRefusedList c ms a f → IsRefusedList c ms b f → a ≡ b
+  list-single a b (inl one) (inl other) = ap (files-or a) (sym one ∙ other)
+  list-single a b (inl one) (inr (none, other)) = let same : Some (a, f) ≡ None = sym one ∙ none in absurd cc
+  list-single a b (inr (none, one)) (inl other) = let same : Some (b, f) ≡ None = sym other ∙ none in absurd cc
+  list-single a b (inr (none, one)) (inr (still, other)) = flat-list-single a b one other
+
+  flat-single : (a b : List FileModule) → IsRefusedFlat c ms f a → IsRefusedFlat c ms f b → a ≡ b
+  flat-single a b (files, one, is_a) (others, other, is_b) = is_a ∙ (ap (files_at ms) (list-single files others one other) ∙ sym is_b)
+
+-- ---- lines
+
+module _ (files : List NamedFile) (bytes : HoldBytes files) (c : Command) where
+  link-single : (f : LinkFact) → IsSingle (lines_of_link files c f)
+  link-single f =
+      then-single (modules_in files c) (λ ms. one_with (IsRefusedFlat c ms f) >>= λ flat. sure (link_details c.files flat (link_refusal f)))
+      (modules_in-single files bytes c) λ ms.
+      then-single (one_with (IsRefusedFlat c ms f)) (λ flat. sure (link_details c.files flat (link_refusal f)))
+      (one_with-single (IsRefusedFlat c ms f) (flat-single c ms f)) λ flat. sure-single (link_details c.files flat (link_refusal f))
+
+  name-single : (name : List ℕ) → IsSingle (lines_of_name files c name)
+  name-single name =
+      then-single (modules_in files c) (λ ms. one_with (AreFlatFiles (tree_of c.marks) ms) >>= λ flat. sure (name_details c.files flat name))
+      (modules_in-single files bytes c) λ ms.
+      then-single (one_with (AreFlatFiles (tree_of c.marks) ms)) (λ flat. sure (name_details c.files flat name))
+      (flat-files-single (tree_of c.marks) ms) λ flat. sure-single (name_details c.files flat name)
+
+  locate-single : (maus : ℕ) (f : LocateFact) → IsSingle (lines_of_locate files c maus f)
+  locate-single maus f =
+      then-single (plan_in files c.plan) (λ plan. modules_in files c >>= λ ms. one_with (AreFlatFiles (tree_of c.marks) ms) >>= λ flat.
+      kept_of c.keep (modules_of flat) >>= λ kept. sure (locate_details (explained_by c plan flat kept maus) (locate_refusal f)))
+      (plan_in-single files c.plan) λ plan.
+      then-single (modules_in files c) (λ ms. one_with (AreFlatFiles (tree_of c.marks) ms) >>= λ flat.
+      kept_of c.keep (modules_of flat) >>= λ kept. sure (locate_details (explained_by c plan flat kept maus) (locate_refusal f)))
+      (modules_in-single files bytes c) λ ms.
+      then-single (one_with (AreFlatFiles (tree_of c.marks) ms)) (λ flat.
+      kept_of c.keep (modules_of flat) >>= λ kept. sure (locate_details (explained_by c plan flat kept maus) (locate_refusal f)))
+      (flat-files-single (tree_of c.marks) ms) λ flat.
+      then-single (kept_of c.keep (modules_of flat)) (λ kept. sure (locate_details (explained_by c plan flat kept maus) (locate_refusal f)))
+      (kept_of-single c.keep (modules_of flat)) λ kept. sure-single (locate_details (explained_by c plan flat kept maus) (locate_refusal f))
+
+  plan-line-single : (a b : Text) → HasPlanLine c a → HasPlanLine c b → a ≡ b
+  plan-line-single a b one other =
+      let both : Some one.name ≡ Some other.name = sym one.named ∙ other.named in
+      let same : one.name ≡ other.name = cc in
+      one.are ∙ (ap plan_line same ∙ sym other.are)
+
+  file-line-single : (n : ℕ) (a b : Text) → HasFileLine c n a → HasFileLine c n b → a ≡ b
+  file-line-single n a b one other = one.are ∙ sym other.are
+
+  details-single : (s : Stop) (a b : Text) → HasDetails (Some files) c s a → HasDetails (Some files) c s b → a ≡ b
+  details-single (plan_refused r) a b one other = plan-line-single a b one other
+  details-single (file_refused n r) a b one other = file-line-single n a b one other
+  details-single (past_limit n) a b one other = file-line-single n a b one other
+  details-single (text_refused r) a b one other = file-line-single 0 a b one other
+  details-single (link_fact f) a b one other = value-same a b (link-single f (gives a) (gives b) one other)
+  details-single (keep_unknown name) a b one other = value-same a b (name-single name (gives a) (gives b) one other)
+  details-single (locate_fact maus f) a b one other = value-same a b (locate-single maus f (gives a) (gives b) one other)
+  details-single (raw_too_long count) a b one other = one ∙ sym other
+  details-single (words_refused s) a b one other = one ∙ sym other
+
+lines-single : (files : List NamedFile) → HoldBytes files → (r : Result Command WordsStop) (reached : Reached Stop Output) (a b : Text)
+    → HasLines files r reached a → HasLines files r reached b → a ≡ b
+lines-single files bytes (Ok c) (gives output) a b one other = one ∙ sym other
+lines-single files bytes (Ok c) (stops s) a b one other = details-single files bytes c s a b one other
+lines-single files bytes (Err stop) reached a b one other = one ∙ sym other
+
+-- ---- the text
+
+module _ (words : List (List ℕ)) (files : List NamedFile) (bytes : HoldBytes files) where
+  text-single : (x y : Reached Stop Output) (a b : Text) → IsTextOn words files x a → IsTextOn words files y b → a ≡ b
+  text-single x y a b one other =
+      let same : x ≡ y = work_by-single (answer_of words) files bytes x y one.comes other.comes in
+      let lines : HasLines files (answer_of words) y one.details
+      = subst (λ (r : Reached Stop Output). HasLines files (answer_of words) r one.details) same one.lines in
+      let equal : one.details ≡ other.details = lines-single files bytes (answer_of words) y one.details other.details lines other.lines in
+      one.are ∙ ((λ i. explain_text words (outcome_of (same i)) (equal i)) ∙ sym other.are)
+
+  explaining-single : IsSingle (explaining words files)
+  explaining-single (gives x) (gives y) (reached, text, on, is_x) (again, other, also, is_y) =
+      let same : text ≡ other = text-single reached again text other on also in
+      ap gives (is_x ∙ (ap printed same ∙ sym is_y))
+  explaining-single (gives x) (stops t) is_x is_y = absurd is_y
+  explaining-single (stops s) y is_x is_y = absurd is_x
+
+-- A run comes to one end at most.
+pub run_of-single : (words : List (List ℕ)) (files : List NamedFile) → HoldBytes files → IsSingle (run_of words files)
+run_of-single words files bytes = by (answer_of words) where
+  with_verb : (c : Command) (b : Bool) → IsSingle (work_with b words c files)
+  with_verb c true = explaining-single (explained words) files bytes
+  with_verb c false = work_of-single files bytes c c.verb
+
+  by : (r : Result Command WordsStop) → IsSingle (run_by words r files)
+  by (Ok c) = with_verb c (explains c.verb)
+  by (Err s) = stop_at-single (words_refused s)

@@ -1,0 +1,119 @@
+-- The lines of what the outcome of a command names: files, the plan, sections, regions, and the modules that have a name.
+use Rattle.std.specs.Prelude.{◌≡◌, ◌⊎◌, ℕ, ◌<◌, List, [], length, Option, Some, IfSome}
+use Rattle.mufom_host.specs.World.{NamedFile}
+use Rattle.mufom_module.specs.declared.module.Parts.{Parts}
+use Rattle.mufom_meaning.specs.Facts.{LinkFact, LocateFact}
+use Rattle.mufom_words.specs.declared.command.Command.{Command}
+use Rattle.mufom_words.specs.Tree.{tree_of}
+use Rattle.mufom_plan.specs.declared.plan.Plan.{Plan}
+use Rattle.mufom_groups.specs.Refused.{IsRefusedList}
+use Rattle.mufom_groups.specs.Refusals.{link_refusal}
+use Rattle.mufom_groups.specs.Work.{Work, ◌>>=◌, gives, one_with, sure}
+use Rattle.mufom_origins.specs.Origins.{FileModule, modules_of, numbered, origins_of}
+use Rattle.mufom_origins.specs.Places.{at_positions}
+use Rattle.mufom_explain.specs.Details.{Explained, link_details, locate_details, name_details}
+use Rattle.mufom_explain.specs.Lines.{file_line, plan_line}
+use Rattle.mufom_text.specs.Words.{Text}
+use Rattle.mufom_command.specs.declared.outcome.Input.{Input}
+use Rattle.mufom_command.specs.declared.outcome.Input.TheVariants as input
+use Rattle.mufom_command.specs.declared.outcome.Outcome.{Outcome}
+use Rattle.mufom_command.specs.declared.outcome.Outcome.TheVariants as outcome
+use Rattle.mufom_command.specs.declared.outcome.Refusal.TheVariants as refusal
+use Rattle.mufom_command.specs.Stop.{Stop, words_refused, plan_refused, file_refused, past_limit, link_fact, keep_unknown, locate_fact, raw_too_long}
+use Rattle.mufom_command.specs.Stop.{text_refused}
+use Rattle.mufom_command.specs.Commands.{Kept, kept_of, kept_origins, modules_in, plan_in}
+use Rattle.mufom_command.specs.FlatFiles.{AreFlatFiles}
+use Rattle.mufom_command.specs.LocateRefusals.{locate_refusal}
+
+-- ---- inputs
+
+-- the line of a file of the command
+pub record HasFileLine (c : Command) (n : ℕ) (details : Text) : Type 0 where
+  pub there : n < length c.files
+  pub are : details ≡ file_line c.files n
+
+-- the line of the plan of the command, which names one
+pub record HasPlanLine (c : Command) (details : Text) : Type 0 where
+  pub name : List ℕ
+  pub named : c.plan ≡ Some name
+  pub are : details ≡ plan_line name
+
+-- the line of an input of the command
+abbrev pub HasInputLine : Command → Input → Text → Type 0
+HasInputLine c input.Plan details = HasPlanLine c details
+HasInputLine c (input.File n) details = HasFileLine c n details
+
+-- ---- linking
+
+-- the modules of these files, with the numbers of the files
+abbrev pub files_at : List Parts → List ℕ → List FileModule
+files_at ms files = at_positions (numbered ms) files
+
+-- The modules of the list that is refused with this link fact, with their files. In the lines that follow, modules are counted in it: in
+-- that of the first group that can't be linked, not in that of the whole command.
+abbrev pub IsRefusedFlat : Command → List Parts → LinkFact → List FileModule → Type 0
+IsRefusedFlat c ms f flat = (files : List ℕ) × IsRefusedList c ms files f × (flat ≡ files_at ms files)
+
+-- the lines of a link fact
+abbrev pub lines_of_link : List NamedFile → Command → LinkFact → Work Stop Text
+lines_of_link files c f = do
+  ms ← modules_in files c
+  flat ← one_with (IsRefusedFlat c ms f)
+  sure (link_details c.files flat (link_refusal f))
+
+-- ---- what is kept
+
+-- the lines of a name that is to be kept and that no public of the flat list has
+abbrev pub lines_of_name : List NamedFile → Command → List ℕ → Work Stop Text
+lines_of_name files c name = do
+  ms ← modules_in files c
+  flat ← one_with (AreFlatFiles (tree_of c.marks) ms)
+  sure (name_details c.files flat name)
+
+-- ---- locating
+
+-- What a locate fact is explained by: sections, sizes of commons and undefined names are those of what is kept of the flat list, and the
+-- modules of a name, and those that ask for a common, are all those of the flat list. An address has this many bytes.
+abbrev pub explained_by : Command → Plan → List FileModule → Kept → ℕ → Explained
+explained_by c plan flat kept maus = record {
+  names = c.files;
+  flat = flat;
+  origins = kept_origins kept.rest (origins_of flat);
+  maus = maus;
+  modules = kept.modules;
+  plan = plan;
+}
+
+-- the lines of a locate fact against what is kept of the flat list
+abbrev pub lines_of_locate : List NamedFile → Command → ℕ → LocateFact → Work Stop Text
+lines_of_locate files c maus f = do
+  plan ← plan_in files c.plan
+  ms ← modules_in files c
+  flat ← one_with (AreFlatFiles (tree_of c.marks) ms)
+  kept ← kept_of c.keep (modules_of flat)
+  sure (locate_details (explained_by c plan flat kept maus) (locate_refusal f))
+
+-- ---- any end
+
+-- These are the lines of what an end of the command's work names. What can be told only of files is told where they are known. Ends that
+-- name no file, section, region or symbol have no lines.
+abbrev pub HasDetails : Option (List NamedFile) → Command → Stop → Text → Type 0
+HasDetails files c (plan_refused r) details = HasPlanLine c details
+HasDetails files c (file_refused n r) details = HasFileLine c n details
+HasDetails files c (past_limit n) details = HasFileLine c n details
+HasDetails files c (text_refused r) details = HasFileLine c 0 details
+HasDetails files c (link_fact f) details = IfSome files (λ fs. lines_of_link fs c f (gives details))
+HasDetails files c (keep_unknown name) details = IfSome files (λ fs. lines_of_name fs c name (gives details))
+HasDetails files c (locate_fact maus f) details = IfSome files (λ fs. lines_of_locate fs c maus f (gives details))
+HasDetails files c (raw_too_long count) details = details ≡ []
+HasDetails files c (words_refused s) details = details ≡ []
+
+-- These are the lines of the input that an outcome of the command names, where the command has that input; and none where it names none.
+abbrev pub IsInputDetail : Command → Outcome → Text → Type 0
+IsInputDetail c (outcome.ReadFault input.Plan) details = (name : List ℕ) → c.plan ≡ Some name → details ≡ plan_line name
+IsInputDetail c (outcome.ReadFault (input.File n)) details = details ≡ file_line c.files n
+IsInputDetail c (outcome.Refused (refusal.Plan r)) details = (name : List ℕ) → c.plan ≡ Some name → details ≡ plan_line name
+IsInputDetail c (outcome.Refused (refusal.Read n r)) details = details ≡ file_line c.files n
+IsInputDetail c (outcome.Refused (refusal.InputLimit n)) details = details ≡ file_line c.files n
+IsInputDetail c (outcome.Refused (refusal.Text r)) details = details ≡ file_line c.files 0
+IsInputDetail c _ details = details ≡ []

@@ -1,0 +1,141 @@
+//! Printing how a run ended, what its error line names, and the text of help on it.
+
+ghost use Rattle.std.specs.Prelude.{◌≡◌, ◌≢◌, [], map, option_map, IfOk, Some};
+ghost use Rattle.std.specs.String.{string_bytes};
+ghost use Rattle.mufom_host.specs.World.{OnlyPrints};
+ghost use Rattle.mufom_command.specs.ExplainText.{explain_text, first_line as line_of, topic_part};
+ghost use Rattle.mufom_command.specs.Making.{IsPrinted};
+ghost use Rattle.mufom_command.specs.Run.{call_of};
+ghost use Rattle.mufom_command.specs.Told.{told_text};
+
+use crate::complaint::{fault_line, refusal_line, usage_line};
+use crate::outcome::Outcome;
+use crate::topic::topic_of;
+use mufom_explain::{LinkDetails, LocateDetails, NameDetails, file_line, plan_line};
+use mufom_host::Host;
+use mufom_numbers::{NoMemory, Text};
+use mufom_text::{Lines, Output, PrintStop, print_lines};
+use std::alloc::Global;
+
+/// The lines of what an outcome names.
+#[derive(Drop)]
+pub(crate) enum Details<'a> {
+    Nothing,
+    /// The file with this number, of files with these names.
+    File { names: &'a [Text], number: u32 },
+    /// The plan, by the name of its file.
+    Plan(&'a Text),
+    /// What an error in linking names.
+    Link(LinkDetails<'a>),
+    /// The modules that refer to a name that is to be kept and that none defines.
+    Name(NameDetails<'a>),
+    /// What an error in locating names.
+    Locate(LocateDetails<'a>),
+}
+
+/// All that `explain` prints.
+#[derive(Drop)]
+struct Explanation<'a> {
+    /// The error line, with its line end.
+    line: &'a [u8],
+    details: &'a Details<'a>,
+    /// The text of help, if there is one.
+    topic: Option<&'static str>,
+}
+
+// The lines of what an outcome names.
+fn put_details<K: Output>(out: &mut K, details: &Details<'_>)
+    ensures { K.takes out.old out.new (told_text details.now) }
+{
+    match details {
+        Details::Nothing => {}
+        Details::File { names, number } => file_line(out, names, *number),
+        Details::Plan(name) => plan_line(out, name),
+        Details::Link(details) => details.put_lines(out),
+        Details::Name(details) => details.put_lines(out),
+        Details::Locate(details) => details.put_lines(out),
+    }
+}
+
+// An empty line and a text of help.
+fn put_help<K: Output>(out: &mut K, text: &str)
+    ensures { K.takes out.old out.new (topic_part (Some text.now)) }
+{
+    out.put(b"\n");
+    out.put(text.as_bytes());
+}
+
+// The same, if there is a text.
+fn put_topic<K: Output>(out: &mut K, topic: Option<&'static str>)
+    ensures { K.takes out.old out.new (topic_part (option_map (λ text. text.now) topic.entry)) }
+{
+    match topic {
+        Some(text) => put_help(out, text),
+        None => {}
+    }
+}
+
+impl<'a> Lines for Explanation<'a> {
+    ghost use Rattle.mufom_command.specs.Told.{explanation_text};
+
+    ghost text = { λ explanation. explanation_text explanation };
+
+    fn put_lines<K: Output>(&self, out: &mut K) {
+        out.put(self.line);
+        put_details(out, self.details);
+        put_topic(out, self.topic);
+    }
+}
+
+// The error line of an outcome, or that there is none.
+fn first_line(alloc: Global, answer: &Outcome) -> Result<Vec<u8>, NoMemory>
+    ensures line { IfOk result (λ text. text.items ≡ line_of answer.now) }
+    ensures told { IfOk result (λ text. (answer.now ≢ Outcome.WriteFault) × (answer.now ≢ Outcome.NoMemory)) }
+{
+    match answer {
+        Outcome::Done => Ok(Vec::from_slice(alloc, b"done\n")?),
+        Outcome::Refused(refusal) => refusal_line(alloc, refusal),
+        Outcome::Usage(fault) => Ok(Vec::from_slice(alloc, usage_line(*fault).as_bytes())?),
+        Outcome::ReadFault(input) => Ok(fault_line(alloc, *input)?.into_bytes()),
+        Outcome::WriteFault | Outcome::NoMemory => Err(NoMemory),
+    }
+}
+
+/// Prints how a run with these arguments ended: its error line, what that names, and the text of help on
+/// it. Returns the outcome, whose error line is not printed yet: out of memory if memory ran out, also if
+/// it did in that run, and nothing is printed then.
+pub(crate) fn print_explanation<H: Host>(
+    alloc: Global,
+    words: &[String],
+    answer: &Outcome,
+    details: &Details<'_>,
+    host: &mut H,
+) -> Outcome
+    ensures answer { IsPrinted (explain_text (map (λ word. string_bytes word) words.now) answer.now (told_text details.now))
+        (call_of H.meaning H.faults host.old host.new) result }
+    ensures told { result ≢ Outcome.NoMemory → (answer.now ≢ Outcome.WriteFault) × (answer.now ≢ Outcome.NoMemory) }
+    ensures only { OnlyPrints (H.meaning host.old) (H.meaning host.new) (H.faults host.old) (H.faults host.new) }
+{
+    let Ok(line) = first_line(alloc, answer) else {
+        return Outcome::NoMemory;
+    };
+    let explanation = Explanation {
+        line: line.as_slice(),
+        details,
+        topic: topic_of(words, answer),
+    };
+    match print_lines(alloc, host, &explanation) {
+        Ok(()) => Outcome::Done,
+        Err(PrintStop::Fault) => Outcome::WriteFault,
+        Err(PrintStop::NoMemory) => Outcome::NoMemory,
+    }
+}
+
+/// Prints that a run with these arguments would be done.
+pub(crate) fn print_done<H: Host>(alloc: Global, words: &[String], host: &mut H) -> Outcome
+    ensures answer { IsPrinted (explain_text (map (λ word. string_bytes word) words.now) Outcome.Done [])
+        (call_of H.meaning H.faults host.old host.new) result }
+    ensures only { OnlyPrints (H.meaning host.old) (H.meaning host.new) (H.faults host.old) (H.faults host.new) }
+{
+    print_explanation(alloc, words, &Outcome::Done, &Details::Nothing, host)
+}

@@ -1,0 +1,78 @@
+//! The modules of the files of a run, as they are explained: copies to link, and lists of them by their files.
+
+ghost use Rattle.std.specs.Prelude.{◌≡◌, ◌++◌, ◌+◌, ◌≤◌, ◌∷◌, [], length, option_map, option_to_list, slice_get, IfOk, OnOk};
+ghost use Rattle.mufom_origins.specs.Origins.{numbered};
+ghost use Rattle.mufom_origins.specs.Places.{at_positions};
+ghost use Rattle.mufom_explain.specs.Flat.{flat_of};
+
+use mufom_copies::copy_module;
+use mufom_explain::FlatModule;
+use mufom_module::Module;
+use mufom_numbers::{List, NoMemory};
+use std::alloc::Global;
+
+/// Copies of modules.
+pub(crate) fn copies(alloc: Global, modules: &[Module]) -> Result<List<Module>, NoMemory>
+    ensures { IfOk result (λ copies. copies ≡ modules.now) }
+{
+    let mut copies = List::new(alloc);
+    for module in modules {
+        copies.push(copy_module(alloc, module)?)?;
+    }
+    Ok(copies)
+}
+
+// The module of the file with a number, if there is one.
+fn module_at(modules: &[Module], file: u32) -> Option<&Module>
+    ensures { option_map (λ m. m.now) result ≡ slice_get modules.now file }
+{
+    modules.get(file as usize)
+}
+
+// Appends a module, which is that of the file with this number.
+fn push_module<'a>(
+    flat: &mut Vec<FlatModule<'a>>,
+    file: u32,
+    module: &'a Module,
+) -> Result<(), NoMemory>
+    ensures pushed { OnOk result (flat_of flat.new.items ≡ flat_of flat.old.items ++ (file, «module».now) ∷ []) }
+    ensures count { OnOk result (length flat.new.items ≤ length flat.old.items + 1) }
+{
+    flat.push(FlatModule {
+        file,
+        parts: module.parts(),
+    })?;
+    Ok(())
+}
+
+// The same, if there is one.
+fn push_file<'a>(
+    flat: &mut Vec<FlatModule<'a>>,
+    file: u32,
+    module: Option<&'a Module>,
+) -> Result<(), NoMemory>
+    ensures pushed { OnOk result (flat_of flat.new.items ≡ flat_of flat.old.items
+        ++ option_to_list (option_map (λ m. (file, m.now)) «module».entry)) }
+    ensures count { OnOk result (length flat.new.items ≤ length flat.old.items + 1) }
+{
+    match module {
+        Some(module) => push_module(flat, file, module),
+        None => Ok(()),
+    }
+}
+
+/// The modules of the files with these numbers.
+pub(crate) fn flat_modules<'a>(
+    alloc: Global,
+    modules: &'a [Module],
+    files: &[u32],
+) -> Result<Vec<FlatModule<'a>>, NoMemory>
+    ensures flat { IfOk result (λ flat. flat_of flat.items ≡ at_positions (numbered modules.now) files.now) }
+    ensures count { IfOk result (λ flat. length flat.items ≤ length files.now) }
+{
+    let mut flat = Vec::new(alloc);
+    for file in files {
+        push_file(&mut flat, *file, module_at(modules, *file))?;
+    }
+    Ok(flat)
+}

@@ -1,0 +1,54 @@
+-- Which list of files a command can't link: the first one, of those that it links, against which a link fact stands.
+use Rattle.std.specs.Prelude.{◌≡◌, ◌⊎◌, ℕ, ◌+◌, ◌-◌, List, [], ◌∷◌, ◌++◌, drop, length, map, take, Option, Some, None, option_map, IsSome}
+use Rattle.mufom_module.specs.declared.module.Parts.{Parts}
+use Rattle.mufom_place.specs.Facts.{first_some}
+use Rattle.mufom_meaning.specs.Facts.{LinkFact}
+use Rattle.mufom_meaning.specs.LinkAnswer.{link_answer}
+use Rattle.mufom_meaning.specs.Selection.{IsSelected, members_at}
+use Rattle.mufom_words.specs.declared.command.Command.{Command}
+use Rattle.mufom_words.specs.declared.command.Mark.{Mark}
+use Rattle.mufom_words.specs.declared.command.Mark.TheVariants.{Open, Close, File}
+use Rattle.mufom_words.specs.Alike.{flat_list, linked_lists}
+use Rattle.mufom_words.specs.Sound.{numbers_from}
+use Rattle.mufom_words.specs.Tree.{tree_of}
+use Rattle.mufom_groups.specs.declared.refused.FileRange.{FileRange}
+use Rattle.mufom_groups.specs.Groups.{last_of}
+use Rattle.mufom_groups.specs.Linked.{members, roots}
+
+-- the first of these lists of files whose modules can't be linked, with the link fact
+abbrev pub refused_among : List Parts → List (List ℕ) → Option (List ℕ × LinkFact)
+refused_among ms lists = first_some (λ files. option_map (λ f. (files, f)) (link_answer (members_at ms files))) lists
+
+-- The files of the flat list, where this link fact stands against it.
+pub record IsRefusedFlatList (c : Command) (ms : List Parts) (files : List ℕ) (f : LinkFact) : Type 0 where
+  pub chosen : List ℕ
+  pub selected : IsSelected (roots (tree_of c.marks) ms) (members (tree_of c.marks) ms) chosen
+  pub are : files ≡ flat_list c chosen
+  pub fact : link_answer (members_at ms files) ≡ Some f
+
+-- These are the files of the list that is refused with this link fact: the first group of which one stands, in the order of the closing
+-- brackets; else all files of the tree; and if they can be linked too, those of the flat list.
+abbrev pub IsRefusedList : Command → List Parts → List ℕ → LinkFact → Type 0
+IsRefusedList c ms files f =
+    (refused_among ms (linked_lists c) ≡ Some (files, f))
+    ⊎ ((refused_among ms (linked_lists c) ≡ None) × IsRefusedFlatList c ms files f)
+
+-- the numbers of the files of a range
+abbrev pub files_between : FileRange → List ℕ
+files_between range = numbers_from range.first (range.end - range.first)
+
+-- A mark was taken, after this many files and these open groups: a file comes, a group begins, or the innermost one closes and its files are
+-- one range more.
+abbrev pub IsRanged : Mark → ℕ → List ℕ → List FileRange → List ℕ → List FileRange → ℕ → Type 0
+IsRanged (File n) count begun ranges new_begun new_ranges now = (now ≡ count + 1) × (new_begun ≡ begun) × (new_ranges ≡ ranges)
+IsRanged Open count begun ranges new_begun new_ranges now = (now ≡ count) × (new_begun ≡ begun ++ count ∷ []) × (new_ranges ≡ ranges)
+IsRanged Close count begun ranges new_begun new_ranges now =
+    (now ≡ count) × (new_begun ≡ take (length begun - 1) begun)
+    × ((range : FileRange) × (range.first ≡ last_of begun) × (range.end ≡ count) × (new_ranges ≡ ranges ++ range ∷ []))
+
+-- The files are those of the tree, which are the first ones, where they can't be linked; else those of the flat list.
+abbrev pub IsTreeOrFlat : ℕ → List Parts → List ℕ → Type 0
+IsTreeOrFlat roots ms files =
+    (IsSome (link_answer (take roots ms)) × (files ≡ numbers_from 0 roots))
+    ⊎ ((link_answer (take roots ms) ≡ None) × ((chosen : List ℕ) × IsSelected (take roots ms) (drop roots ms) chosen
+    × (files ≡ numbers_from 0 roots ++ map (λ member. roots + member) chosen)))
