@@ -23,7 +23,7 @@ ENUMS = ("Reason", "TxtReason", "PlanRefusal", "LinkRefusal", "PruneRefusal", "P
 # Variants that are no names: they have no line, or only hold another error.
 NOT_NAMES = {"NoMemory", "Place"}
 # Commands that are not in the table of commands, since they read no options.
-OTHER_COMMANDS = {"help", "version"}
+OTHER_COMMANDS = {"explain", "help", "version"}
 
 
 def read(path):

@@ -2,7 +2,9 @@
 
     python3 tools/refusals.py PROGRAM
 
-Makes each of them, gives it to the program, and compares the line on standard error with the row.
+Makes each of them, gives it to the program, and compares the line on standard error with the row. Then
+it compares what `explain` prints of the same arguments: that line, the file or the modules that the
+error is about, an empty line and what `help` prints.
 Examples that are told in words are passed over. The last line has the number of examples that hold
 and of those that do not; the status is 0 where all hold.
 """
@@ -16,6 +18,8 @@ import tempfile
 TOP = os.path.dirname(os.path.dirname(os.path.abspath(__file__)))
 SAMPLE = open(os.path.join(TOP, "crates/mufom/data/a.695"), "rb").read()
 SECTIONS_END = 100
+# What `explain` prints below the line of an error about modules.
+MODULES = {"refused: link: DuplicateStart": 'module 0 "A" file 0: "a.695"\nmodule 1 "A" file 1: "a.695"\n'}
 # Where the four bytes of each part's offset stand in the sample.
 OFFSETS = {"external": 13 + 8 * 3 + 4, "debug": 13 + 8 * 4 + 4, "data": 13 + 8 * 5 + 4, "trailer": 13 + 8 * 6 + 4, "end": 13 + 8 * 7 + 4}
 
@@ -81,6 +85,24 @@ def examples():
                 yield example.group(1).split(), None, name.group(1).replace(" N", " 0")
 
 
+def topic_of(words, wanted):
+    """The arguments of `help` that print the text on an error line."""
+    if wanted.startswith("usage: "):
+        return [words[0]] if words and not words[0].startswith("-") else []
+    return [re.search(r"\b[A-Z]\w*", wanted).group(0)]
+
+
+def explained(program, folder, words, data, wanted):
+    """What `explain` should print."""
+    help_of = [program, "help", *topic_of(words, wanted)]
+    text = subprocess.run(help_of, cwd=folder, capture_output=True, text=True, check=False)
+    if text.returncode != 0:
+        # The first argument names no command.
+        text = subprocess.run([program, "help"], cwd=folder, capture_output=True, text=True, check=False)
+    details = 'file 0: "x.695"\n' if data is not None else MODULES.get(wanted, "")
+    return wanted + "\n" + details + "\n" + text.stdout
+
+
 def main():
     if len(sys.argv) < 2:
         sys.exit(__doc__.strip())
@@ -97,6 +119,15 @@ def main():
             else:
                 failed += 1
                 print("%s: wanted %r, got %r, %r" % (" ".join(words), wanted, run.stderr, run.stdout))
+            if wanted.startswith("read fault"):
+                continue
+            want = explained(program, folder, words, data, wanted)
+            run = subprocess.run([program, "explain", *words], cwd=folder, capture_output=True, text=True, check=False)
+            if run.stdout == want and run.stderr == "" and run.returncode == 0:
+                passed += 1
+            else:
+                failed += 1
+                print("explain %s: wanted %r, got %r, %r" % (" ".join(words), want, run.stdout, run.stderr))
     print("%d passed, %d failed" % (passed, failed))
     sys.exit(1 if failed else 0)
 
