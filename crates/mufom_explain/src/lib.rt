@@ -4,7 +4,7 @@
 //! It depends on `mufom_link` and `mufom_image` for the errors, on `mufom_place` for the regions, on
 //! `mufom_origins` for the modules that sections come from, and on `mufom_text` and `mufom_map` for the
 //! words of texts. Its main clauses are those of [`explain_link`], [`explain_locate`] and [`explain_name`]: the lines that
-//! are put are exactly those that `link_details` and `locate_details` define.
+//! are put are exactly those that `link_details`, `locate_details` and `name_details` define.
 #![tactic(auto)]
 
 mod details;

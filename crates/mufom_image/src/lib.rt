@@ -1,5 +1,5 @@
-//! Locating a module: its sections at their bases, each expression its value, the loaded bytes as an
-//! image.
+//! Locates a module: gives each section its base and each expression its value, and makes the image of
+//! the loaded bytes.
 //!
 //! [`locate`] returns the location of one module by a plan if nothing keeps the module from being
 //! located, and otherwise the first thing that does, in a fixed order. It depends on

@@ -1,7 +1,7 @@
-//! The publics that lead to one another, in numbered groups.
+//! The strongly connected components of the graph of publics, by Tarjan's algorithm without recursion.
 //!
-//! Nothing is proved of the numbers and of the order: what is done with them is right with any, and
-//! they only make it fast.
+//! They only save time: whatever the numbers and the order, the results of the callers are proved, so
+//! nothing is stated of them here.
 
 ghost use Rattle.mufom_image_values.specs.Evaluated.{IsGraph};
 

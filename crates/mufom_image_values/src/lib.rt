@@ -3,8 +3,8 @@
 //! [`resolve_references`] returns what each reference resolves to. [`first_undefined`], [`first_common`] and
 //! [`first_on_cycle`] find the first name that keeps a module from being located, and
 //! [`PlacedModule::public_values`] the value of each public, each evaluated once. Their time is linear in the
-//! names and the tokens of their expressions, expected where names are hashed. The crate depends on `mufom_expr`, `mufom_names`,
-//! `mufom_module` and `mufom_meaning`, whose definitions its contracts cite.
+//! names and the tokens of their expressions, expected where names are hashed. The contracts cite
+//! definitions of `mufom_meaning`.
 #![tactic(auto)]
 
 mod components;

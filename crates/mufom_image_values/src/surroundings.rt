@@ -17,7 +17,7 @@ pub enum Evaluation {
     Value(u64),
 }
 
-/// What an expression of the module can name.
+/// The values of all variables that an expression can have.
 #[derive(Clone, Copy)]
 pub struct Surroundings<'a> {
     pub sections: &'a [Section],

@@ -22,7 +22,7 @@ use mufom_names::Public;
 use mufom_numbers::NoMemory;
 use std::alloc::Global;
 
-/// What the values of expressions are found from.
+/// A module with bases for its sections and commons, whose expressions can be evaluated.
 #[derive(Clone, Copy)]
 pub struct PlacedModule<'a> {
     pub graph: Graph<'a>,

@@ -95,6 +95,7 @@ fn join(
     requires resolved { AreResolved list.items references.targets references.kept }
     requires light { total_weight list.items < 2 ^ 32 }
     requires starts { length (flat_starts list.items) ≤ 1 }
+    // The module is the partial link of the list under the name.
     ensures joined { IfOk result (λ M. IsJoined M list.items name.now) }
     ensures valid { IfOk result (λ _. AreValid list.items) }
 {
@@ -165,13 +166,19 @@ fn copy_modules(alloc: Global, list: &[Module]) -> Result<Vec<Module>, NoMemory>
 /// [`may_be_linked`](crate::may_be_linked) tests this.
 pub fn link(alloc: Global, list: &[Module], name: &[u8]) -> Result<Module, LinkRefusal>
     requires { MayBeLinked list.now name.now }
+    // The module is the partial link of the list under the name.
     ensures joined { IfOk result (λ M. IsJoined M list.now name.now) }
+    // Nothing keeps the list from being linked.
     ensures linkable { IfOk result (λ _. link_answer list.now ≡ None) }
+    // The error is the first link fact, or out of memory.
     ensures refused { IfErr result (λ e. IsRefusalOf list.now e) }
+    // In every context the module means what the list means.
     ensures stands { IfOk result (λ M. StandsFor M list.now) }
     ensures sections { IfOk result (λ M. M.sections ≡ flat_sections list.now) }
     ensures names { IfOk result (λ M. public_names (M ∷ []) ≡ public_names list.now) }
+    // No reference has the name of a public of the link, and no two are equal.
     ensures settled { IfOk result (λ M. HasSettledReferences M) }
+    // It weighs no more than the list and the name.
     ensures weighs { IfOk result (λ M. weight M + first_name_length list.now ≤ total_weight list.now + length name.now) }
 {
     let references = resolve(alloc, list)?;
@@ -183,13 +190,19 @@ pub fn link(alloc: Global, list: &[Module], name: &[u8]) -> Result<Module, LinkR
 /// of the modules, which are dropped.
 pub fn link_owned(alloc: Global, list: Vec<Module>, name: &[u8]) -> Result<Module, LinkRefusal>
     requires { MayBeLinked list.items name.now }
+    // The module is the partial link of the list under the name.
     ensures joined { IfOk result (λ M. IsJoined M list.items name.now) }
+    // Nothing keeps the list from being linked.
     ensures linkable { IfOk result (λ _. link_answer list.items ≡ None) }
+    // The error is the first link fact, or out of memory.
     ensures refused { IfErr result (λ e. IsRefusalOf list.items e) }
+    // In every context the module means what the list means.
     ensures stands { IfOk result (λ M. StandsFor M list.items) }
     ensures sections { IfOk result (λ M. M.sections ≡ flat_sections list.items) }
     ensures names { IfOk result (λ M. public_names (M ∷ []) ≡ public_names list.items) }
+    // No reference has the name of a public of the link, and no two are equal.
     ensures settled { IfOk result (λ M. HasSettledReferences M) }
+    // It weighs no more than the list and the name.
     ensures weighs { IfOk result (λ M. weight M + first_name_length list.items ≤ total_weight list.items + length name.now) }
 {
     let references = resolve(alloc, &list)?;

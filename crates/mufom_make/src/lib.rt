@@ -1,4 +1,5 @@
-//! Generated modules, for measuring how long linking and locating take.
+//! The self-test `make`: generated modules, linked in pairs and into one, and located. It shows that linking
+//! and locating work on a machine, and how long they take there.
 //!
 //! [`made`] builds as many modules as it is asked for, each of which refers to the next, links them in
 //! pairs, links the results into one module, and locates that. [`summary_text`] is what is printed of

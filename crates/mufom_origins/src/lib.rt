@@ -2,10 +2,9 @@
 //! module and the file that the module was read from.
 //!
 //! A link keeps the order of sections, publics and references but forgets the modules; this crate
-//! keeps how many of each every module had. It depends on `mufom_numbers`, `mufom_sections`,
-//! `mufom_names`, `mufom_module` and `mufom_meaning`. Its main clause is that [`Origins::section`]
-//! returns the module and the position in it of a section of the flat list, which
-//! [`sections_come_from_modules`] ties to the flat list itself.
+//! keeps how many of each every module had. Its main clause is that [`Origins::section`] returns the
+//! module and the position in it of a section of the flat list, which [`sections_come_from_modules`]
+//! ties to the flat list itself.
 #![tactic(auto)]
 
 mod laws;

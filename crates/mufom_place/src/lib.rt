@@ -1,9 +1,8 @@
 //! Placing: the base of each section of a flat list, by a memory plan.
 //!
-//! The crate depends on `mufom_numbers`, on `mufom_sections` for the sections, on `mufom_plan` for the
-//! plan, and on `thiserror`. Its main clause is that of [`place`]: it returns exactly the bases that the plan
-//! gives, if every section has a place, lies within the address space and its region, and shares no
-//! address with another; otherwise the error names the first of these conditions that fails.
+//! The main clause is that of [`place`]: it returns exactly the bases that the plan gives, if every
+//! section has a place, lies within the address space and its region, and shares no address with
+//! another; otherwise the error names the first of these conditions that fails.
 #![tactic(auto)]
 
 mod bases;

@@ -1,9 +1,9 @@
 //! Reads one record of an object module from bytes.
 //!
-//! The crate depends on `mufom_numbers` and `mufom_expr`. Only [`postfix_of`] allocates. The main clause is
-//! that of [`next_record`]. It returns a record exactly if the input begins with a complete record of the
-//! table, followed by a byte that could not begin an optional field of it. It returns the first error
-//! exactly if there is one. Otherwise it asks for more bytes.
+//! Only [`postfix_of`] allocates. The main clause is that of [`next_record`]. It returns a record
+//! exactly if the input begins with a complete record of the table, followed by a byte that could not
+//! begin an optional field of it. It returns the first error exactly if there is one. Otherwise it
+//! asks for more bytes.
 #![tactic(auto)]
 
 mod brackets;
