@@ -21,8 +21,6 @@ mod modules;
 mod named;
 mod naming;
 mod regions;
-#[cfg(test)]
-mod tests;
 mod undefined;
 mod wanted;
 

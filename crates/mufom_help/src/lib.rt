@@ -13,8 +13,6 @@ pub mod linking;
 pub mod locating;
 pub mod records;
 pub mod structure;
-#[cfg(test)]
-mod tests;
 pub mod texts;
 mod topics;
 mod version;

@@ -5,8 +5,6 @@
 //! main clause is that of [`listing`]: the bytes are exactly the listing of the module.
 #![tactic(auto)]
 
-#[cfg(test)]
-mod tests;
 mod whole;
 
 pub use whole::{listing, print_listing};

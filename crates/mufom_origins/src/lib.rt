@@ -9,8 +9,6 @@
 
 mod laws;
 mod origins;
-#[cfg(test)]
-mod tests;
 
 pub use laws::{
     entries_left_keep_their_modules, publics_come_from_modules, references_come_from_modules,

@@ -19,8 +19,6 @@ mod reading;
 mod refusal;
 mod shape;
 mod store;
-#[cfg(test)]
-mod tests;
 mod txt;
 mod write;
 

@@ -1,6 +1,6 @@
 //! Words and the topics that they name.
 
-use crate::{VERSION, command_list, topic_text, version_line};
+use mufom_help::{VERSION, command_list, topic_text, version_line};
 use std::rt::HostRuntime;
 
 // Words, and how the first line of their text begins.

@@ -5,7 +5,7 @@ ghost use Rattle.mufom_image.specs.Placements.{IsSoundPlan};
 ghost use Rattle.mufom_image.specs.Refusals.{IsMet};
 ghost use Rattle.mufom_meaning.specs.LocateAnswer.{locate_answer};
 
-use crate::{FlatModule, LocateContext, explain_locate};
+use mufom_explain::{FlatModule, LocateContext, explain_locate};
 use mufom_host::MemHost;
 use mufom_image::{LocateRefusal, locate};
 use mufom_module::{Module, Order, Parts, assemble};

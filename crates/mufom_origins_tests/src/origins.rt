@@ -1,10 +1,10 @@
 //! Origins of three modules of one public each, of which the last has a start.
 
-use crate::{Origins, Place};
 use mufom_expr::Postfix;
 use mufom_module::{Module, Order, Parts, assemble};
 use mufom_names::Public;
 use mufom_numbers::{Bytes, List};
+use mufom_origins::{Origins, Place};
 use std::alloc::Global;
 use std::process::Abort;
 

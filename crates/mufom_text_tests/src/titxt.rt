@@ -1,9 +1,11 @@
 //! Texts that are read, refused and written, and the module of a text.
 
-use crate::{TextRun, TxtReason, TxtRefusal, TxtStop, read_txt, text_module, write_end, write_run};
 use mufom_host::{Host, MemHost};
 use mufom_loads::{Item, Load};
 use mufom_numbers::{Bytes, List};
+use mufom_titxt::{
+    TextRun, TxtReason, TxtRefusal, TxtStop, read_txt, text_module, write_end, write_run,
+};
 use std::alloc::Global;
 use std::process::Abort;
 

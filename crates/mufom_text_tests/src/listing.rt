@@ -1,7 +1,7 @@
 //! The listing of a small module, in memory and printed.
 
-use crate::{listing, print_listing};
 use mufom_host::MemHost;
+use mufom_listing::{listing, print_listing};
 use mufom_loads::{Item, Load};
 use mufom_module::{Module, Order, Parts, assemble};
 use mufom_numbers::{Bytes, List};

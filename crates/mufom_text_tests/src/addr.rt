@@ -1,7 +1,7 @@
 //! Tests of what is found in a program with one function and one line.
 
-use crate::{Hit, find_address};
 use arrayvec::ArrayVec;
+use mufom_addr::{Hit, find_address};
 use mufom_debug::{Block, BlockHead, Boxed, DebugItem, is_within_depth};
 use mufom_expr::Postfix;
 use mufom_names::Note;
