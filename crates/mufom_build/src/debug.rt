@@ -11,7 +11,7 @@ ghost use Rattle.mufom_build.specs.Outlines.{IsKept};
 
 use crate::names::{read_note, read_numbers};
 use crate::outline::Outline;
-use mufom_build_text::{BuildReason, Cursor, ReadStop};
+use mufom_build_text::{BuildReason, Cursor, PieceStop};
 use mufom_debug::{BlockHead, DebugItem};
 use mufom_expr::Postfix;
 use mufom_numbers::List;
@@ -42,7 +42,7 @@ pub(crate) struct Scope {
 }
 
 // Reads what the line of a block of a function has after its name.
-fn read_scope(alloc: Global, cursor: &mut Cursor) -> Result<Scope, ReadStop>
+fn read_scope(alloc: Global, cursor: &mut Cursor) -> Result<Scope, PieceStop>
     ensures reads { IfOk result (λ s. Reads (scope_pieces s.stack s.type_index s.offset) cursor.old cursor.new) }
     ensures within { OnOk result (length cursor.new.rest ≤ length cursor.old.rest) }
 {
@@ -60,7 +60,7 @@ fn read_scope(alloc: Global, cursor: &mut Cursor) -> Result<Scope, ReadStop>
 }
 
 // Reads the head of a block of a global function.
-fn read_global(alloc: Global, cursor: &mut Cursor) -> Result<BlockHead, ReadStop>
+fn read_global(alloc: Global, cursor: &mut Cursor) -> Result<BlockHead, PieceStop>
     ensures kind { IfOk result (λ head. kind_number head ≡ 4) }
     ensures reads { IfOk result (λ head. Reads (head_pieces head) cursor.old cursor.new) }
     ensures within { OnOk result (length cursor.new.rest ≤ length cursor.old.rest) }
@@ -78,7 +78,7 @@ fn read_global(alloc: Global, cursor: &mut Cursor) -> Result<BlockHead, ReadStop
 }
 
 // Reads the head of a block of a local function.
-fn read_local(alloc: Global, cursor: &mut Cursor) -> Result<BlockHead, ReadStop>
+fn read_local(alloc: Global, cursor: &mut Cursor) -> Result<BlockHead, PieceStop>
     ensures kind { IfOk result (λ head. kind_number head ≡ 6) }
     ensures reads { IfOk result (λ head. Reads (head_pieces head) cursor.old cursor.new) }
     ensures within { OnOk result (length cursor.new.rest ≤ length cursor.old.rest) }
@@ -96,7 +96,7 @@ fn read_local(alloc: Global, cursor: &mut Cursor) -> Result<BlockHead, ReadStop>
 }
 
 // Reads the head of a block of a part of a section.
-fn read_part(alloc: Global, cursor: &mut Cursor) -> Result<BlockHead, ReadStop>
+fn read_part(alloc: Global, cursor: &mut Cursor) -> Result<BlockHead, PieceStop>
     ensures kind { IfOk result (λ head. kind_number head ≡ 11) }
     ensures reads { IfOk result (λ head. Reads (head_pieces head) cursor.old cursor.new) }
     ensures within { OnOk result (length cursor.new.rest ≤ length cursor.old.rest) }
@@ -115,7 +115,7 @@ fn read_part(alloc: Global, cursor: &mut Cursor) -> Result<BlockHead, ReadStop>
 }
 
 // Reads what the line of a block of this kind has after its name.
-fn read_head(alloc: Global, cursor: &mut Cursor, kind: Option<u64>) -> Result<BlockHead, ReadStop>
+fn read_head(alloc: Global, cursor: &mut Cursor, kind: Option<u64>) -> Result<BlockHead, PieceStop>
     ensures kind { IfOk result (λ head. kind ≡ Some (kind_number head)) }
     ensures reads { IfOk result (λ head. Reads (head_pieces head) cursor.old cursor.new) }
     ensures within { OnOk result (length cursor.new.rest ≤ length cursor.old.rest) }
@@ -133,7 +133,7 @@ fn read_head(alloc: Global, cursor: &mut Cursor, kind: Option<u64>) -> Result<Bl
 }
 
 // Reads the line of the beginning of a block.
-fn read_block(alloc: Global, cursor: &mut Cursor, outline: &mut Outline) -> Result<(), ReadStop>
+fn read_block(alloc: Global, cursor: &mut Cursor, outline: &mut Outline) -> Result<(), PieceStop>
     requires { IsKept outline.old }
     ensures reads { OnOk result (ReadsMark outline.old outline.new cursor.old.rest cursor.new.rest) }
     ensures within { OnOk result (length cursor.new.rest < length cursor.old.rest) }
@@ -150,7 +150,7 @@ fn read_block(alloc: Global, cursor: &mut Cursor, outline: &mut Outline) -> Resu
 }
 
 // Reads the expression at the end of a block, if it has one.
-fn read_end_value(alloc: Global, cursor: &mut Cursor) -> Result<Option<Postfix>, ReadStop>
+fn read_end_value(alloc: Global, cursor: &mut Cursor) -> Result<Option<Postfix>, PieceStop>
     ensures reads { IfOk result (λ value. Reads (end_value_pieces value) cursor.old cursor.new) }
     ensures within { OnOk result (length cursor.new.rest ≤ length cursor.old.rest) }
 {
@@ -162,7 +162,7 @@ fn read_end_value(alloc: Global, cursor: &mut Cursor) -> Result<Option<Postfix>,
 }
 
 // Reads the line of the end of a block.
-fn read_end(alloc: Global, cursor: &mut Cursor, outline: &mut Outline) -> Result<(), ReadStop>
+fn read_end(alloc: Global, cursor: &mut Cursor, outline: &mut Outline) -> Result<(), PieceStop>
     requires kept { IsKept outline.old }
     requires open { 0 < length outline.old.blocks.items }
     ensures reads { OnOk result (ReadsMark outline.old outline.new cursor.old.rest cursor.new.rest) }
@@ -176,7 +176,7 @@ fn read_end(alloc: Global, cursor: &mut Cursor, outline: &mut Outline) -> Result
 }
 
 // Reads the line of a debug name, with its position.
-fn read_name(alloc: Global, cursor: &mut Cursor, outline: &mut Outline) -> Result<(), ReadStop>
+fn read_name(alloc: Global, cursor: &mut Cursor, outline: &mut Outline) -> Result<(), PieceStop>
     requires { IsKept outline.old }
     ensures reads { OnOk result (ReadsMark outline.old outline.new cursor.old.rest cursor.new.rest) }
     ensures within { OnOk result (length cursor.new.rest < length cursor.old.rest) }
@@ -191,7 +191,7 @@ fn read_name(alloc: Global, cursor: &mut Cursor, outline: &mut Outline) -> Resul
 }
 
 // Reads the line of a note of a debug name.
-fn read_debug_note(cursor: &mut Cursor, outline: &mut Outline) -> Result<(), ReadStop>
+fn read_debug_note(cursor: &mut Cursor, outline: &mut Outline) -> Result<(), PieceStop>
     requires { IsKept outline.old }
     ensures reads { OnOk result (ReadsMark outline.old outline.new cursor.old.rest cursor.new.rest) }
     ensures within { OnOk result (length cursor.new.rest < length cursor.old.rest) }
@@ -205,7 +205,7 @@ fn read_debug_note(cursor: &mut Cursor, outline: &mut Outline) -> Result<(), Rea
 }
 
 // Reads the line of the value of a debug name.
-fn read_value(alloc: Global, cursor: &mut Cursor, outline: &mut Outline) -> Result<(), ReadStop>
+fn read_value(alloc: Global, cursor: &mut Cursor, outline: &mut Outline) -> Result<(), PieceStop>
     requires { IsKept outline.old }
     ensures reads { OnOk result (ReadsMark outline.old outline.new cursor.old.rest cursor.new.rest) }
     ensures within { OnOk result (length cursor.new.rest < length cursor.old.rest) }
@@ -220,7 +220,7 @@ fn read_value(alloc: Global, cursor: &mut Cursor, outline: &mut Outline) -> Resu
 }
 
 // Reads a line of the debug items. Returns whether the line is one of these.
-fn read_line(alloc: Global, cursor: &mut Cursor, outline: &mut Outline) -> Result<bool, ReadStop>
+fn read_line(alloc: Global, cursor: &mut Cursor, outline: &mut Outline) -> Result<bool, PieceStop>
     requires { IsKept outline.old }
     ensures reads { IfOk result (λ read. read ≡ true → ReadsMark outline.old outline.new cursor.old.rest cursor.new.rest) }
     ensures within { IfOk result (λ read. read ≡ true → length cursor.new.rest < length cursor.old.rest) }
@@ -238,7 +238,7 @@ fn read_line(alloc: Global, cursor: &mut Cursor, outline: &mut Outline) -> Resul
 }
 
 /// Reads the lines of the debug items.
-pub(crate) fn read_debug(alloc: Global, cursor: &mut Cursor) -> Result<List<DebugItem>, ReadStop>
+pub(crate) fn read_debug(alloc: Global, cursor: &mut Cursor) -> Result<List<DebugItem>, PieceStop>
     ensures lines { IfOk result (λ items. ReadsLines (mark_lines 0 0 (marks_of items)) cursor.old.rest cursor.new.rest) }
     ensures within { OnOk result (length cursor.new.rest ≤ length cursor.old.rest) }
 {

@@ -7,7 +7,7 @@ ghost use Rattle.mufom_build.specs.Lines.{bytes_pieces, item_pieces, load_lines}
 ghost use Rattle.mufom_build.specs.Marked.{spaced_digits};
 ghost use Rattle.mufom_build_text.specs.Reads.{IsRight, Reads, ReadsLines};
 
-use mufom_build_text::{BuildReason, Cursor, ReadStop};
+use mufom_build_text::{BuildReason, Cursor, PieceStop};
 use mufom_expr::FieldKind;
 use mufom_loads::{Item, Load};
 use mufom_numbers::{Bytes, List, NoMemory};
@@ -69,7 +69,7 @@ fn read_kind(cursor: &mut Cursor) -> FieldKind
 }
 
 // Reads the line of a field, up to its end.
-fn read_field(alloc: Global, cursor: &mut Cursor) -> Result<Item, ReadStop>
+fn read_field(alloc: Global, cursor: &mut Cursor) -> Result<Item, PieceStop>
     ensures reads { IfOk result (λ item. Reads (item_pieces item) cursor.old cursor.new) }
     ensures within { OnOk result (IsRight cursor.new → length cursor.new.rest < length cursor.old.rest) }
 {
@@ -83,7 +83,7 @@ fn read_field(alloc: Global, cursor: &mut Cursor) -> Result<Item, ReadStop>
 }
 
 // Reads the line of an item, up to its end.
-fn read_item_line(alloc: Global, cursor: &mut Cursor) -> Result<Item, ReadStop>
+fn read_item_line(alloc: Global, cursor: &mut Cursor) -> Result<Item, PieceStop>
     ensures reads { IfOk result (λ item. Reads (item_pieces item) cursor.old cursor.new) }
     ensures within { OnOk result (IsRight cursor.new → length cursor.new.rest < length cursor.old.rest) }
 {
@@ -95,7 +95,7 @@ fn read_item_line(alloc: Global, cursor: &mut Cursor) -> Result<Item, ReadStop>
 }
 
 // Reads the line of an item.
-fn read_item(alloc: Global, cursor: &mut Cursor) -> Result<Item, ReadStop>
+fn read_item(alloc: Global, cursor: &mut Cursor) -> Result<Item, PieceStop>
     ensures lines { IfOk result (λ item. ReadsLines (item_pieces item ∷ []) cursor.old.rest cursor.new.rest) }
     ensures within { OnOk result (length cursor.new.rest < length cursor.old.rest) }
 {
@@ -105,7 +105,7 @@ fn read_item(alloc: Global, cursor: &mut Cursor) -> Result<Item, ReadStop>
 }
 
 // Reads the lines of the items of a repeat.
-fn read_items(alloc: Global, cursor: &mut Cursor) -> Result<List<Item>, ReadStop>
+fn read_items(alloc: Global, cursor: &mut Cursor) -> Result<List<Item>, PieceStop>
     ensures lines { IfOk result (λ items. ReadsLines (map item_pieces items) cursor.old.rest cursor.new.rest) }
     ensures within { OnOk result (length cursor.new.rest ≤ length cursor.old.rest) }
 {
@@ -118,7 +118,7 @@ fn read_items(alloc: Global, cursor: &mut Cursor) -> Result<List<Item>, ReadStop
 }
 
 // Reads the lines of a repeat.
-fn read_repeat(alloc: Global, cursor: &mut Cursor) -> Result<Load, ReadStop>
+fn read_repeat(alloc: Global, cursor: &mut Cursor) -> Result<Load, PieceStop>
     ensures lines { IfOk result (λ load. ReadsLines (load_lines load) cursor.old.rest cursor.new.rest) }
     ensures within { OnOk result (length cursor.new.rest < length cursor.old.rest) }
 {
@@ -132,7 +132,7 @@ fn read_repeat(alloc: Global, cursor: &mut Cursor) -> Result<Load, ReadStop>
 }
 
 // Reads the line that makes a section the current one.
-fn read_select(cursor: &mut Cursor) -> Result<Load, ReadStop>
+fn read_select(cursor: &mut Cursor) -> Result<Load, PieceStop>
     ensures lines { IfOk result (λ load. ReadsLines (load_lines load) cursor.old.rest cursor.new.rest) }
     ensures within { OnOk result (length cursor.new.rest < length cursor.old.rest) }
 {
@@ -143,7 +143,7 @@ fn read_select(cursor: &mut Cursor) -> Result<Load, ReadStop>
 }
 
 // Reads the line that sets a program counter.
-fn read_counter(alloc: Global, cursor: &mut Cursor) -> Result<Load, ReadStop>
+fn read_counter(alloc: Global, cursor: &mut Cursor) -> Result<Load, PieceStop>
     ensures lines { IfOk result (λ load. ReadsLines (load_lines load) cursor.old.rest cursor.new.rest) }
     ensures within { OnOk result (length cursor.new.rest < length cursor.old.rest) }
 {
@@ -156,7 +156,7 @@ fn read_counter(alloc: Global, cursor: &mut Cursor) -> Result<Load, ReadStop>
 }
 
 // Reads the lines of a load, if they are next.
-fn read_load(alloc: Global, cursor: &mut Cursor) -> Result<Option<Load>, ReadStop>
+fn read_load(alloc: Global, cursor: &mut Cursor) -> Result<Option<Load>, PieceStop>
     ensures lines { IfOk result (λ load. IfSome load (λ load. ReadsLines (load_lines load) cursor.old.rest cursor.new.rest)) }
     ensures within { IfOk result (λ load. IfSome load (λ _. length cursor.new.rest < length cursor.old.rest)) }
     ensures none { result ≡ Ok None → cursor.new ≡ cursor.old }
@@ -172,7 +172,7 @@ fn read_load(alloc: Global, cursor: &mut Cursor) -> Result<Option<Load>, ReadSto
 }
 
 /// Reads the lines of the loads.
-pub(crate) fn read_loads(alloc: Global, cursor: &mut Cursor) -> Result<List<Load>, ReadStop>
+pub(crate) fn read_loads(alloc: Global, cursor: &mut Cursor) -> Result<List<Load>, PieceStop>
     ensures lines { IfOk result (λ loads. ReadsLines (flat_map load_lines loads) cursor.old.rest cursor.new.rest) }
     ensures within { OnOk result (length cursor.new.rest ≤ length cursor.old.rest) }
 {

@@ -15,7 +15,7 @@ use crate::loads::read_loads;
 use crate::names::{read_publics, read_references};
 use crate::refusal::{BuildRefusal, refusal_of};
 use crate::sections::{read_raw, read_sections};
-use mufom_build_text::{Cursor, ReadStop};
+use mufom_build_text::{Cursor, PieceStop};
 use mufom_expr::Postfix;
 use mufom_module::{Module, Order, Parts, assemble};
 use mufom_numbers::Bytes;
@@ -43,7 +43,7 @@ pub(crate) struct Title {
 }
 
 // Reads the first line.
-fn read_title(alloc: Global, cursor: &mut Cursor) -> Result<Title, ReadStop>
+fn read_title(alloc: Global, cursor: &mut Cursor) -> Result<Title, PieceStop>
     ensures lines { IfOk result (λ title. ReadsLines (title_pieces title ∷ []) cursor.old.rest cursor.new.rest) }
 {
     cursor.words(b"module ");
@@ -64,7 +64,7 @@ fn read_title(alloc: Global, cursor: &mut Cursor) -> Result<Title, ReadStop>
 }
 
 // Reads the line of the start address, if it is next.
-fn read_start(alloc: Global, cursor: &mut Cursor) -> Result<Option<Postfix>, ReadStop>
+fn read_start(alloc: Global, cursor: &mut Cursor) -> Result<Option<Postfix>, PieceStop>
     ensures lines { IfOk result (λ start. ReadsLines (start_lines start) cursor.old.rest cursor.new.rest) }
 {
     if !cursor.is_next(b"start") {
@@ -77,7 +77,7 @@ fn read_start(alloc: Global, cursor: &mut Cursor) -> Result<Option<Postfix>, Rea
 }
 
 // Reads all lines, in order.
-fn read_parts(alloc: Global, cursor: &mut Cursor) -> Result<Parts, ReadStop>
+fn read_parts(alloc: Global, cursor: &mut Cursor) -> Result<Parts, PieceStop>
     ensures lines { IfOk result (λ parts. ReadsLines (listing_lines parts) cursor.old.rest cursor.new.rest) }
     ensures end { OnOk result (cursor.new.rest ≡ []) }
 {

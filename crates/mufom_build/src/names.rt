@@ -5,7 +5,7 @@ ghost use Rattle.mufom_build.specs.Lines.{spaced_pieces, note_pieces, note_line,
 ghost use Rattle.mufom_build_text.specs.Reads.{Reads, ReadsLines};
 
 use arrayvec::ArrayVec;
-use mufom_build_text::{Cursor, ReadStop, after_spaces};
+use mufom_build_text::{Cursor, PieceStop, after_spaces};
 use mufom_names::{Note, Public, Reference, Weak};
 use mufom_numbers::List;
 use std::alloc::Global;
@@ -50,7 +50,7 @@ pub(crate) fn read_note(cursor: &mut Cursor) -> Note
 }
 
 // Reads the line of a note.
-fn read_note_line(cursor: &mut Cursor) -> Result<Note, ReadStop>
+fn read_note_line(cursor: &mut Cursor) -> Result<Note, PieceStop>
     ensures lines { IfOk result (λ note. ReadsLines (note_line note ∷ []) cursor.old.rest cursor.new.rest) }
     ensures within { OnOk result (length cursor.new.rest < length cursor.old.rest) }
 {
@@ -70,7 +70,7 @@ fn is_note_of_name(cursor: &Cursor) -> bool {
 }
 
 // Reads the lines of the notes of a name.
-fn read_notes(alloc: Global, cursor: &mut Cursor) -> Result<List<Note>, ReadStop>
+fn read_notes(alloc: Global, cursor: &mut Cursor) -> Result<List<Note>, PieceStop>
     ensures lines { IfOk result (λ notes. ReadsLines (map note_line notes) cursor.old.rest cursor.new.rest) }
     ensures within { OnOk result (length cursor.new.rest ≤ length cursor.old.rest) }
 {
@@ -82,7 +82,7 @@ fn read_notes(alloc: Global, cursor: &mut Cursor) -> Result<List<Note>, ReadStop
 }
 
 // Reads the line of a public symbol, with its position, and those of its notes.
-fn read_public(alloc: Global, cursor: &mut Cursor, count: usize) -> Result<Public, ReadStop>
+fn read_public(alloc: Global, cursor: &mut Cursor, count: usize) -> Result<Public, PieceStop>
     ensures lines { IfOk result (λ public. ReadsLines (public_lines count public) cursor.old.rest cursor.new.rest) }
     ensures within { OnOk result (length cursor.new.rest < length cursor.old.rest) }
 {
@@ -98,7 +98,7 @@ fn read_public(alloc: Global, cursor: &mut Cursor, count: usize) -> Result<Publi
 }
 
 /// Reads the lines of the public symbols.
-pub(crate) fn read_publics(alloc: Global, cursor: &mut Cursor) -> Result<List<Public>, ReadStop>
+pub(crate) fn read_publics(alloc: Global, cursor: &mut Cursor) -> Result<List<Public>, PieceStop>
     ensures lines { IfOk result (λ publics. ReadsLines (each_lines 0 public_lines publics) cursor.old.rest cursor.new.rest) }
     ensures within { OnOk result (length cursor.new.rest ≤ length cursor.old.rest) }
 {
@@ -126,7 +126,7 @@ fn read_weak(cursor: &mut Cursor) -> Option<Weak>
 }
 
 // Reads the line of a reference, with its position, and those of its notes.
-fn read_reference(alloc: Global, cursor: &mut Cursor, count: usize) -> Result<Reference, ReadStop>
+fn read_reference(alloc: Global, cursor: &mut Cursor, count: usize) -> Result<Reference, PieceStop>
     ensures lines { IfOk result (λ reference. ReadsLines (reference_lines count reference) cursor.old.rest cursor.new.rest) }
     ensures within { OnOk result (length cursor.new.rest < length cursor.old.rest) }
 {
@@ -144,7 +144,7 @@ fn read_reference(alloc: Global, cursor: &mut Cursor, count: usize) -> Result<Re
 pub(crate) fn read_references(
     alloc: Global,
     cursor: &mut Cursor,
-) -> Result<List<Reference>, ReadStop>
+) -> Result<List<Reference>, PieceStop>
     ensures lines { IfOk result (λ references. ReadsLines (each_lines 0 reference_lines references) cursor.old.rest cursor.new.rest) }
     ensures within { OnOk result (length cursor.new.rest ≤ length cursor.old.rest) }
 {

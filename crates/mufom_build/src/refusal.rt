@@ -3,7 +3,7 @@
 ghost use Rattle.std.specs.Prelude.{◌≡◌};
 ghost use Rattle.mufom_module.specs.declared.module.Defect.{Defect};
 
-use mufom_build_text::{BuildReason, ReadStop};
+use mufom_build_text::{BuildReason, PieceStop};
 use mufom_module::Defect;
 
 /// Why no module is built from a text.
@@ -22,11 +22,11 @@ pub enum BuildRefusal {
 }
 
 /// The same as an error of [`build`](crate::build).
-pub(crate) fn refusal_of(stop: ReadStop) -> BuildRefusal
+pub(crate) fn refusal_of(stop: PieceStop) -> BuildRefusal
     ensures { (d : Defect) → result ≡ BuildRefusal.Module d → ⊥ }
 {
     match stop {
-        ReadStop::At {
+        PieceStop::At {
             line,
             column,
             reason,
@@ -35,6 +35,6 @@ pub(crate) fn refusal_of(stop: ReadStop) -> BuildRefusal
             column,
             reason,
         },
-        ReadStop::NoMemory => BuildRefusal::NoMemory,
+        PieceStop::NoMemory => BuildRefusal::NoMemory,
     }
 }

@@ -6,13 +6,13 @@ ghost use Rattle.mufom_build_text.specs.Pieces.{words};
 ghost use Rattle.mufom_build.specs.Lines.{raw_lines, base_pieces, section_lines, each_lines};
 ghost use Rattle.mufom_build_text.specs.Reads.{Reads, ReadsLines};
 
-use mufom_build_text::{Cursor, ReadStop};
+use mufom_build_text::{Cursor, PieceStop};
 use mufom_numbers::{Bytes, List};
 use mufom_sections::{Purpose, Section};
 use std::alloc::Global;
 
 /// Reads the line of a part that is kept as bytes, if it is next. The part is empty if there is none.
-pub(crate) fn read_raw(alloc: Global, cursor: &mut Cursor, word: &[u8]) -> Result<Bytes, ReadStop>
+pub(crate) fn read_raw(alloc: Global, cursor: &mut Cursor, word: &[u8]) -> Result<Bytes, PieceStop>
     ensures lines { IfOk result (λ bytes. ReadsLines (raw_lines word.now bytes) cursor.old.rest cursor.new.rest) }
     ensures within { OnOk result (length cursor.new.rest ≤ length cursor.old.rest) }
 {
@@ -74,7 +74,7 @@ fn read_base(cursor: &mut Cursor) -> Option<u64>
 }
 
 // Reads the line of a section, with its position.
-fn read_section(alloc: Global, cursor: &mut Cursor, count: usize) -> Result<Section, ReadStop>
+fn read_section(alloc: Global, cursor: &mut Cursor, count: usize) -> Result<Section, PieceStop>
     ensures lines { IfOk result (λ section. ReadsLines (section_lines count section) cursor.old.rest cursor.new.rest) }
     ensures within { OnOk result (length cursor.new.rest < length cursor.old.rest) }
 {
@@ -102,7 +102,7 @@ fn read_section(alloc: Global, cursor: &mut Cursor, count: usize) -> Result<Sect
 }
 
 /// Reads the lines of the sections.
-pub(crate) fn read_sections(alloc: Global, cursor: &mut Cursor) -> Result<List<Section>, ReadStop>
+pub(crate) fn read_sections(alloc: Global, cursor: &mut Cursor) -> Result<List<Section>, PieceStop>
     ensures lines { IfOk result (λ sections. ReadsLines (each_lines 0 section_lines sections) cursor.old.rest cursor.new.rest) }
     ensures within { OnOk result (length cursor.new.rest ≤ length cursor.old.rest) }
 {

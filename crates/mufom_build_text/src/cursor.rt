@@ -5,7 +5,7 @@ ghost use Rattle.mufom_numbers.specs.declared.limits.TheConstants.{MOST_FILE_BYT
 ghost use Rattle.mufom_build_text.specs.Reads.{beginning, IsRight, IsSpaceFront, IsBlankFront, IsLineEnd, EndsLine};
 ghost use Rattle.mufom_build_text.specs.Errors.{error_at, first_error, is_bad, wrong_line, Fails, IsWrongEnd, IsNamed};
 
-use crate::refusal::{BuildReason, ReadStop};
+use crate::refusal::{BuildReason, PieceStop};
 use std::marker::Model;
 
 /// An error within a line, and its column, which counts bytes from 1.
@@ -148,11 +148,11 @@ impl<'a> Cursor<'a> {
 
     /// The error of the line as a whole: it is not one of a listing, or may not occur here. At the end of a
     /// text this is its last line: none begins behind the last line feed.
-    pub fn bad_line(&self) -> ReadStop
-        ensures { result ≡ ReadStop.At (wrong_line self.now) 1 BuildReason.BadText }
+    pub fn bad_line(&self) -> PieceStop
+        ensures { result ≡ PieceStop.At (wrong_line self.now) 1 BuildReason.BadText }
     {
         let is_behind_all = self.rest.is_empty() && self.column == 1 && self.line > 1;
-        ReadStop::At {
+        PieceStop::At {
             line: if is_behind_all {
                 self.line - 1
             } else {
@@ -224,10 +224,10 @@ impl<'a> Cursor<'a> {
     }
 
     // Checks that the line may end here, and has no error. `BadText` if it may not, or a piece of it was missing.
-    fn check_end(&self) -> Result<(), ReadStop>
+    fn check_end(&self) -> Result<(), PieceStop>
         ensures end { OnOk result (IsLineEnd self.now.rest) }
         ensures right { OnOk result (IsRight self.now) }
-        ensures wrong { (line column : ℕ) (reason : BuildReason) → result ≡ Err (ReadStop.At line column reason)
+        ensures wrong { (line column : ℕ) (reason : BuildReason) → result ≡ Err (PieceStop.At line column reason)
             → IsWrongEnd self.now line column reason }
     {
         if self.is_bad() || !is_line_end(self.rest) {
@@ -235,7 +235,7 @@ impl<'a> Cursor<'a> {
         }
         match self.error {
             None => Ok(()),
-            Some(error) => Err(ReadStop::At {
+            Some(error) => Err(PieceStop::At {
                 line: self.line,
                 column: error.column,
                 reason: error.reason,
@@ -246,11 +246,11 @@ impl<'a> Cursor<'a> {
     /// Ends a line: passes over the spaces after it, its line feed, if any, and blank lines.
     ///
     /// `BadText` if anything else follows on the line or a piece of it was missing, and else its first error.
-    pub fn end_line(&mut self) -> Result<(), ReadStop>
+    pub fn end_line(&mut self) -> Result<(), PieceStop>
         ensures right { OnOk result (IsRight self.old) }
         ensures ends { OnOk result (EndsLine self.old.rest self.new.rest) }
         ensures within { OnOk result (length self.new.rest ≤ length self.old.rest) }
-        ensures wrong { (line column : ℕ) (reason : BuildReason) → result ≡ Err (ReadStop.At line column reason)
+        ensures wrong { (line column : ℕ) (reason : BuildReason) → result ≡ Err (PieceStop.At line column reason)
             → IsNamed self.old line column reason }
     {
         self.pass_spaces();

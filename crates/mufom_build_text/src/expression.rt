@@ -9,7 +9,7 @@ ghost use Rattle.mufom_build_text.specs.Infix.{is_first, has_operator, FitsMiddl
 ghost use Rattle.mufom_build_text.specs.Infix.{IsLeaf, IsBefore, IsBehind, IsBetween, IsClosed, IsRead};
 
 use crate::cursor::{Cursor, after_spaces};
-use crate::refusal::{BuildReason, ReadStop};
+use crate::refusal::{BuildReason, PieceStop};
 use mufom_expr::{
     Builder, ExprFault, Function, Letter, Postfix, Token, infix_middle, infix_opening, letter_name,
 };
@@ -74,7 +74,7 @@ fn opening(frame: Frame) -> &'static str
 }
 
 // The function of the operator that comes after spaces.
-fn operator(cursor: &Cursor) -> Result<Function, ReadStop>
+fn operator(cursor: &Cursor) -> Result<Function, PieceStop>
     ensures { IfOk result (λ function. has_operator function ≡ true) }
 {
     match after_spaces(cursor.rest()) {
@@ -91,7 +91,7 @@ fn operator(cursor: &Cursor) -> Result<Function, ReadStop>
 }
 
 // The function between whose operands this comes.
-fn function_of(cursor: &Cursor, middle: Middle) -> Result<Function, ReadStop>
+fn function_of(cursor: &Cursor, middle: Middle) -> Result<Function, PieceStop>
     ensures { IfOk result (λ function. FitsMiddle middle function) }
 {
     match middle {
@@ -114,7 +114,7 @@ fn letter(text: &[u8]) -> Option<Letter> {
 }
 
 // Checks that no piece of the line was missing.
-fn check(cursor: &Cursor) -> Result<(), ReadStop>
+fn check(cursor: &Cursor) -> Result<(), PieceStop>
     ensures { OnOk result (IsSound cursor.now) }
 {
     if cursor.is_bad() {
@@ -124,7 +124,7 @@ fn check(cursor: &Cursor) -> Result<(), ReadStop>
 }
 
 // Passes over words, where they are next.
-fn pass(cursor: &mut Cursor, text: &str) -> Result<(), ReadStop>
+fn pass(cursor: &mut Cursor, text: &str) -> Result<(), PieceStop>
     ensures reads { OnOk result (Reads (words text.now) cursor.old cursor.new) }
     ensures within { OnOk result (length cursor.new.rest + length text.now ≤ length cursor.old.rest) }
 {
@@ -133,7 +133,7 @@ fn pass(cursor: &mut Cursor, text: &str) -> Result<(), ReadStop>
 }
 
 // Reads a number or a variable.
-fn leaf(cursor: &mut Cursor) -> Result<Token, ReadStop>
+fn leaf(cursor: &mut Cursor) -> Result<Token, PieceStop>
     ensures reads { IfOk result (λ token. IsLeaf cursor.old cursor.new token) }
     ensures within { OnOk result (length cursor.new.rest < length cursor.old.rest) }
 {
@@ -161,7 +161,7 @@ impl Infix {
     }
 
     // Adds a token. Of a long expression no more than the first 255 tokens are kept.
-    fn add(&mut self, cursor: &Cursor, token: Token) -> Result<(), ReadStop>
+    fn add(&mut self, cursor: &Cursor, token: Token) -> Result<(), PieceStop>
         ensures frames { self.new.frames.items ≡ self.old.frames.items }
         ensures long { self.new.is_long ≡ false → self.old.is_long ≡ false }
         ensures tokens { OnOk result (self.new.is_long ≡ false → self.new.tokens ≡ self.old.tokens ++ token ∷ []) }
@@ -172,13 +172,13 @@ impl Infix {
                 self.is_long = true;
                 Ok(())
             }
-            Err(ExprFault::NoMemory) => Err(ReadStop::NoMemory),
+            Err(ExprFault::NoMemory) => Err(PieceStop::NoMemory),
             Err(_) => Err(cursor.bad_line()),
         }
     }
 
     // Reads what comes before the next number or variable, if anything.
-    fn open(&mut self, cursor: &mut Cursor) -> Result<(), ReadStop>
+    fn open(&mut self, cursor: &mut Cursor) -> Result<(), PieceStop>
         ensures reads { (start : Place) → IsBefore start cursor.old self.old → OnOk result (IsBefore start cursor.new self.new) }
         ensures within { OnOk result (length cursor.new.rest ≤ length cursor.old.rest) }
     {
@@ -190,7 +190,7 @@ impl Infix {
     }
 
     // Reads the next number or variable, and what comes before it.
-    fn operand(&mut self, cursor: &mut Cursor) -> Result<(), ReadStop>
+    fn operand(&mut self, cursor: &mut Cursor) -> Result<(), PieceStop>
         ensures reads { (start : Place) → IsBefore start cursor.old self.old → OnOk result (IsBehind start cursor.new self.new) }
         ensures within { OnOk result (length cursor.new.rest < length cursor.old.rest) }
     {
@@ -201,7 +201,7 @@ impl Infix {
 
     // Reads the closing brackets of the functions whose last operand has ended. Returns what comes after the
     // first operand of the next function, if there is one.
-    fn close(&mut self, cursor: &mut Cursor) -> Result<Option<Middle>, ReadStop>
+    fn close(&mut self, cursor: &mut Cursor) -> Result<Option<Middle>, PieceStop>
         ensures reads { (start : Place) → IsBehind start cursor.old self.old → IfOk result (λ middle. IsClosed middle start cursor.new self.new) }
         ensures within { OnOk result (length cursor.new.rest ≤ length cursor.old.rest) }
     {
@@ -217,7 +217,7 @@ impl Infix {
     }
 
     // Reads what comes between the two operands of a function.
-    fn pass_middle(&mut self, cursor: &mut Cursor, middle: Middle) -> Result<(), ReadStop>
+    fn pass_middle(&mut self, cursor: &mut Cursor, middle: Middle) -> Result<(), PieceStop>
         ensures reads { (start : Place) → IsBetween middle start cursor.old self.old → OnOk result (IsBefore start cursor.new self.new) }
         ensures within { OnOk result (length cursor.new.rest ≤ length cursor.old.rest) }
     {
@@ -228,7 +228,7 @@ impl Infix {
     }
 
     // Reads an expression.
-    fn whole(&mut self, cursor: &mut Cursor) -> Result<(), ReadStop>
+    fn whole(&mut self, cursor: &mut Cursor) -> Result<(), PieceStop>
         ensures reads { (start : Place) → IsBefore start cursor.old self.old → OnOk result (IsRead start cursor.new self.new) }
         ensures within { OnOk result (length cursor.new.rest < length cursor.old.rest) }
     {
@@ -244,7 +244,7 @@ impl Infix {
 impl<'a> Cursor<'a> {
     /// Passes over an expression in infix form. Notes `TooLong` at its first byte where it has more than 255
     /// tokens.
-    pub fn value(&mut self, alloc: Global) -> Result<Postfix, ReadStop>
+    pub fn value(&mut self, alloc: Global) -> Result<Postfix, PieceStop>
         ensures reads { IfOk result (λ p. Reads (value_pieces p) self.old self.new) }
         ensures within { OnOk result (length self.new.rest < length self.old.rest) }
     {

@@ -11,4 +11,4 @@ mod refusal;
 mod spelled;
 
 pub use cursor::{Cursor, after_spaces};
-pub use refusal::{BuildReason, ReadStop};
+pub use refusal::{BuildReason, PieceStop};

@@ -22,7 +22,7 @@ pub enum BuildReason {
 
 /// Why no more of a text is read.
 #[derive(Clone, Copy, Debug, PartialEq, Eq)]
-pub enum ReadStop {
+pub enum PieceStop {
     /// The text is wrong at this line and column, which count from 1; a column counts bytes.
     At {
         line: u32,
@@ -33,20 +33,20 @@ pub enum ReadStop {
     NoMemory,
 }
 
-impl From<NoMemory> for ReadStop {
+impl From<NoMemory> for PieceStop {
     fn from(_: NoMemory) -> Self {
-        ReadStop::NoMemory
+        PieceStop::NoMemory
     }
 }
 
-impl From<AllocError> for ReadStop {
+impl From<AllocError> for PieceStop {
     fn from(_: AllocError) -> Self {
-        ReadStop::NoMemory
+        PieceStop::NoMemory
     }
 }
 
-impl<T: Drop> From<AllocFailed<T>> for ReadStop {
+impl<T: Drop> From<AllocFailed<T>> for PieceStop {
     fn from(_: AllocFailed<T>) -> Self {
-        ReadStop::NoMemory
+        PieceStop::NoMemory
     }
 }

@@ -13,7 +13,7 @@ ghost use Rattle.mufom_build_text.specs.Loosely.{Avoids, IsFigure, TakesDigits, 
 ghost use Rattle.mufom_build_text.specs.Loosely.{ReadsByte, ReadsGap, ReadsDigits, ReadsWords, ReadsFigure, ReadsPosition, ReadsName, ReadsHex};
 
 use crate::cursor::{Cursor, after_spaces};
-use crate::refusal::{BuildReason, ReadStop};
+use crate::refusal::{BuildReason, PieceStop};
 use mufom_numbers::{Bytes, NoMemory};
 use std::alloc::Global;
 

@@ -119,8 +119,8 @@ module _ (reads_debug : Bool) where
       → FileStops reads_debug name number limit files before now (outcome_of_source_stop number s)
   file_stopped name number limit files left after before between now (source.Refused r) opened reads cause later = (
     refl,
-    file_left name (λ bytes. IsRefusedWithin reads_debug limit bytes r.place r.reason)
-        (λ bytes. IsRefusedWithin reads_debug limit bytes r.place r.reason) files left opened reads (λ bytes h. h),
+    file_left name (λ bytes. IsRefusedWithin reads_debug limit bytes r.offset r.reason)
+        (λ bytes. IsRefusedWithin reads_debug limit bytes r.offset r.reason) files left opened reads (λ bytes h. h),
   )
   file_stopped name number limit files left after before between now source.Limit opened reads cause later = (
     refl,
@@ -234,8 +234,8 @@ module _ (reads_debug : Bool) where
     files_stop (outcome.Refused (refusal.Keep kept)) split place why = absurd why
     files_stop (outcome.Refused (refusal.Text r)) split place why = absurd why
     files_stop (outcome.Refused (refusal.Read i r)) split place why =
-        at_file (λ limit bytes. IsRefusedWithin reads_debug limit bytes r.place r.reason) i old.files split place why.0 so_far.files
-        (subst (λ (o : Option (List NamedFile)). FileHas name o (λ bytes. IsRefusedWithin reads_debug room bytes r.place r.reason)) files_same why.1)
+        at_file (λ limit bytes. IsRefusedWithin reads_debug limit bytes r.offset r.reason) i old.files split place why.0 so_far.files
+        (subst (λ (o : Option (List NamedFile)). FileHas name o (λ bytes. IsRefusedWithin reads_debug room bytes r.offset r.reason)) files_same why.1)
     files_stop (outcome.Refused (refusal.InputLimit i)) split place why =
         at_file (λ limit bytes. IsPastLimit reads_debug limit bytes) i old.files split place why.0 so_far.files
         (subst (λ (o : Option (List NamedFile)). FileHas name o (λ bytes. IsPastLimit reads_debug room bytes)) files_same why.1)

@@ -135,12 +135,12 @@ module _ (reads_debug : Bool) (judged : HasOneJudgment) (files : List NamedFile)
   IsStop P = (limit : ℕ) (name bytes : List ℕ) (m : Parts) → file_named name files ≡ Some bytes → IsModule reads_debug bytes m → length bytes ≤ limit
       → P limit bytes → ⊥
 
-  refusal_stops : (r : ReadRefusal) → IsStop (λ limit bytes. IsRefusedWithin reads_debug limit bytes r.place r.reason)
+  refusal_stops : (r : ReadRefusal) → IsStop (λ limit bytes. IsRefusedWithin reads_debug limit bytes r.offset r.reason)
   unfolding IsStop
   refusal_stops r limit name bytes m there is fits stops =
-      let same : module_of m ≡ refusal r.place r.reason =
-      judged reads_debug (take limit bytes) (module_of m) (refusal r.place r.reason) (AreBytes-take limit bytes (bytes_there name bytes there))
-      (module_within limit bytes m is fits) (judged_within limit bytes r.place r.reason stops) in cc
+      let same : module_of m ≡ refusal r.offset r.reason =
+      judged reads_debug (take limit bytes) (module_of m) (refusal r.offset r.reason) (AreBytes-take limit bytes (bytes_there name bytes there))
+      (module_within limit bytes m is fits) (judged_within limit bytes r.offset r.reason stops) in cc
 
   limit_stops : IsStop (λ limit bytes. IsPastLimit reads_debug limit bytes)
   unfolding IsStop
@@ -205,32 +205,32 @@ module _ (reads_debug : Bool) (judged : HasOneJudgment) (files : List NamedFile)
 
   -- two refusals at one number are one
   one_refusal : (names : List (List ℕ)) (i j : ℕ) (r q : ReadRefusal) → i ≡ j
-      → StopsAt reads_debug files names i (λ limit bytes. IsRefusedWithin reads_debug limit bytes r.place r.reason)
-      → StopsAt reads_debug files names j (λ limit bytes. IsRefusedWithin reads_debug limit bytes q.place q.reason) → r ≡ q
+      → StopsAt reads_debug files names i (λ limit bytes. IsRefusedWithin reads_debug limit bytes r.offset r.reason)
+      → StopsAt reads_debug files names j (λ limit bytes. IsRefusedWithin reads_debug limit bytes q.offset q.reason) → r ≡ q
   one_refusal names i j r q is s t =
-      let there = same_place (λ limit bytes. IsRefusedWithin reads_debug limit bytes r.place r.reason)
-      (λ limit bytes. IsRefusedWithin reads_debug limit bytes q.place q.reason) names i j s t is in
+      let there = same_place (λ limit bytes. IsRefusedWithin reads_debug limit bytes r.offset r.reason)
+      (λ limit bytes. IsRefusedWithin reads_debug limit bytes q.offset q.reason) names i j s t is in
       same_refusal there.0 there.1 there.2 there.3 there.4 there.5 where
         same_refusal : (limit : ℕ) (name bytes : List ℕ) → file_named name files ≡ Some bytes
-            → IsRefusedWithin reads_debug limit bytes r.place r.reason → IsRefusedWithin reads_debug limit bytes q.place q.reason → r ≡ q
+            → IsRefusedWithin reads_debug limit bytes r.offset r.reason → IsRefusedWithin reads_debug limit bytes q.offset q.reason → r ≡ q
         same_refusal limit name bytes there one_is other_is =
-            let same : refusal r.place r.reason ≡ refusal q.place q.reason =
-            judged reads_debug (take limit bytes) (refusal r.place r.reason) (refusal q.place q.reason)
+            let same : refusal r.offset r.reason ≡ refusal q.offset q.reason =
+            judged reads_debug (take limit bytes) (refusal r.offset r.reason) (refusal q.offset q.reason)
             (AreBytes-take limit bytes (bytes_there name bytes there))
-            (judged_within limit bytes r.place r.reason one_is) (judged_within limit bytes q.place q.reason other_is) in
-            let place : r.place ≡ q.place = cc in
-            let reason : r.reason ≡ q.reason = cc in (λ i. record { place = place i; reason = reason i })
+            (judged_within limit bytes r.offset r.reason one_is) (judged_within limit bytes q.offset q.reason other_is) in
+            let offset : r.offset ≡ q.offset = cc in
+            let reason : r.reason ≡ q.reason = cc in (λ i. record { offset = offset i; reason = reason i })
 
   -- a file that is refused within its limit is not past it
   never_both : (names : List (List ℕ)) (i j : ℕ) (r : ReadRefusal) → i ≡ j
-      → StopsAt reads_debug files names i (λ limit bytes. IsRefusedWithin reads_debug limit bytes r.place r.reason)
+      → StopsAt reads_debug files names i (λ limit bytes. IsRefusedWithin reads_debug limit bytes r.offset r.reason)
       → StopsAt reads_debug files names j (λ limit bytes. IsPastLimit reads_debug limit bytes) → ⊥
   never_both names i j r is s t =
-      let there = same_place (λ limit bytes. IsRefusedWithin reads_debug limit bytes r.place r.reason)
+      let there = same_place (λ limit bytes. IsRefusedWithin reads_debug limit bytes r.offset r.reason)
       (λ limit bytes. IsPastLimit reads_debug limit bytes) names i j s t is in
       excluded there.0 there.2 there.4 there.5 where
-        excluded : (limit : ℕ) (bytes : List ℕ) → IsRefusedWithin reads_debug limit bytes r.place r.reason → IsPastLimit reads_debug limit bytes → ⊥
-        excluded limit bytes (inl prefix) past = past.1 r.place r.reason prefix
+        excluded : (limit : ℕ) (bytes : List ℕ) → IsRefusedWithin reads_debug limit bytes r.offset r.reason → IsPastLimit reads_debug limit bytes → ⊥
+        excluded limit bytes (inl prefix) past = past.1 r.offset r.reason prefix
         excluded limit bytes (inr whole) past = let fits = whole.0 in let more = past.0 in omega (arith, fits, more)
 
   all_same : (names : List (List ℕ)) (ms ns : List Parts) → ComeTo reads_debug files names (accepted ms)
@@ -241,21 +241,21 @@ module _ (reads_debug : Bool) (judged : HasOneJudgment) (files : List NamedFile)
 
   verdicts : (names : List (List ℕ)) (a b : Verdict) → ComeTo reads_debug files names a → ComeTo reads_debug files names b → a ≡ b
   verdicts names (accepted ms) (accepted ns) s t = ap (λ (l : List Parts). accepted l) (all_same names ms ns s t)
-  verdicts names (accepted ms) (refused j q) s t = absurd (never_all (λ limit bytes. IsRefusedWithin reads_debug limit bytes q.place q.reason)
+  verdicts names (accepted ms) (refused j q) s t = absurd (never_all (λ limit bytes. IsRefusedWithin reads_debug limit bytes q.offset q.reason)
       (refusal_stops q) names s.0 ms j s.1 t)
   verdicts names (accepted ms) (past_limit j) s t = absurd (never_all (λ limit bytes. IsPastLimit reads_debug limit bytes) limit_stops names s.0 ms j s.1 t)
-  verdicts names (refused i r) (accepted ns) s t = absurd (never_all (λ limit bytes. IsRefusedWithin reads_debug limit bytes r.place r.reason)
+  verdicts names (refused i r) (accepted ns) s t = absurd (never_all (λ limit bytes. IsRefusedWithin reads_debug limit bytes r.offset r.reason)
       (refusal_stops r) names t.0 ns i t.1 s)
   verdicts names (past_limit i) (accepted ns) s t = absurd (never_all (λ limit bytes. IsPastLimit reads_debug limit bytes) limit_stops names t.0 ns i t.1 s)
   verdicts names (refused i r) (refused j q) s t =
-      let number = one_number (λ limit bytes. IsRefusedWithin reads_debug limit bytes r.place r.reason)
-      (λ limit bytes. IsRefusedWithin reads_debug limit bytes q.place q.reason) (refusal_stops r) (refusal_stops q) names i j s t in
+      let number = one_number (λ limit bytes. IsRefusedWithin reads_debug limit bytes r.offset r.reason)
+      (λ limit bytes. IsRefusedWithin reads_debug limit bytes q.offset q.reason) (refusal_stops r) (refusal_stops q) names i j s t in
       let own = one_refusal names i j r q number s t in (λ k. refused (number k) (own k))
   verdicts names (refused i r) (past_limit j) s t =
-      absurd (never_both names i j r (one_number (λ limit bytes. IsRefusedWithin reads_debug limit bytes r.place r.reason)
+      absurd (never_both names i j r (one_number (λ limit bytes. IsRefusedWithin reads_debug limit bytes r.offset r.reason)
       (λ limit bytes. IsPastLimit reads_debug limit bytes) (refusal_stops r) limit_stops names i j s t) s t)
   verdicts names (past_limit i) (refused j q) s t =
-      absurd (never_both names j i q (one_number (λ limit bytes. IsRefusedWithin reads_debug limit bytes q.place q.reason)
+      absurd (never_both names j i q (one_number (λ limit bytes. IsRefusedWithin reads_debug limit bytes q.offset q.reason)
       (λ limit bytes. IsPastLimit reads_debug limit bytes) (refusal_stops q) limit_stops names j i t s) t s)
   verdicts names (past_limit i) (past_limit j) s t =
       ap (λ (n : ℕ). past_limit n) (one_number (λ limit bytes. IsPastLimit reads_debug limit bytes)

@@ -160,7 +160,7 @@ txt_reason_text txt.AfterEnd = codes "AfterEnd"
 txt_reason_text txt.NoEnd = codes "NoEnd"
 
 abbrev pub refusal_text : Refusal → Text
-refusal_text (refusal.Read n r) = codes "file " ++ decimal n ++ codes " at " ++ decimal r.place ++ codes ": " ++ reason_text r.reason
+refusal_text (refusal.Read n r) = codes "file " ++ decimal n ++ codes " at " ++ decimal r.offset ++ codes ": " ++ reason_text r.reason
 refusal_text (refusal.InputLimit n) = codes "file " ++ decimal n ++ codes ": InputLimit"
 refusal_text (refusal.TooManyFiles n) = codes "TooManyFiles " ++ decimal n
 refusal_text (refusal.TooDeep n) = codes "TooDeep " ++ decimal n

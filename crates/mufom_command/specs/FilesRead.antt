@@ -31,7 +31,7 @@ outcome_of_source_stop number stop.NoMemory = outcome.NoMemory
 -- Why the file with this name and number was not read.
 abbrev pub FileStops : Bool → List ℕ → ℕ → ℕ → Option (List NamedFile) → Faults → Faults → Outcome → Type 0
 FileStops reads_debug name number limit files before now (outcome.Refused (refusal.Read i r)) =
-    (i ≡ number) × FileHas name files (λ bytes. IsRefusedWithin reads_debug limit bytes r.place r.reason)
+    (i ≡ number) × FileHas name files (λ bytes. IsRefusedWithin reads_debug limit bytes r.offset r.reason)
 FileStops reads_debug name number limit files before now (outcome.Refused (refusal.InputLimit i)) =
     (i ≡ number) × FileHas name files (λ bytes. IsPastLimit reads_debug limit bytes)
 FileStops reads_debug name number limit files before now (outcome.ReadFault (input.File i)) = (i ≡ number) × Rose before.reads now.reads

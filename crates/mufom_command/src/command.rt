@@ -9,16 +9,16 @@ ghost use Rattle.mufom_command.specs.Contract.{IsRun};
 ghost use Rattle.mufom_command.specs.Run.{call_of};
 ghost use Rattle.mufom_command.specs.RunParts.{DoesBy, DoesWords, NeedsNoMemory};
 
-use crate::error_line::print_error_line;
+use crate::error_output::print_error_line;
 use crate::explain::explain;
 use crate::help::help;
 use crate::images::{bin, dump, locate_files, txt};
 use crate::linking::link;
-use crate::listing::{check, show};
 use crate::making::make;
 use crate::maps::map;
 use crate::outcome::{Outcome, outcome_of_stop};
 use crate::query::addr;
+use crate::show::{check, show};
 use crate::texts::fromtxt;
 use mufom_host::Host;
 use mufom_words::{Command, Verb, read_words};

@@ -8,7 +8,7 @@ ghost use Rattle.mufom_command.specs.Making.{IsPrinted};
 ghost use Rattle.mufom_command.specs.Run.{call_of};
 ghost use Rattle.mufom_command.specs.Told.{told_text};
 
-use crate::complaint::{fault_line, refusal_line, usage_line};
+use crate::error_lines::{fault_line, refusal_line, usage_line};
 use crate::outcome::Outcome;
 use crate::topic::topic_of;
 use mufom_explain::{LinkDetails, LocateDetails, NameDetails, file_line, plan_line};

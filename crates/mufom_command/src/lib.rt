@@ -13,8 +13,8 @@
 #![tactic(auto)]
 
 mod command;
-mod complaint;
-mod error_line;
+mod error_lines;
+mod error_output;
 mod explain;
 mod explain_modules;
 mod explanation;
@@ -25,13 +25,13 @@ mod inputs;
 mod laws;
 mod lines;
 mod linking;
-mod listing;
 mod locate_text;
 mod making;
 mod maps;
 mod outcome;
 mod plan_file;
 mod query;
+mod show;
 mod texts;
 mod topic;
 mod whole_file;

@@ -6,7 +6,7 @@ ghost use Rattle.mufom_command.specs.Topic.{command_name as named, link_name as 
 ghost use Rattle.mufom_command.specs.Topic.{plan_name as plan_text, refusal_name as refusal_text, topic_of as topic, txt_name as txt_text};
 ghost use Rattle.mufom_command.specs.Topic.{usage_topic as usage};
 
-use crate::complaint::reason_name;
+use crate::error_lines::reason_name;
 use crate::outcome::{Outcome, Refusal};
 use mufom_help::commands::command_topic;
 use mufom_help::{command_list, topic_text};

@@ -10,7 +10,7 @@ use crate::commons::has_common;
 use crate::refusal::LocateRefusal;
 use mufom_copies::copy_bytes;
 use mufom_image_values::{
-    Components, Graph, Resolution, first_common, first_on_cycle, first_undefined, groups_of,
+    Components, Graph, Resolution, components_of, first_common, first_on_cycle, first_undefined,
 };
 use mufom_loads::loaded_bytes;
 use mufom_module::{Module, items_are_within_the_weight};
@@ -54,14 +54,14 @@ fn check_commons(
     }
 }
 
-// The groups of publics, if no public's expression leads back to itself; or the first such public
-// is named.
-fn acyclic_groups(alloc: Global, graph: &Graph<'_>) -> Result<Components, LocateRefusal>
+// The components of the publics, if no public's expression leads back to itself; or the first such
+// public is named.
+fn acyclic_components(alloc: Global, graph: &Graph<'_>) -> Result<Components, LocateRefusal>
     requires { IsGraph graph.now }
     ensures ok { OnOk result (circular graph.now.parts.now ≡ None) }
     ensures refused { IfErr result (IsMet (circular graph.now.parts.now)) }
 {
-    let components = groups_of(alloc, graph)?;
+    let components = components_of(alloc, graph)?;
     match first_on_cycle(alloc, graph, &components)? {
         Some(public) => Err(LocateRefusal::Cycle(copy_bytes(alloc, &public.name)?)),
         None => Ok(components),
@@ -81,7 +81,7 @@ fn check_limit(module: &Module) -> Result<(), LocateRefusal>
     Ok(())
 }
 
-/// The groups of the publics, if nothing keeps the module from being located before its
+/// The components of the publics, if nothing keeps the module from being located before its
 /// expressions are looked at, its placement aside; or the first thing that does: a reference without
 /// a meaning, a common without room, a public that leads back to itself, too many loaded bytes.
 pub(crate) fn judged(
@@ -97,7 +97,7 @@ pub(crate) fn judged(
 {
     check_undefined(alloc, module, graph.resolutions)?;
     check_commons(alloc, module, graph.resolutions, plan)?;
-    let components = acyclic_groups(alloc, graph)?;
+    let components = acyclic_components(alloc, graph)?;
     check_limit(module)?;
     Ok(components)
 }

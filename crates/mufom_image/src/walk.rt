@@ -14,7 +14,7 @@ ghost use Rattle.mufom_image.specs.Stages.{public_division, start_division, debu
 use crate::counter_values::AtCounter;
 use crate::refusal::LocateRefusal;
 use mufom_copies::copy_bytes;
-use mufom_image_bytes::{ImageRefusal, Stop, image_of_module};
+use mufom_image_bytes::{ImageRefusal, LoadStop, image_of_module};
 use mufom_image_entries::{ValuedModule, divides_at_start, first_debug_division};
 use mufom_meaning::{Run, Site};
 use mufom_numbers::List;
@@ -36,16 +36,16 @@ fn check_publics(alloc: Global, valued: &ValuedModule<'_>) -> Result<(), LocateR
 }
 
 // What ends the walk over the loads, as an error of locating.
-fn refusal_of(stop: Stop) -> LocateRefusal
+fn refusal_of(stop: LoadStop) -> LocateRefusal
     ensures { IsMet (Some (fact_of stop)) result }
 {
     match stop {
-        Stop::Counter { section } => LocateRefusal::DivideByZero(Site::Counter(section)),
-        Stop::Field { section, address } => {
+        LoadStop::Counter { section } => LocateRefusal::DivideByZero(Site::Counter(section)),
+        LoadStop::Field { section, address } => {
             LocateRefusal::DivideByZero(Site::Field { section, address })
         }
-        Stop::Outside { section, address } => LocateRefusal::LoadOutside { section, address },
-        Stop::Overflow {
+        LoadStop::Outside { section, address } => LocateRefusal::LoadOutside { section, address },
+        LoadStop::Overflow {
             section,
             address,
             kind,
@@ -58,7 +58,7 @@ fn refusal_of(stop: Stop) -> LocateRefusal
             size,
             value,
         },
-        Stop::Twice { address } => LocateRefusal::LoadedTwice(address),
+        LoadStop::Twice { address } => LocateRefusal::LoadedTwice(address),
     }
 }
 

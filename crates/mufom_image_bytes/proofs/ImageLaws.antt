@@ -22,7 +22,7 @@ use Rattle.mufom_image_bytes.specs.declared.chunk.Chunk.{Chunk}
 use Rattle.mufom_image_bytes.specs.declared.layout.Layout.{Layout}
 use Rattle.mufom_image_bytes.specs.declared.refusal.ImageRefusal.{ImageRefusal}
 use Rattle.mufom_image_bytes.specs.declared.refusal.ImageRefusal.TheVariants as refusals
-use Rattle.mufom_image_bytes.specs.declared.stop.Stop.{Stop}
+use Rattle.mufom_image_bytes.specs.declared.stop.LoadStop.{LoadStop}
 use Rattle.mufom_image_bytes.specs.Stops.{fact_of}
 use Rattle.mufom_image_bytes.specs.Chunks.{cells_of_chunks, cell_addresses, addresses_of, AreConsecutive}
 use Rattle.mufom_image_bytes.specs.Shared.{shares_from, EndsFirst}
@@ -59,15 +59,15 @@ module _ (cells : List Cell) (bytes : List ℕ) (chunks sorted : List Chunk) (h 
   low_addresses : AreLow cells → (a : ℕ) → Contains (addresses_of chunks) a → a < 2 ^ 64
   low_addresses low a there = low a (subst (λ all. Contains all a) (sym own_addresses) there)
 
-  first_end : (result : Option Stop) (stop : Option LocateFact) → EndsFirst sorted (length bytes) stop (option_map fact_of result) → AreLow cells
+  first_end : (result : Option LoadStop) (stop : Option LocateFact) → EndsFirst sorted (length bytes) stop (option_map fact_of result) → AreLow cells
       → (first_twice [] (cell_addresses cells) or_else stop) ≡ option_map fact_of result
   first_end result stop e low = ap (λ all. first_twice [] all or_else stop) own_addresses ∙ sym (e chunks (h.permuted, h.consecutive, low_addresses low))
 
-  pub refused : (other : Stop) (stop : Option LocateFact) → EndsFirst sorted (length bytes) stop (Some (fact_of other))
+  pub refused : (other : LoadStop) (stop : Option LocateFact) → EndsFirst sorted (length bytes) stop (Some (fact_of other))
       → IsRefusal cells stop (refusals.Stopped other)
   refused other stop e = λ low. first_end (Some other) stop e low
 
-  pub imaged : (stop : Option Stop) (runs : List Run) → EndsFirst sorted (length bytes) (option_map fact_of stop) None → stop ≡ None → AreApart 0 runs
+  pub imaged : (stop : Option LoadStop) (runs : List Run) → EndsFirst sorted (length bytes) (option_map fact_of stop) None → stop ≡ None → AreApart 0 runs
       → run_cells runs ≡ cells_of_chunks bytes sorted
       → IsImage cells (option_map fact_of stop) runs
   imaged stop runs e none apart rows = record {

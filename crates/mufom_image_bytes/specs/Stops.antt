@@ -1,11 +1,11 @@
 -- What ends the walk over the loads, as the fact found there.
 use Rattle.mufom_meaning.specs.declared.located.Site.TheVariants as sites
 use Rattle.mufom_meaning.specs.Facts.{LocateFact, zero_divisor, load_outside, loaded_twice, overflow}
-use Rattle.mufom_image_bytes.specs.declared.stop.Stop.{Stop}
-use Rattle.mufom_image_bytes.specs.declared.stop.Stop.TheVariants as stops
+use Rattle.mufom_image_bytes.specs.declared.stop.LoadStop.{LoadStop}
+use Rattle.mufom_image_bytes.specs.declared.stop.LoadStop.TheVariants as stops
 
 -- what a stop names
-abbrev pub fact_of : Stop → LocateFact
+abbrev pub fact_of : LoadStop → LocateFact
 fact_of (stops.Counter section) = zero_divisor (sites.Counter section)
 fact_of (stops.Field section address) = zero_divisor (sites.Field section address)
 fact_of (stops.Outside section address) = load_outside section address

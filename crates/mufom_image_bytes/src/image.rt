@@ -19,7 +19,7 @@ use crate::loaded::Loaded;
 use crate::loads::walked;
 use crate::refusal::ImageRefusal;
 use crate::rows::maximal_rows;
-use crate::stop::Stop;
+use crate::stop::LoadStop;
 use crate::values::Values;
 use crate::walk::Walk;
 use mufom_loads::Load;
@@ -36,14 +36,14 @@ fn sort_by_address(chunks: &mut Vec<Chunk>)
 }
 
 // The first byte that is loaded on another, or otherwise what ended the loads. The chunks go by address.
-fn first_stop(chunks: &[Chunk], count: usize, stop: Option<Stop>) -> Option<Stop>
+fn first_stop(chunks: &[Chunk], count: usize, stop: Option<LoadStop>) -> Option<LoadStop>
     requires { AreRisingFrom 0 chunks.now }
     ensures stop { EndsFirst chunks.now count (option_map fact_of stop) (option_map fact_of result) }
     ensures apart { result ≡ None → shares_from count 0 chunks.now ≡ false }
     ensures ended { result ≡ None → stop ≡ None }
 {
     match first_double(chunks, count) {
-        Some(address) => Some(Stop::Twice { address }),
+        Some(address) => Some(LoadStop::Twice { address }),
         None => stop,
     }
 }
@@ -72,7 +72,7 @@ fn rows_of(alloc: Global, chunks: &[Chunk], bytes: Vec<u8>) -> Result<List<Run>,
 pub fn rows_of_loaded(
     alloc: Global,
     loaded: Loaded,
-    stop: Option<Stop>,
+    stop: Option<LoadStop>,
 ) -> Result<List<Run>, ImageRefusal>
     requires { IsTiled loaded }
     ensures image { IfOk result (λ runs. IsImage (loaded_cells loaded) (option_map fact_of stop) runs) }

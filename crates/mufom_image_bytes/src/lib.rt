@@ -26,5 +26,5 @@ pub use layout::Layout;
 pub use loaded::{Loaded, nothing_loaded};
 pub use module_image::image_of_module;
 pub use refusal::ImageRefusal;
-pub use stop::Stop;
+pub use stop::LoadStop;
 pub use values::Values;

@@ -1,6 +1,6 @@
 //! Why a module has no image.
 
-use crate::stop::Stop;
+use crate::stop::LoadStop;
 use mufom_numbers::NoMemory;
 use thiserror::Error;
 
@@ -9,7 +9,7 @@ use thiserror::Error;
 pub enum ImageRefusal {
     /// What ends the walk over the loads.
     #[error(transparent)]
-    Stopped(Stop),
+    Stopped(LoadStop),
     /// Out of memory.
     #[error("out of memory")]
     NoMemory,

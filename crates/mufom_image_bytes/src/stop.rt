@@ -5,7 +5,7 @@ use thiserror::Error;
 
 /// What ends the walk over the loads.
 #[derive(Clone, Copy, Debug, Error)]
-pub enum Stop {
+pub enum LoadStop {
     /// A load that sets the program counter of a section divides by 0.
     #[error("division by zero in a program counter of section {section}")]
     Counter {

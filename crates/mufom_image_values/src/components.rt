@@ -19,11 +19,11 @@ struct Visit {
     low: u32,
 }
 
-/// The groups of the publics that lead to one another. They speed up the search for a cycle and the
-/// evaluation of the publics.
+/// The components of the publics: in each, those that lead to one another. They speed up the search for a
+/// cycle and the evaluation of the publics.
 #[derive(Drop)]
 pub struct Components {
-    /// The number of the group of each public, from 1: a public leads to no group with a greater one.
+    /// The number of the component of each public, from 1: a public leads to no component with a greater one.
     pub(crate) numbers: Vec<u32>,
     /// The positions of the publics, each after those that it leads to unless these lead back to it.
     pub(crate) order: Vec<u32>,
@@ -34,7 +34,7 @@ pub struct Components {
 struct Walk {
     /// The publics on the way down to where the walk is.
     visits: Vec<Visit>,
-    /// The publics that were entered and are in no group yet.
+    /// The publics that were entered and are in no component yet.
     open: Vec<u32>,
     /// The number at which each public was entered, from 1, and 0 of the others.
     seen: Vec<u32>,
@@ -60,7 +60,7 @@ impl Walk {
         Ok(())
     }
 
-    // The open publics down to this one are a group.
+    // The open publics down to this one are a component.
     fn close(&mut self, public: u32) -> Result<(), NoMemory> {
         for _ in 0..u64::MAX {
             let Some(member) = self.open.pop() else {
@@ -79,7 +79,7 @@ impl Walk {
     }
 
     // All that a public mentions was walked. If it reached none that was entered before it, it
-    // closes a group.
+    // closes a component.
     fn leave(&mut self, visit: Visit) -> Result<(), NoMemory> {
         if self.seen.get(visit.public as usize) == Some(&visit.low) {
             self.close(visit.public)?;
@@ -127,9 +127,9 @@ fn walk_from(walk: &mut Walk, graph: &Graph<'_>, root: u32) -> Result<(), NoMemo
     Ok(())
 }
 
-/// Groups of publics, as a depth-first search finds them. Nothing is stated of them here: whether a public is on
-/// a cycle is stated, and proved, where groups are used.
-pub fn groups_of(alloc: Global, graph: &Graph<'_>) -> Result<Components, NoMemory>
+/// The components of the publics, as a depth-first search finds them. Nothing is stated of them here: whether a
+/// public is on a cycle is stated, and proved, where components are used.
+pub fn components_of(alloc: Global, graph: &Graph<'_>) -> Result<Components, NoMemory>
     requires { IsGraph graph.now }
 {
     let count = graph.publics().len();

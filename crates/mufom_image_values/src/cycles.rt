@@ -114,7 +114,8 @@ fn leads_back(alloc: Global, graph: &Graph<'_>, position: u32) -> Result<bool, N
 }
 
 // The position of the first public that lies on a cycle of mentions. If no mention leads up, a public
-// whose mentions all lead strictly down is on no cycle; with the numbers of the groups, the first other public is on one.
+// whose mentions all lead strictly down is on no cycle; with the numbers of the components, the first other public is on
+// one.
 fn first_on_circle(
     alloc: Global,
     graph: &Graph<'_>,

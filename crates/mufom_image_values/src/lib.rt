@@ -15,7 +15,7 @@ mod resolutions;
 mod surroundings;
 mod values;
 
-pub use components::{Components, groups_of};
+pub use components::{Components, components_of};
 pub use cycles::first_on_cycle;
 pub use graph::Graph;
 pub use resolutions::{Resolution, first_common, first_undefined, resolve_references};

@@ -2,7 +2,7 @@
 //! and the lists and texts that the other crates store.
 //!
 //! This is the lowest layer: it depends only on `std`, `arrayvec`, `smallvec` and `thiserror`. Its
-//! main clause is that [`read_number`] and [`read_id`] accept exactly the spellings. If the input
+//! main clause is that [`read_number`] and [`read_string`] accept exactly the spellings. If the input
 //! begins with a spelling, they return its value; if the input is a proper prefix of a spelling, they
 //! ask for more bytes; anything else is an error at the first byte.
 #![tactic(auto)]
@@ -23,6 +23,6 @@ pub use laws::{number_spellings_exclude, shortest_spellings_are_read, string_spe
 pub use list::List;
 pub use memory::NoMemory;
 pub use reason::Reason;
-pub use spelling::{id_lead, number_length, number_spelling, read_id, read_number};
+pub use spelling::{number_length, number_spelling, read_number, read_string, string_lead};
 pub use taken::{Span, Taken};
 pub use text::Text;

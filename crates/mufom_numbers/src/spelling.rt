@@ -73,7 +73,7 @@ fn span_after(lead: usize, len: usize, input: &[u8]) -> Taken<Span>
 ///
 /// Returns `Bad` at offset 0 with [`Reason::BadId`] if the first byte does not begin a string. Does not
 /// allocate.
-pub fn read_id(input: &[u8]) -> Taken<Span>
+pub fn read_string(input: &[u8]) -> Taken<Span>
     // The bytes taken are a prefix of the input: a lead, and the bytes that it counts.
     ensures got { IfGot result (λ span used. (used ≤ length input.now) × (used ≡ span.start + span.len)
         × IsStringLead span.len (take span.start input.now)) }
@@ -150,7 +150,7 @@ pub fn number_length(value: u64) -> usize
 }
 
 /// The shortest lead for a string of `length` bytes. Does not allocate.
-pub fn id_lead(length: u16) -> ArrayVec<u8, 3>
+pub fn string_lead(length: u16) -> ArrayVec<u8, 3>
     ensures leads { IsStringLead length result.items }
     ensures shortest { NoneIsShorter (IsStringLead length) result.items }
     ensures exact { result.items ≡ shortest_lead length }

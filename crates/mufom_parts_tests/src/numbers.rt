@@ -1,7 +1,7 @@
 //! Tests of numbers and strings in each spelling, and of lists, byte strings and texts.
 
 use mufom_numbers::{
-    Bytes, List, Reason, Span, Taken, Text, id_lead, number_spelling, read_id, read_number,
+    Bytes, List, Reason, Span, Taken, Text, number_spelling, read_number, read_string, string_lead,
 };
 use std::alloc::Global;
 use std::process::Abort;
@@ -80,7 +80,7 @@ static STRINGS: [(&[u8], Taken<Span>); 10] = [
 #[test]
 fn strings_are_read_after_every_lead(rt: HostRuntime) {
     for (bytes, want) in &STRINGS {
-        assert_eq!(rt; &read_id(bytes), want, "{bytes:?}");
+        assert_eq!(rt; &read_string(bytes), want, "{bytes:?}");
     }
 }
 
@@ -95,7 +95,7 @@ static LEADS: [(u16, &[u8]); 4] = [
 #[test]
 fn strings_get_the_shortest_lead(rt: HostRuntime) {
     for (length, want) in &LEADS {
-        assert_eq!(rt; id_lead(*length).as_slice(), *want, "{length}");
+        assert_eq!(rt; string_lead(*length).as_slice(), *want, "{length}");
     }
 }
 

@@ -189,7 +189,7 @@ HasOwnParts s = HasParts s.bytes.now s.row.now
 
 -- an error of the code as an error of the specs
 abbrev pub as_fault : ReadRefusal → Fault
-as_fault f = (f.place, f.reason)
+as_fault f = (f.offset, f.reason)
 
 -- the first of two numbers that is not 0
 abbrev pub first_or : ℕ → ℕ → ℕ

@@ -80,7 +80,7 @@ pub record IsReading (reader : State) (stream : List ℕ) : Type 0 where
 -- what a reader with this stop knows of a stream; nothing if memory ran out
 abbrev pub Knows : State → List ℕ → Option ReadStop → Type 0
 Knows reader stream None = IsReading reader stream
-Knows reader stream (Some (stop.Refused f)) = IsRefusedAt reader.reads_debug stream f.place f.reason
+Knows reader stream (Some (stop.Refused f)) = IsRefusedAt reader.reads_debug stream f.offset f.reason
 Knows reader stream (Some stop.NoMemory) = Unit {0}
 
 -- The reader has read the stream.

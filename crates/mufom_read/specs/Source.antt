@@ -44,7 +44,7 @@ ReadsNoFurther reads_debug limit before after = IfSome before (λ left. (earlier
 abbrev pub ReadsModule : Bool → ℕ → Option (List ℕ) → Option (List ℕ) → Result (Parts × ℕ) SourceStop → Type 0
 ReadsModule reads_debug limit before after (Ok read) = IfSome before (λ left. IsModule reads_debug left read.0 × (read.1 ≡ length left)
     × (length left ≤ limit) × (after ≡ Some []))
-ReadsModule reads_debug limit before after (Err (stop.Refused r)) = IfSome before (λ left. IsRefusedWithin reads_debug limit left r.place r.reason)
+ReadsModule reads_debug limit before after (Err (stop.Refused r)) = IfSome before (λ left. IsRefusedWithin reads_debug limit left r.offset r.reason)
 ReadsModule reads_debug limit before after (Err stop.Limit) = IfSome before (λ left. IsPastLimit reads_debug limit left)
 ReadsModule reads_debug limit before after (Err stop.Fault) = Unit {0}
 ReadsModule reads_debug limit before after (Err stop.NoMemory) = Unit {0}
@@ -61,7 +61,7 @@ stop_by read_stop.NoMemory = stop.NoMemory
 abbrev pub HasFed : ℕ → List ℕ → List ℕ → State → Result (Unit {0}) SourceStop → Type 0
 HasFed room stream chunk reader (Ok done) = (length chunk ≤ room) × HasRead reader (stream ++ chunk) × IsUnrefused (reads_debug_of reader) (stream ++ chunk)
 HasFed room stream chunk reader (Err (stop.Refused r)) = AreBytes (stream ++ take room chunk)
-    × IsRefusedAt (reads_debug_of reader) (stream ++ take room chunk) r.place r.reason
+    × IsRefusedAt (reads_debug_of reader) (stream ++ take room chunk) r.offset r.reason
 HasFed room stream chunk reader (Err stop.Limit) = (room < length chunk) × IsUnrefused (reads_debug_of reader) (stream ++ take room chunk)
 HasFed room stream chunk reader (Err stop.Fault) = ⊥
 HasFed room stream chunk reader (Err stop.NoMemory) = Unit {0}
@@ -74,7 +74,7 @@ HasReadChunk room before after stream reader (Ok n) = (chunk : List ℕ) × (len
     × HasRead reader (stream ++ chunk) × (n ≡ 0 → IfSome before (λ left. left ≡ []))
     × IsUnrefused (reads_debug_of reader) (stream ++ chunk)
 HasReadChunk room before after stream reader (Err (stop.Refused r)) =
-    IfSome before (λ left. IsRefusedAt (reads_debug_of reader) (stream ++ take room left) r.place r.reason)
+    IfSome before (λ left. IsRefusedAt (reads_debug_of reader) (stream ++ take room left) r.offset r.reason)
 HasReadChunk room before after stream reader (Err stop.Limit) =
     IfSome before (λ left. (room < length left) × IsUnrefused (reads_debug_of reader) (stream ++ take room left))
 HasReadChunk room before after stream reader (Err stop.Fault) = Unit {0}

@@ -187,7 +187,7 @@ pub(crate) fn open_fault(blocks: &[OpenBlock]) -> Option<ReadRefusal>
     match blocks {
         [] => None,
         [.., innermost] => Some(ReadRefusal {
-            place: innermost.start,
+            offset: innermost.start,
             reason: Reason::BlockNesting,
         }),
     }

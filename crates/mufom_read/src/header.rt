@@ -178,13 +178,16 @@ fn offset_fault(earlier: &[u64], offset: u64, start: u64, end: u64) -> Option<Re
     if is_out_of_order(earlier, offset) {
         let reason = Reason::OffsetOrder;
         return Some(ReadRefusal {
-            place: start,
+            offset: start,
             reason,
         });
     }
     if leaves_gap(earlier, offset, end) {
         let reason = Reason::PartGap;
-        return Some(ReadRefusal { place: end, reason });
+        return Some(ReadRefusal {
+            offset: end,
+            reason,
+        });
     }
     None
 }
@@ -214,7 +217,7 @@ pub(crate) fn header_fault(
     if is_bad_descriptor(record) {
         let reason = Reason::BadDescriptor;
         return Some(ReadRefusal {
-            place: start,
+            offset: start,
             reason,
         });
     }

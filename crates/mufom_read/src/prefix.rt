@@ -280,7 +280,7 @@ impl Prefix {
         ensures { option_map as_fault result ≡ Some (self.now.size, reason) }
     {
         Some(ReadRefusal {
-            place: self.size,
+            offset: self.size,
             reason,
         })
     }
@@ -438,7 +438,7 @@ impl Prefix {
             }
             Err(Stop::More) => Ok(Next::More),
             Err(Stop::Bad { offset, reason }) => Ok(Next::Refused(ReadRefusal {
-                place: self.size + offset as u64,
+                offset: self.size + offset as u64,
                 reason,
             })),
         }

@@ -203,7 +203,7 @@ fn refusal(place: u32, reason: Reason) -> ReadRefusal
     ensures { as_fault result ≡ (place, reason) }
 {
     ReadRefusal {
-        place: place as u64,
+        offset: place as u64,
         reason,
     }
 }
@@ -232,7 +232,13 @@ fn earlier(first: Option<ReadRefusal>, second: Option<ReadRefusal>) -> Option<Re
         None => second,
         Some(a) => match second {
             None => Some(a),
-            Some(b) => { if b.place < a.place { Some(b) } else { Some(a) } }
+            Some(b) => {
+                if b.offset < a.offset {
+                    Some(b)
+                } else {
+                    Some(a)
+                }
+            }
         },
     }
 }

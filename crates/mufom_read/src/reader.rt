@@ -75,9 +75,9 @@ impl Reader {
         ensures answer { result ≡ answer_of (reader_stop self.new) }
         ensures stays { IsSome (reader_stop self.old) → self.new ≡ self.old }
         ensures reads_debug { reads_debug_of self.new ≡ reads_debug_of self.old }
-        ensures refused { (place : ℕ) (reason : Reason) (stream : List ℕ) → HasRead self.old stream → reader_stop self.new ≢ Some ReadStop.NoMemory
-            → (result ≡ Err (ReadStop.Refused (record { place = place; reason = reason }))) ↔ IsRefusedAt (reads_debug_of self.old)
-            (stream ++ chunk.now) place reason }
+        ensures refused { (offset : ℕ) (reason : Reason) (stream : List ℕ) → HasRead self.old stream → reader_stop self.new ≢ Some ReadStop.NoMemory
+            → (result ≡ Err (ReadStop.Refused (record { offset = offset; reason = reason }))) ↔ IsRefusedAt (reads_debug_of self.old)
+            (stream ++ chunk.now) offset reason }
     {
         match self.state.stop {
             None => self.state.read_on(chunk),
@@ -94,9 +94,9 @@ impl Reader {
         // The file of a module is read successfully, unless memory runs out.
         ensures module { (stream : List ℕ) (m : Parts) → HasRead self stream → IsModule (reads_debug_of self) stream m
             → result ≢ Err ReadStop.NoMemory → result ≡ Ok m }
-        ensures refused { (place : ℕ) (reason : Reason) (stream : List ℕ) → HasRead self stream → result ≢ Err ReadStop.NoMemory
-            → (result ≡ Err (ReadStop.Refused (record { place = place; reason = reason }))) ↔ IsJudged (reads_debug_of self) stream
-            (refusal place reason) }
+        ensures refused { (offset : ℕ) (reason : Reason) (stream : List ℕ) → HasRead self stream → result ≢ Err ReadStop.NoMemory
+            → (result ≡ Err (ReadStop.Refused (record { offset = offset; reason = reason }))) ↔ IsJudged (reads_debug_of self) stream
+            (refusal offset reason) }
     {
         let Reader { state } = self;
         if let Some(stop) = state.stop {

@@ -159,7 +159,7 @@ impl Sections {
         for (position, section) in self.list.iter().enumerate() {
             if is_unbased(section) {
                 return Some(ReadRefusal {
-                    place: self.starts[position] as u64,
+                    offset: self.starts[position] as u64,
                     reason: Reason::MissingBase,
                 });
             }

@@ -145,9 +145,9 @@ pub fn read_module<S: Source>(
         × (r.1 ≤ limit) × ((S.meaning source.new).left ≡ Some []))) }
     // This holds even if the source does not reveal what it has left.
     ensures weighs { IfOk result (λ r. (weight r.0 ≤ 10 * r.1) × (r.1 ≤ limit)) }
-    ensures refused { (place : ℕ) (reason : Reason)
+    ensures refused { (offset : ℕ) (reason : Reason)
         → IfSome (S.meaning source.old).left (λ left. result ≢ Err SourceStop.NoMemory → result ≢ Err SourceStop.Fault
-        → (result ≡ Err (SourceStop.Refused (record { place = place; reason = reason }))) ↔ IsRefusedWithin reads_debug limit left place reason) }
+        → (result ≡ Err (SourceStop.Refused (record { offset = offset; reason = reason }))) ↔ IsRefusedWithin reads_debug limit left offset reason) }
     ensures limit { IfSome (S.meaning source.old).left (λ left. result ≢ Err SourceStop.NoMemory → result ≢ Err SourceStop.Fault
         → (result ≡ Err SourceStop.Limit) ↔ IsPastLimit reads_debug limit left) }
     // Whatever is returned: the chunks before the last one are within the limit and contain no error, and what is left

@@ -54,11 +54,11 @@ fn after(bytes: &[u8], count: usize) -> &[u8]
 }
 
 /// The stop for an error in the stream, at this offset.
-pub(crate) fn refused(place: usize, reason: Reason) -> ReadStop
-    ensures { result ≡ ReadStop.Refused (record { place = place; reason = reason }) }
+pub(crate) fn refused(offset: usize, reason: Reason) -> ReadStop
+    ensures { result ≡ ReadStop.Refused (record { offset = offset; reason = reason }) }
 {
     ReadStop::Refused(ReadRefusal {
-        place: place as u64,
+        offset: offset as u64,
         reason,
     })
 }

@@ -145,10 +145,7 @@ pub(crate) fn read(
 }
 
 pub(crate) fn refused(offset: u64, reason: Reason) -> Option<ReadStop> {
-    Some(ReadStop::Refused(ReadRefusal {
-        place: offset,
-        reason,
-    }))
+    Some(ReadStop::Refused(ReadRefusal { offset, reason }))
 }
 
 fn stop(alloc: Global, stream: &[u8], size: usize, reads_debug: bool) -> Option<ReadStop>
@@ -473,7 +470,7 @@ fn end(reader: Reader) -> Option<ReadStop> {
 }
 
 const BAD_HEADER: ReadStop = ReadStop::Refused(ReadRefusal {
-    place: 0,
+    offset: 0,
     reason: Reason::BadHeader,
 });
 
@@ -542,7 +539,7 @@ fn nearly_full(rt: &impl Abort, alloc: Global, more: usize) -> Reader {
 }
 
 const BEYOND_THE_LIMIT: ReadStop = ReadStop::Refused(ReadRefusal {
-    place: 67_108_864,
+    offset: 67_108_864,
     reason: Reason::FileLimit,
 });
 

@@ -11,7 +11,7 @@ ghost use Rattle.mufom_records.specs.Reading.{field_at, plain_number_at};
 
 use crate::stop::Stop;
 use arrayvec::ArrayVec;
-use mufom_numbers::{Reason, Span, Taken, codes, read_id, read_number};
+use mufom_numbers::{Reason, Span, Taken, codes, read_number, read_string};
 
 // The smallest lead byte of a number. All smaller bytes are numbers by themselves.
 const FIRST_LEAD: u8 = 0x80;
@@ -160,7 +160,7 @@ pub(crate) fn string(input: &[u8], at: usize) -> Result<(Span, usize), Stop>
     ensures part { IfOk result (λ r. LiesIn input.now r.0) }
     ensures within { IfOk result (λ r. r.1 ≤ length input.now) }
 {
-    match read_id(&input[at..]) {
+    match read_string(&input[at..]) {
         Taken::Got(span, used) => {
             let span = Span {
                 start: at + span.start,

@@ -10,8 +10,8 @@ use Rattle.mufom_meaning.specs.Walk.{first_twice}
 use Rattle.mufom_image_bytes.specs.Chunks.{cell_addresses}
 use Rattle.mufom_image_bytes.specs.Images.{AreLow, IsRefusal}
 use Rattle.mufom_image_bytes.specs.Stops.{fact_of}
-use Rattle.mufom_image_bytes.specs.declared.stop.Stop.{Stop}
-use Rattle.mufom_image_bytes.specs.declared.stop.Stop.TheVariants as stops
+use Rattle.mufom_image_bytes.specs.declared.stop.LoadStop.{LoadStop}
+use Rattle.mufom_image_bytes.specs.declared.stop.LoadStop.TheVariants as stops
 use Rattle.mufom_image_bytes.specs.declared.refusal.ImageRefusal.{ImageRefusal}
 use Rattle.mufom_image_bytes.specs.declared.refusal.ImageRefusal.TheVariants as refusals
 use Rattle.mufom_titxt.specs.declared.refusal.TxtReason.TheVariants.{Twice}
@@ -76,7 +76,7 @@ or_none None = refl
 or_none (Some fact) = refl
 
 -- a refusal of bytes names such an address
-pub refusal_names : (cells : List Cell) (refusal : ImageRefusal) (stop : Stop) → AreLow cells → refusal ≡ refusals.Stopped stop → IsRefusal cells None refusal
+pub refusal_names : (cells : List Cell) (refusal : ImageRefusal) (stop : LoadStop) → AreLow cells → refusal ≡ refusals.Stopped stop → IsRefusal cells None refusal
     → NamesTwice (fact_of stop)
 refusal_names cells refusal stop low is h =
     let P : ImageRefusal → Type 0 = λ r. IsRefusal cells None r in
@@ -85,7 +85,7 @@ refusal_names cells refusal stop low is h =
     record { address = named.0; same = named.1 }
 
 -- no other stop does
-pub names_only : (stop : Stop) → NamesTwice (fact_of stop) → ((a : ℕ) → stop ≡ stops.Twice a → ⊥) → ⊥
+pub names_only : (stop : LoadStop) → NamesTwice (fact_of stop) → ((a : ℕ) → stop ≡ stops.Twice a → ⊥) → ⊥
 names_only (stops.Counter section) h other = cc h.same
 names_only (stops.Field section address) h other = cc h.same
 names_only (stops.Outside section address) h other = cc h.same

@@ -22,7 +22,7 @@ use crate::lines::next_line;
 use crate::reading::Reading;
 use crate::refusal::{TxtReason, TxtRefusal, TxtStop};
 use crate::store::Store;
-use mufom_image_bytes::{ImageRefusal, Loaded, Stop, rows_of_loaded};
+use mufom_image_bytes::{ImageRefusal, LoadStop, Loaded, rows_of_loaded};
 use mufom_meaning::Run;
 use mufom_numbers::{List, NoMemory};
 use std::alloc::Global;
@@ -36,12 +36,12 @@ enum RowsStop {
 }
 
 // The address that has two bytes.
-fn twice_address(stop: Stop) -> u64
+fn twice_address(stop: LoadStop) -> u64
     requires { NamesTwice (fact_of stop) }
     ensures { fact_of stop ≡ loaded_twice result }
 {
     match stop {
-        Stop::Twice { address } => address,
+        LoadStop::Twice { address } => address,
         _ => unreachable!(),
     }
 }

@@ -10,7 +10,7 @@ ghost use Rattle.mufom_module.specs.Defects.{is_long};
 use crate::output::Output;
 use mufom_expr::{FieldKind, Function, Letter, Postfix, Token};
 use mufom_host::Failed;
-use mufom_numbers::{Bytes, codes, id_lead};
+use mufom_numbers::{Bytes, codes, string_lead};
 
 /// The index that the file has for its first section.
 pub(crate) const FIRST_SECTION: u64 = 1;
@@ -62,7 +62,7 @@ pub(crate) fn string<K: Output>(out: &mut K, text: &Bytes) -> Result<(), Failed>
     requires { is_long text.now ≡ false }
     ensures { K.takes out.old out.new (written.string shortest text.now) result }
 {
-    out.put(id_lead(text.len() as u16).as_slice())?;
+    out.put(string_lead(text.len() as u16).as_slice())?;
     out.put(text.as_slice())
 }
 

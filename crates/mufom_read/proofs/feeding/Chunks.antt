@@ -63,7 +63,7 @@ more_steps reads_debug prefix steps judged rest sound here more = (
 -- an error after them is one of the stream
 pub chunk-refused : (r : State) (stream chunk w : List ℕ) (is : IsReading r stream) (new : Prefix) (f : ReadRefusal) → AreBytes (stream ++ chunk) → w
     ≡ take (file_limit - (r.prefix.size + length r.rest.items)) chunk
-    → HasTakenAll r.reads_debug is.prefix (r.rest.items ++ w) new (Err (stop.Refused f)) → IsRefusedAt r.reads_debug (stream ++ chunk) f.place f.reason
+    → HasTakenAll r.reads_debug is.prefix (r.rest.items ++ w) new (Err (stop.Refused f)) → IsRefusedAt r.reads_debug (stream ++ chunk) f.offset f.reason
 chunk-refused r stream chunk w is new f bytes cut (steps, sound, unended, fault) =
     let far = longer r stream chunk w is bytes cut in
     let both = more_steps r.reads_debug is.prefix steps (stream ++ w) (r.rest.items ++ w) far.sound far.after sound in
@@ -201,15 +201,15 @@ knows-ended : (r : State) (stream chunk : List ℕ) (prefix : List Step) (n : �
 knows-ended r stream chunk prefix n rest longer_ new None gone same test is waits (left, short, none) =
     still-reading r stream chunk prefix n rest new gone same is waits (sym test ∙ short) left none
 knows-ended r stream chunk prefix n rest longer_ new (Some (stop.Refused f)) gone same test is waits (inl (end, fault, more)) =
-    subst (λ (b : Bool). IsRefusedAt b (stream ++ chunk) f.place f.reason) (sym same)
-    (after-end r stream chunk prefix n rest f.place f.reason gone end (ap (λ (p : Fault). p.0) fault ∙ is.size) (ap (λ (p : Fault). p.1) fault) (by_case more))
+    subst (λ (b : Bool). IsRefusedAt b (stream ++ chunk) f.offset f.reason) (sym same)
+    (after-end r stream chunk prefix n rest f.offset f.reason gone end (ap (λ (p : Fault). p.0) fault ∙ is.size) (ap (λ (p : Fault). p.1) fault) (by_case more))
   where
     by_case : ((longer_ ≡ true) ⊎ (drop n rest ≢ [])) → (nat_lt (room_of r) (length chunk) ≡ true) ⊎ (drop n rest ≢ [])
     by_case (inl long) = inl (sym test ∙ long)
     by_case (inr some) = inr some
 knows-ended r stream chunk prefix n rest longer_ new (Some (stop.Refused f)) gone same test is waits (inr (unended, fault, long)) =
-    subst (λ (b : Bool). IsRefusedAt b (stream ++ chunk) f.place f.reason) (sym same)
-    (too-long r stream chunk prefix n rest f.place f.reason gone unended (ap (λ (p : Fault). p.0) fault) (ap (λ (p : Fault). p.1) fault) (sym test
+    subst (λ (b : Bool). IsRefusedAt b (stream ++ chunk) f.offset f.reason) (sym same)
+    (too-long r stream chunk prefix n rest f.offset f.reason gone unended (ap (λ (p : Fault). p.0) fault) (ap (λ (p : Fault). p.1) fault) (sym test
     ∙ long) waits)
 knows-ended r stream chunk prefix n rest longer_ new (Some stop.NoMemory) gone same test is waits ended = tt
 
@@ -248,7 +248,7 @@ pub known-stopped : (r new : State) (stream chunk w : List ℕ) (s : ReadStop) �
     → ((before : List Step) → IsPrefixOf r.prefix before → HasNoStep r.reads_debug before r.rest.items
     → HasTakenChunk r.reads_debug before (r.rest.items ++ w) new (Err s)) → Knows new (stream ++ chunk) (Some s)
 known-stopped r new stream chunk w (stop.Refused f) is bytes cut same taken =
-    subst (λ (b : Bool). IsRefusedAt b (stream ++ chunk) f.place f.reason) (sym same)
+    subst (λ (b : Bool). IsRefusedAt b (stream ++ chunk) f.offset f.reason) (sym same)
     (chunk-refused r stream chunk w is new.prefix f bytes cut (taken is.prefix is.kept (reading-no-step r stream is)))
 known-stopped r new stream chunk w stop.NoMemory is bytes cut same taken = tt
 

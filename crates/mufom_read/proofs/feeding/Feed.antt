@@ -16,7 +16,7 @@ use Rattle.mufom_read.proofs.judged.Stays.{refusal_stays}
 use Rattle.mufom_read.proofs.feeding.Chunks.{pending-is}
 
 abbrev pub the_refusal : ℕ → Reason → ReadRefusal
-the_refusal offset reason = record { place = offset; reason = reason }
+the_refusal offset reason = record { offset = offset; reason = reason }
 
 -- a reader that goes on, and that has no byte and no record, has read nothing
 pub none-read : (r : State) → IsPrefixOf r.prefix [] → r.rest.items ≡ [] → r.stop ≡ None → HasRead r []
@@ -45,7 +45,7 @@ reading-moved a b stream flag prefix rest is =
 pub knows-moved : (a b : State) (stream : List ℕ) (s : Option ReadStop) → b.reads_debug ≡ a.reads_debug → b.prefix ≡ a.prefix → b.rest ≡ a.rest
     → Knows a stream s → Knows b stream s
 knows-moved a b stream None flag prefix rest known = reading-moved a b stream flag prefix rest known
-knows-moved a b stream (Some (stop.Refused f)) flag prefix rest known = subst (λ (d : Bool). IsRefusedAt d stream f.place f.reason) (sym flag) known
+knows-moved a b stream (Some (stop.Refused f)) flag prefix rest known = subst (λ (d : Bool). IsRefusedAt d stream f.offset f.reason) (sym flag) known
 knows-moved a b stream (Some stop.NoMemory) flag prefix rest known = tt
 
 -- a stream that may be read on has no error
@@ -70,17 +70,17 @@ answers-refusal r stream None offset reason bytes known memory =
       ok_err e = cc
 answers-refusal r stream (Some (stop.Refused f)) offset reason bytes known memory = (forth, back) where
   forth : answer_of (Some (stop.Refused f)) ≡ Err (stop.Refused (the_refusal offset reason)) → IsRefusedAt r.reads_debug stream offset reason
-  forth e = let same : f ≡ the_refusal offset reason = cc in subst (λ (g : ReadRefusal). IsRefusedAt r.reads_debug stream g.place g.reason) same known
+  forth e = let same : f ≡ the_refusal offset reason = cc in subst (λ (g : ReadRefusal). IsRefusedAt r.reads_debug stream g.offset g.reason) same known
 
   back : IsRefusedAt r.reads_debug stream offset reason → answer_of (Some (stop.Refused f)) ≡ Err (stop.Refused (the_refusal offset reason))
   back refused =
-      let same = refusal_is_single r.reads_debug stream f.place offset f.reason reason bytes known refused in
+      let same = refusal_is_single r.reads_debug stream f.offset offset f.reason reason bytes known refused in
       ap (λ p. answer_of (Some (stop.Refused (the_refusal p f.reason)))) same.0 ∙ ap (λ w. answer_of (Some (stop.Refused (the_refusal offset w)))) same.1
 answers-refusal r stream (Some stop.NoMemory) offset reason bytes known memory = absurd (memory refl)
 
 -- a stop stays
 pub stop-stays : (r : State) (stream chunk : List ℕ) (s : ReadStop) → AreBytes (stream ++ chunk) → Knows r stream (Some s) → Knows r (stream ++ chunk) (Some s)
-stop-stays r stream chunk (stop.Refused f) bytes known = refusal_stays r.reads_debug stream chunk f.place f.reason bytes known
+stop-stays r stream chunk (stop.Refused f) bytes known = refusal_stays r.reads_debug stream chunk f.offset f.reason bytes known
 stop-stays r stream chunk stop.NoMemory bytes known = tt
 
 -- the result for a chunk

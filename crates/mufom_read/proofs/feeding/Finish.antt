@@ -66,14 +66,14 @@ pub finish-stopped : {M : Type 0} (r : State) (stream : List ℕ) (s : ReadStop)
 finish-stopped {M} r stream (stop.Refused f) offset reason bytes known memory = (forth, back) where
   forth : ◌≡◌ {A = Result M ReadStop} (Err (stop.Refused f)) (Err (stop.Refused (the_refusal offset reason)))
       → IsJudged r.reads_debug stream (refusal offset reason)
-  forth e = let same : f ≡ the_refusal offset reason = cc in inl (subst (λ (g : ReadRefusal). IsRefusedAt r.reads_debug stream g.place g.reason) same known)
+  forth e = let same : f ≡ the_refusal offset reason = cc in inl (subst (λ (g : ReadRefusal). IsRefusedAt r.reads_debug stream g.offset g.reason) same known)
 
   back : IsJudged r.reads_debug stream (refusal offset reason)
       → ◌≡◌ {A = Result M ReadStop} (Err (stop.Refused f)) (Err (stop.Refused (the_refusal offset reason)))
   back (inl refused) =
-      let same = refusal_is_single r.reads_debug stream f.place offset f.reason reason bytes known refused in
+      let same = refusal_is_single r.reads_debug stream f.offset offset f.reason reason bytes known refused in
       ap (λ p. Err (stop.Refused (the_refusal p f.reason))) same.0 ∙ ap (λ w. Err (stop.Refused (the_refusal offset w))) same.1
-  back (inr cut) = absurd (not_cut r.reads_debug stream f.place f.reason cut.2 known)
+  back (inr cut) = absurd (not_cut r.reads_debug stream f.offset f.reason cut.2 known)
 finish-stopped r stream stop.NoMemory offset reason bytes known memory = absurd (memory refl)
 
 -- the result if the module has not ended
@@ -83,7 +83,7 @@ pub finish-cut : {M : Type 0} (r : State) (stream : List ℕ) (is : IsReading r 
 finish-cut {M} r stream is s size offset reason unended states all = (forth, back) where
   forth : ◌≡◌ {A = Result M ReadStop} (Err s) (Err (stop.Refused (the_refusal offset reason))) → IsJudged r.reads_debug stream (refusal offset reason)
   forth e = let same : the_refusal size why.Truncated ≡ the_refusal offset reason = cc in
-      inr (sym (ap (λ (f : ReadRefusal). f.reason) same), sym (ap (λ (f : ReadRefusal). f.place) same) ∙ all, cut-off r stream is unended)
+      inr (sym (ap (λ (f : ReadRefusal). f.reason) same), sym (ap (λ (f : ReadRefusal). f.offset) same) ∙ all, cut-off r stream is unended)
 
   back : IsJudged r.reads_debug stream (refusal offset reason) → ◌≡◌ {A = Result M ReadStop} (Err s) (Err (stop.Refused (the_refusal offset reason)))
   back (inl refused) = absurd (reading-not-refused r stream offset reason is refused)
@@ -111,8 +111,8 @@ pub finish-file : (reads_debug : Bool) (stream : List ℕ) (m : Parts) (result :
     → IsModule reads_debug stream m → result ≢ Err stop.NoMemory
     → result ≡ Ok m
 finish-file reads_debug stream m (Ok n) bytes ok refused is memory = ap (λ x. Ok x) (one_module n m stream reads_debug ok is)
-finish-file reads_debug stream m (Err (stop.Refused f)) bytes ok refused is memory = absurd (excluded (refused f.place f.reason refl)) where
-  excluded : IsJudged reads_debug stream (refusal f.place f.reason) → ⊥
-  excluded (inl here) = (judgments_exclude_each_other reads_debug stream bytes).not_module m f.place f.reason is here
+finish-file reads_debug stream m (Err (stop.Refused f)) bytes ok refused is memory = absurd (excluded (refused f.offset f.reason refl)) where
+  excluded : IsJudged reads_debug stream (refusal f.offset f.reason) → ⊥
+  excluded (inl here) = (judgments_exclude_each_other reads_debug stream bytes).not_module m f.offset f.reason is here
   excluded (inr cut) = (judgments_exclude_each_other reads_debug stream bytes).whole m is cut.2
 finish-file reads_debug stream m (Err stop.NoMemory) bytes ok refused is memory = absurd (memory refl)

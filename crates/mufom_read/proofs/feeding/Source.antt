@@ -60,7 +60,7 @@ fed-stopped room stream chunk fed reader s made same by answers read =
   where
     by_stop : (s : ReadStop) → Knows reader (stream ++ fed) (Some s) → HasFed room stream chunk reader (Err (stop_by s))
     by_stop (read_stop.Refused f) known = subst (λ (l : List ℕ). AreBytes (stream ++ l)
-        × IsRefusedAt (reads_debug_of reader) (stream ++ l) f.place f.reason) (sym same) (read.0, known)
+        × IsRefusedAt (reads_debug_of reader) (stream ++ l) f.offset f.reason) (sym same) (read.0, known)
     by_stop read_stop.NoMemory known = tt
 
 -- a stop of the reader is never `Fault`
@@ -99,8 +99,8 @@ pub chunk-stopped : (room count : ℕ) (before after : Option (List ℕ)) (strea
 chunk-stopped room count None after stream buffer reader (stop.Refused f) reads fed = tt
 chunk-stopped room count (Some left) after stream buffer reader (stop.Refused f) reads fed =
     let same = subst (λ (l : List ℕ). AreBytes (stream ++ take room l)
-    × IsRefusedAt (reads_debug_of reader) (stream ++ take room l) f.place f.reason) reads.bytes fed in
-    refused-in-left (reads_debug_of reader) room count stream left f.place f.reason same.0 same.1
+    × IsRefusedAt (reads_debug_of reader) (stream ++ take room l) f.offset f.reason) reads.bytes fed in
+    refused-in-left (reads_debug_of reader) room count stream left f.offset f.reason same.0 same.1
 chunk-stopped room count None after stream buffer reader stop.Limit reads fed = tt
 chunk-stopped room count (Some left) after stream buffer reader stop.Limit reads fed =
     let same = subst (λ (l : List ℕ). (room < length l) × IsUnrefused (reads_debug_of reader) (stream ++ take room l)) reads.bytes fed in
@@ -222,8 +222,8 @@ pub come-stopped : (limit n : ℕ) (next : State) (before between after : Option
     → HasReadChunk (limit - n) between after bytes next (Err s) → HasReadAll limit before after next (Err s)
 come-stopped limit n next None between after bytes (stop.Refused f) size few off chunk = tt
 come-stopped limit n next (Some left) between after bytes (stop.Refused f) size few off chunk =
-    let here = subst (λ (o : Option (List ℕ)). IfSome o (λ l. IsRefusedAt (reads_debug_of next) (bytes ++ take (limit - n) l) f.place f.reason)) off.2 chunk in
-    inl (subst (λ (l : List ℕ). IsRefusedAt (reads_debug_of next) l f.place f.reason) (first limit n left bytes off.0 size few off.1) here)
+    let here = subst (λ (o : Option (List ℕ)). IfSome o (λ l. IsRefusedAt (reads_debug_of next) (bytes ++ take (limit - n) l) f.offset f.reason)) off.2 chunk in
+    inl (subst (λ (l : List ℕ). IsRefusedAt (reads_debug_of next) l f.offset f.reason) (first limit n left bytes off.0 size few off.1) here)
   where
     first : (limit n : ℕ) (left bytes rest : List ℕ) → length bytes ≡ n → n ≤ limit → left ≡ bytes ++ rest → bytes ++ take (limit - n) rest ≡ take limit left
     first limit n left bytes rest size few whole = ap (λ k. bytes ++ take (limit - k) rest) (sym size)
@@ -287,8 +287,8 @@ all-refused reads_debug limit n before after bytes s made size few all by judged
     by_stop (read_stop.Refused f) (Some left) all judged =
         inr (
           omega (arith, ap length all.0, size, few),
-          subst (λ (l : List ℕ). IsJudged reads_debug l (refusal f.place f.reason)) (sym all.0)
-              (judged f.place f.reason refl),
+          subst (λ (l : List ℕ). IsJudged reads_debug l (refusal f.offset f.reason)) (sym all.0)
+              (judged f.offset f.reason refl),
         )
     by_stop read_stop.NoMemory before all judged = tt
 
@@ -366,11 +366,11 @@ stop-refused : (reads_debug : Bool) (limit : ℕ) (left : List ℕ) (after : Opt
     → (◌≡◌ {A = Answer} (Err s) (Err (stop.Refused (the_refusal offset reason)))) ↔ IsRefusedWithin reads_debug limit left offset reason
 stop-refused reads_debug limit left after (stop.Refused f) offset reason is memory fault = (forth, back) where
   forth : ◌≡◌ {A = Answer} (Err (stop.Refused f)) (Err (stop.Refused (the_refusal offset reason))) → IsRefusedWithin reads_debug limit left offset reason
-  forth e = let same : f ≡ the_refusal offset reason = cc in subst (λ (g : ReadRefusal). IsRefusedWithin reads_debug limit left g.place g.reason) same is
+  forth e = let same : f ≡ the_refusal offset reason = cc in subst (λ (g : ReadRefusal). IsRefusedWithin reads_debug limit left g.offset g.reason) same is
 
   back : IsRefusedWithin reads_debug limit left offset reason → ◌≡◌ {A = Answer} (Err (stop.Refused f)) (Err (stop.Refused (the_refusal offset reason)))
   back refused =
-      let same = one_within reads_debug limit left f.place offset f.reason reason (split reads_debug limit left f.place f.reason is)
+      let same = one_within reads_debug limit left f.offset offset f.reason reason (split reads_debug limit left f.offset f.reason is)
       (split reads_debug limit left offset reason refused) in
       ap (λ p. Err (stop.Refused (the_refusal p f.reason))) same.0 ∙ ap (λ w. Err (stop.Refused (the_refusal offset w))) same.1
 stop-refused reads_debug limit left after stop.Limit offset reason is memory fault =
@@ -384,7 +384,7 @@ stop-past : (reads_debug : Bool) (limit : ℕ) (left : List ℕ) (after : Option
     → ReadsModule reads_debug limit (Some left) after (Err s) → ◌≢◌ {A = Answer} (Err s) (Err stop.NoMemory) → ◌≢◌ {A = Answer} (Err s) (Err stop.Fault)
     → (◌≡◌ {A = Answer} (Err s) (Err stop.Limit)) ↔ IsPastLimit reads_debug limit left
 stop-past reads_debug limit left after (stop.Refused f) is memory fault =
-    (λ e. absurd (wrong e), λ past. absurd (not_past reads_debug limit left f.place f.reason (split reads_debug limit left f.place f.reason is) past)) where
+    (λ e. absurd (wrong e), λ past. absurd (not_past reads_debug limit left f.offset f.reason (split reads_debug limit left f.offset f.reason is) past)) where
       wrong : ◌≡◌ {A = Answer} (Err (stop.Refused f)) (Err stop.Limit) → ⊥
       wrong e = cc
 stop-past reads_debug limit left after stop.Limit is memory fault = (λ e. is, λ past. refl)

@@ -6,7 +6,7 @@ ghost use Rattle.mufom_command.specs.Complaint.{complaint};
 ghost use Rattle.mufom_command.specs.Run.{call_of, AddsErrorLine, PrintsErrorLine};
 ghost use Rattle.mufom_command.specs.RunParts.{IsPrintedAs};
 
-use crate::complaint::{fault_line, refusal_line, usage_line};
+use crate::error_lines::{fault_line, refusal_line, usage_line};
 use crate::outcome::Outcome;
 use mufom_host::{Failed, Host};
 use mufom_numbers::NoMemory;

@@ -10,7 +10,7 @@ use Rattle.mufom_command.specs.Run.{call_of}
 use Rattle.mufom_command.proofs.DoesLaws.{printed-does, stopped-does}
 use Rattle.mufom_command.proofs.InputsLaws.{over-map}
 use Rattle.mufom_command.proofs.WorkLaws.{listing-begins, listing-gives}
-use Rattle.mufom_command.proofs.listing.show.Goals as goal
+use Rattle.mufom_command.proofs.show.show.Goals as goal
 
 pub returns-in-Ok : goal.returns-in-Ok
 returns-in-Ok g c =

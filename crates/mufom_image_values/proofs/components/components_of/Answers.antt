@@ -1,6 +1,6 @@
 use Rattle.std.proofs.Common.{ap, length, arith}
 use Rattle.mufom_image_values.proofs.CountLaws.{few-publics}
-use Rattle.mufom_image_values.proofs.components.groups_of.Goals as goal
+use Rattle.mufom_image_values.proofs.components.components_of.Goals as goal
 
 pub overflow_cast-root : goal.overflow_cast-root
 overflow_cast-root c =

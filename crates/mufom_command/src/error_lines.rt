@@ -85,9 +85,9 @@ pub(crate) fn usage_line(fault: UsageFault) -> &'static str
 fn read_line(alloc: Global, file: u32, refusal: ReadRefusal) -> Result<String, NoMemory>
     ensures { IfOk result (λ text. string_bytes text ≡ complaint (Outcome.Refused (Refusal.Read file refusal))) }
 {
-    let place = refusal.place;
+    let offset = refusal.offset;
     let reason = reason_name(refusal.reason);
-    Ok(format!(in alloc; "refused: file {file} at {place}: {reason}\n")?)
+    Ok(format!(in alloc; "refused: file {file} at {offset}: {reason}\n")?)
 }
 
 // The line of the file in which the total length of all files passes the limit.

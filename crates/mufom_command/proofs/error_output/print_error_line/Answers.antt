@@ -2,7 +2,7 @@ use Rattle.std.proofs.Common.{ℕ, List, subst, ◌∙◌}
 use Rattle.mufom_command.specs.Complaint.{complaint}
 use Rattle.mufom_command.specs.declared.outcome.Outcome.TheVariants as outcome
 use Rattle.mufom_command.specs.Run.{AddsErrorLine, call_of}
-use Rattle.mufom_command.proofs.error_line.print_error_line.Goals as goal
+use Rattle.mufom_command.proofs.error_output.print_error_line.Goals as goal
 
 pub returns-in-Ok-fault_line-clause-line : goal.returns-in-Ok-fault_line-clause-line
 returns-in-Ok-fault_line-clause-line g c =

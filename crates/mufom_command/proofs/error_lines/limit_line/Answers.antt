@@ -1,7 +1,7 @@
 use Rattle.std.proofs.Common.{◌≡◌, ◌++◌, ◌∷◌, [], codes, ◌∙◌, append_assoc}
 use Rattle.std.specs.Fmt.{decimal}
 use Rattle.mufom_command.specs.Text.{Text, line}
-use Rattle.mufom_command.proofs.complaint.limit_line.Goals as goal
+use Rattle.mufom_command.proofs.error_lines.limit_line.Goals as goal
 
 regroup : (file : Text) → codes "refused: file " ++ (file ++ (codes ": InputLimit" ++ 10 ∷ []))
     ≡ line (codes "refused: " ++ (codes "file " ++ file ++ codes ": InputLimit"))

@@ -6,7 +6,7 @@ use Rattle.mufom_command.specs.Commands.{printed}
 use Rattle.mufom_command.proofs.DoesLaws.{printed-does, stopped-does}
 use Rattle.mufom_command.proofs.InputsLaws.{over-map}
 use Rattle.mufom_command.proofs.WorkLaws.{listing-begins, listing-gives}
-use Rattle.mufom_command.proofs.listing.check.Goals as goal
+use Rattle.mufom_command.proofs.show.check.Goals as goal
 
 pub returns-in-Ok : goal.returns-in-Ok
 returns-in-Ok g c =

@@ -2,7 +2,7 @@ use Rattle.std.proofs.Common.{◌≡◌, ◌++◌, ◌∷◌, [], codes, ◌∙�
 use Rattle.std.specs.Fmt.{decimal}
 use Rattle.mufom_text.specs.Show.{order_letter}
 use Rattle.mufom_command.specs.Text.{Text, line}
-use Rattle.mufom_command.proofs.complaint.mismatch_line.Goals as goal
+use Rattle.mufom_command.proofs.error_lines.mismatch_line.Goals as goal
 
 -- as the parts are written, one after another
 written : Text → Text → Text → Text → Text

@@ -2,7 +2,7 @@ use Rattle.std.proofs.Common.{arith, ap, sym, ◌∙◌}
 use Rattle.mufom_numbers.specs.Spelling.{string_at}
 use Rattle.mufom_numbers.proofs.StringLaws.{string_at-spelling, string_at-taken, string_at-cut_off, more-string_cut_off, string_at-bad, bad-string_at}
 use Rattle.mufom_numbers.proofs.SpellingLaws.{are_bytes}
-use Rattle.mufom_numbers.proofs.spelling.read_id.Goals as goal
+use Rattle.mufom_numbers.proofs.spelling.read_string.Goals as goal
 
 pub returns-clause-only : goal.returns-clause-only
 returns-clause-only c = λ lead text rest is e. c.string.ensures.exact ∙ ap string_at e ∙ string_at-spelling lead text rest is
