@@ -1,20 +1,22 @@
 -- An index as it is stored, a set of keys and a list of positions, and as contracts see it.
 use Rattle.std.proofs.Common.{get_or, suc, ◌≡◌, ℕ, ◌+◌, ◌<◌, List, [], ◌∷◌, ◌++◌, length, map, Bool, true, false, not, cond, ◌||◌, nat_lt, Some, None}
-use Rattle.std.proofs.Common.{is_none, refl, sym, ap, ◌∙◌, slice_get, position, arith, true≢false, if◌then◌else◌, Vec, Global, Bor}
+use Rattle.std.proofs.Common.{is_none, refl, sym, ap, ◌∙◌, slice_get, position, arith, true≢false, if◌then◌else◌}
 use Rattle.std.specs.List.{list_any, position_or_len, zip, IsDistinct, AllByRecursion}
 use Rattle.std.specs.Str.{bytes_eq}
 use Rattle.std.proofs.lemmas.Option.{slice_get-get_or}
+use Rattle.mufom_names.specs.declared.index_key.NameKey.{NameKey}
+use Rattle.mufom_names.specs.declared.index_key.OwnedKey.{OwnedKey}
 use Rattle.mufom_names.specs.Index.{Entry, keys_of, position_of, with_entry, HaveDistinctKeys}
 
 slice_get-past : (x : ℕ) (xs : List ℕ) (n : ℕ) → slice_get (x ∷ xs) (1 + n) ≡ slice_get xs n
 slice_get-past x xs n = let e : 1 + n ≡ suc n = omega arith in ap (slice_get (x ∷ xs)) e
 
 -- the bytes of a borrowed key, and of one that the index owns
-abbrev pub borrowed : Bor (List ℕ) → List ℕ
-borrowed key = key.now
+abbrev pub borrowed : NameKey → List ℕ
+borrowed key = key.bytes.now
 
-abbrev pub own : Vec ℕ Global → List ℕ
-own key = key.items
+abbrev pub own : OwnedKey → List ℕ
+own key = key.bytes.items
 
 -- of keys with these bytes
 module _ {K : Type 0} (bytes : K → List ℕ) where

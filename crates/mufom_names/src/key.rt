@@ -69,9 +69,11 @@ fn add_weak(key: &mut Vec<u8>, weak: Option<Weak>) -> Result<(), NoMemory>
 pub fn reference_key(alloc: Global, reference: &Reference) -> Result<Vec<u8>, NoMemory>
     ensures { IfOk result (λ key. key.items ≡ reference_key reference.now) }
 {
-    let mut key = Vec::new(alloc);
-    add_number(&mut key, reference.name.len() as u64)?;
-    key.extend_from_slice(reference.name.as_slice())?;
+    // The name and three numbers: all that the key of a strong reference without notes contains.
+    let name = reference.name.as_slice();
+    let mut key = Vec::with_capacity(alloc, 24 + name.len())?;
+    add_number(&mut key, name.len() as u64)?;
+    key.extend_from_slice(name)?;
     add_weak(&mut key, reference.weak)?;
     let notes = reference.notes.as_slice();
     add_number(&mut key, notes.len() as u64)?;

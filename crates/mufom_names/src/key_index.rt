@@ -1,6 +1,7 @@
 //! An index from keys to positions.
 
 use crate::hash_seed::HashSeed;
+use crate::index_key::OwnedKey;
 use indexmap::IndexSet;
 use mufom_numbers::NoMemory;
 use std::alloc::Global;
@@ -9,7 +10,7 @@ use std::marker::Model;
 /// An index from keys, which it owns, to positions. It finds a key by hashing it. Contracts see the list
 /// of the pairs of keys and positions, in the order in which they were added; no key occurs twice.
 pub struct KeyIndex {
-    keys: IndexSet<Vec<u8>, HashSeed>,
+    keys: IndexSet<OwnedKey, HashSeed>,
     positions: Vec<u32>,
 }
 
@@ -21,10 +22,10 @@ impl Model for KeyIndex {
 
     ghost Value = { List Entry };
 
-    ghost view = { λ index. zip (map (λ key. key.items) index.keys.keys) index.positions.items };
+    ghost view = { λ index. zip (map (λ key. key.bytes.items) index.keys.keys) index.positions.items };
 
     ghost invariant = { λ index. (length index.keys.keys ≡ length index.positions.items)
-        × IsDistinct (λ key other. bytes_eq key.items other.items) index.keys.keys };
+        × IsDistinct (λ key other. bytes_eq key.bytes.items other.bytes.items) index.keys.keys };
 }
 
 // Written out so that each drop is one call: see "Drops" in docs/ARCHITECTURE.md.
@@ -59,7 +60,7 @@ impl KeyIndex {
         ensures err { OnErr result (self.new ≡ self.old) }
     {
         self.positions.push(position)?;
-        match self.keys.insert_full(key) {
+        match self.keys.insert_full(OwnedKey { bytes: key }) {
             Ok((_, true)) => Ok(None),
             Ok((slot, false)) => {
                 self.positions.pop();

@@ -9,6 +9,7 @@
 #![tactic(auto)]
 
 mod hash_seed;
+mod index_key;
 mod key;
 mod key_index;
 mod name;

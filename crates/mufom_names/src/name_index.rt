@@ -1,6 +1,7 @@
 //! An index from names to positions.
 
 use crate::hash_seed::HashSeed;
+use crate::index_key::NameKey;
 use indexmap::IndexSet;
 use mufom_numbers::NoMemory;
 use std::alloc::Global;
@@ -10,7 +11,7 @@ use std::marker::Model;
 /// see the list of the pairs of names and positions, in the order in which they were added; no name
 /// occurs twice.
 pub struct NameIndex<'a> {
-    names: IndexSet<&'a [u8], HashSeed>,
+    names: IndexSet<NameKey<'a>, HashSeed>,
     positions: Vec<u32>,
 }
 
@@ -22,10 +23,10 @@ impl<'a> Model for NameIndex<'a> {
 
     ghost Value = { List Entry };
 
-    ghost view = { λ index. zip (map (λ name. name.now) index.names.keys) index.positions.items };
+    ghost view = { λ index. zip (map (λ name. name.bytes.now) index.names.keys) index.positions.items };
 
     ghost invariant = { λ index. (length index.names.keys ≡ length index.positions.items)
-        × IsDistinct (λ name other. bytes_eq name.now other.now) index.names.keys };
+        × IsDistinct (λ name other. bytes_eq name.bytes.now other.bytes.now) index.names.keys };
 }
 
 // Written out so that each drop is one call: see "Drops" in docs/ARCHITECTURE.md.
@@ -74,7 +75,7 @@ impl<'a> NameIndex<'a> {
         ensures err { OnErr result (self.new ≡ self.old) }
     {
         self.positions.push(position)?;
-        match self.names.insert_full(name) {
+        match self.names.insert_full(NameKey { bytes: name }) {
             Ok((_, true)) => Ok(None),
             Ok((slot, false)) => {
                 self.positions.pop();
@@ -92,7 +93,7 @@ impl<'a> NameIndex<'a> {
         ensures value { result ≡ position_of self.now name.now }
         ensures distinct { HaveDistinctKeys self.now }
     {
-        let slot = self.names.get_index_of(name)?;
+        let slot = self.names.get_index_of(&NameKey { bytes: name })?;
         Some(self.positions[slot])
     }
 }

@@ -1,5 +1,6 @@
 use Rattle.std.proofs.Common.{◌≡◌, ◌∙◌, ◌++◌, ◌∷◌, [], length, ap, sym, if◌then◌else◌, option_to_list, rules}
 use Rattle.mufom_names.specs.Index.{position_of, with_entry}
+use Rattle.mufom_names.specs.declared.index_key.OwnedKey.{OwnedKey}
 use Rattle.mufom_names.proofs.IndexLemmas.{own, seen, absent, is_kept, found-at, added-new, added-old, was-new, was-there, last-off}
 use Rattle.mufom_names.proofs.key_index.KeyIndex.add.Goals as goal
 use Rattle.mufom_names.proofs.key_index.KeyIndex.add.Goals.{in-Ok-default-true, in-Ok-default-false, in-Err}
@@ -9,6 +10,7 @@ returns-clause-answer c =
     let keys = c.self.inside.keys.keys in
     let positions = c.self.inside.positions.items in
     let key = c.args.key.items in
+    let owned : OwnedKey = record { bytes = c.args.key } in
     elim c.match-insert_full.branch [
       | in-Ok-default-true w ↦
           let new = was-new (is_kept own key keys) w.in-Ok-default-true.field-0-1 w.in-Ok-default-true.ensures.added w.in-Ok-default-true.field-0-1-test in
@@ -16,7 +18,7 @@ returns-clause-answer c =
           ∙ ap (λ entries. position_of entries key) c.self.view_is)
       | in-Ok-default-false w ↦
           let old = was-there (is_kept own key keys) w.in-Ok-default-false.field-0-1 w.in-Ok-default-false.ensures.added w.in-Ok-default-false.field-0-1-test in
-          let same : c.insert_full.new.self.keys ≡ keys = w.in-Ok-default-false.ensures.keys ∙ ap (λ b. if b then keys else keys ++ c.args.key ∷ []) old in
+          let same : c.insert_full.new.self.keys ≡ keys = w.in-Ok-default-false.ensures.keys ∙ ap (λ b. if b then keys else keys ++ owned ∷ []) old in
           let short : length w.pop.new.self.items ≡ length positions = search rules in
           let popped = last-off positions w.pop.new.self.items (option_to_list w.pop.result) c.args.position (sym c.in_ok-push.ensures.items
           ∙ w.pop.ensures.items) short in
@@ -32,19 +34,20 @@ returns-clause-after c =
     let keys = c.self.inside.keys.keys in
     let positions = c.self.inside.positions.items in
     let key = c.args.key.items in
+    let owned : OwnedKey = record { bytes = c.args.key } in
     elim c.match-insert_full.branch [
       | in-Ok-default-true w ↦
           let new = was-new (is_kept own key keys) w.in-Ok-default-true.field-0-1 w.in-Ok-default-true.ensures.added w.in-Ok-default-true.field-0-1-test in
-          let more : c.insert_full.new.self.keys ≡ keys ++ c.args.key ∷ [] = w.in-Ok-default-true.ensures.keys
-          ∙ ap (λ b. if b then keys else keys ++ c.args.key ∷ []) new in
+          let more : c.insert_full.new.self.keys ≡ keys ++ owned ∷ [] = w.in-Ok-default-true.ensures.keys
+          ∙ ap (λ b. if b then keys else keys ++ owned ∷ []) new in
           rw w.result-is (w.self-is
           ∙ ap (λ ks. seen own ks c.push.new.self.items) more
-          ∙ ap (seen own (keys ++ c.args.key ∷ [])) c.in_ok-push.ensures.items
-          ∙ added-new own keys positions c.args.key c.args.position c.self.invariant.0 new
+          ∙ ap (seen own (keys ++ owned ∷ [])) c.in_ok-push.ensures.items
+          ∙ added-new own keys positions owned c.args.position c.self.invariant.0 new
           ∙ ap (λ entries. with_entry entries key c.args.position) c.self.view_is)
       | in-Ok-default-false w ↦
           let old = was-there (is_kept own key keys) w.in-Ok-default-false.field-0-1 w.in-Ok-default-false.ensures.added w.in-Ok-default-false.field-0-1-test in
-          let same : c.insert_full.new.self.keys ≡ keys = w.in-Ok-default-false.ensures.keys ∙ ap (λ b. if b then keys else keys ++ c.args.key ∷ []) old in
+          let same : c.insert_full.new.self.keys ≡ keys = w.in-Ok-default-false.ensures.keys ∙ ap (λ b. if b then keys else keys ++ owned ∷ []) old in
           let short : length w.pop.new.self.items ≡ length positions = search rules in
           let popped = last-off positions w.pop.new.self.items (option_to_list w.pop.result) c.args.position (sym c.in_ok-push.ensures.items
           ∙ w.pop.ensures.items) short in
