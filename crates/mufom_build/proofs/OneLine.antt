@@ -23,11 +23,11 @@ use Rattle.mufom_build.proofs.OnePiece.{Both}
 use Rattle.mufom_build.proofs.OneWord.{words_both, words_differ, number_is_no_word, nothing_is_no_word, turned}
 use Rattle.mufom_build.proofs.OneWord.{past_gap, past_figure, past_position, past_count, past_name}
 use Rattle.mufom_build.proofs.OneTree.{changed, infix_no_space}
-use Rattle.mufom_build.proofs.OneRow.{Keyword, on_module, on_extension, on_environment, on_section, on_public, on_note, on_reference, on_block}
-use Rattle.mufom_build.proofs.OneRow.{on_end}
-use Rattle.mufom_build.proofs.OneRow.{on_name, on_value, on_select, on_counter, on_bytes, on_field, on_repeat, on_start}
-use Rattle.mufom_build.proofs.OneRow.{Payload, named_note, rest_pieces, IsTail, tail_no_figure, tail_is_no_more}
+use Rattle.mufom_build.proofs.OneRow.{IsTail, tail_no_figure, tail_is_no_more}
 use Rattle.mufom_build.proofs.OneRow.{nothing_is_no_digits, tail_digits, valued, assigned, numbered, noted}
+use Rattle.mufom_build.specs.Rows.{Keyword, on_module, on_extension, on_environment, on_section, on_public, on_note, on_reference}
+use Rattle.mufom_build.specs.Rows.{on_block, on_end, on_name, on_value, on_select, on_counter, on_bytes, on_field, on_repeat}
+use Rattle.mufom_build.specs.Rows.{on_start, Payload, named_note, rest_pieces}
 
 -- ---- words of which one has to be chosen
 

@@ -21,84 +21,11 @@ use Rattle.mufom_build_text.specs.Places.{SpellsLines}
 use Rattle.mufom_build.specs.Lines.{Line, module_pieces, raw_lines, base_pieces, section_pieces, section_lines, note_line, public_lines}
 use Rattle.mufom_build.specs.Lines.{reference_lines}
 use Rattle.mufom_build.specs.Lines.{mark_pieces, mark_lines, item_pieces, load_lines, start_lines, each_lines, listing_lines}
-use Rattle.mufom_build.proofs.OneRow.{on_module, on_extension, on_environment, on_section, on_public, on_note, on_reference, on_block}
-use Rattle.mufom_build.proofs.OneRow.{on_end}
-use Rattle.mufom_build.proofs.OneRow.{on_name, on_value, on_select, on_counter, on_bytes, on_field, on_repeat, on_start}
-use Rattle.mufom_build.proofs.OneText.{Row, line_of, SpellsRow, SpellsRows}
-
--- ---- the lines of a module, by what they state
-
-abbrev pub extension_rows : List ℕ → List Row
-extension_rows [] = []
-extension_rows (b ∷ bytes) = (on_extension, (b, bytes)) ∷ []
-
-abbrev pub environment_rows : List ℕ → List Row
-environment_rows [] = []
-environment_rows (b ∷ bytes) = (on_environment, (b, bytes)) ∷ []
-
-abbrev pub section_row : Section → Row
-section_row s = (on_section, s)
-
-abbrev pub note_row : Note → Row
-note_row note = (on_note, (None, note))
-
-abbrev pub public_row : Public → Row
-public_row p = (on_public, (p.name, p.value))
-
-abbrev pub reference_row : Reference → Row
-reference_row r = (on_reference, (r.name, r.weak))
-
--- a name and its notes
-abbrev pub named_rows : {X : Type 0} → (X → Row) → (X → List Note) → X → List Row
-named_rows row notes x = row x ∷ map note_row (notes x)
-
-abbrev pub public_rows : Public → List Row
-public_rows = named_rows public_row (λ p. p.notes)
-
-abbrev pub reference_rows : Reference → List Row
-reference_rows = named_rows reference_row (λ r. r.notes)
-
-abbrev pub mark_row : DebugMark → Row
-mark_row (block_begin head title) = (on_block, (head, title))
-mark_row (block_end end) = (on_end, end)
-mark_row (name_mark title) = (on_name, title)
-mark_row (note_mark n note) = (on_note, (Some n, note))
-mark_row (value_mark n value) = (on_value, (n, value))
-
-abbrev pub item_row : Item → Row
-item_row (Literal bytes) = (on_bytes, bytes)
-item_row (Field kind size value) = (on_field, (kind, size, value))
-
-abbrev pub load_rows : Load → List Row
-load_rows (SetSection n) = (on_select, n) ∷ []
-load_rows (SetPc n value) = (on_counter, (n, value)) ∷ []
-load_rows (One item) = item_row item ∷ []
-load_rows (Repeat times items) = (on_repeat, times) ∷ (map item_row items ++ (on_end, None) ∷ [])
-
-abbrev pub start_rows : Option Tree → List Row
-start_rows None = []
-start_rows (Some value) = (on_start, value) ∷ []
-
-abbrev pub from_loads : Parts → List Row
-from_loads m = flat_map load_rows m.loads ++ start_rows m.start
-
-abbrev pub from_marks : Parts → List Row
-from_marks m = map mark_row (marks_of m.debug) ++ from_loads m
-
-abbrev pub from_references : Parts → List Row
-from_references m = flat_map reference_rows m.names.references ++ from_marks m
-
-abbrev pub from_publics : Parts → List Row
-from_publics m = flat_map public_rows m.names.publics ++ from_references m
-
-abbrev pub from_sections : Parts → List Row
-from_sections m = map section_row m.sections ++ from_publics m
-
-abbrev pub from_environment : Parts → List Row
-from_environment m = environment_rows m.env ++ from_sections m
-
-abbrev pub rows_of : Parts → List Row
-rows_of m = (on_module, (m.name, m.processor, m.maus, m.order)) ∷ (extension_rows m.ext ++ from_environment m)
+use Rattle.mufom_build.proofs.OneText.{SpellsRow, SpellsRows}
+use Rattle.mufom_build.specs.Rows.{on_end, Row}
+use Rattle.mufom_build.specs.Rows.{line_of, extension_rows, environment_rows, section_row, note_row, public_rows, reference_rows}
+use Rattle.mufom_build.specs.Rows.{mark_row, item_row, load_rows, start_rows, from_loads, from_marks, from_references, from_publics}
+use Rattle.mufom_build.specs.Rows.{from_sections, from_environment, rows_of}
 
 -- ---- each row has its line
 
@@ -144,7 +71,7 @@ lined_environment (b ∷ bytes) = ((0, inl refl), tt)
 section_end : (a b c d e f g : List Piece) → ((((((a ++ b) ++ c) ++ d) ++ e) ++ f) ++ g) ≡ a ++ (b ++ (c ++ (d ++ (e ++ (f ++ g)))))
 section_end a b c d e f g = simp append_assoc
 
-section_line_is : (n : ℕ) (s : Section) → section_pieces n s ≡ line_of n (section_row s)
+pub section_line_is : (n : ℕ) (s : Section) → section_pieces n s ≡ line_of n (section_row s)
 section_line_is n s = ap (λ l. words (codes "section") ++ (gap ∷ position n ∷ gap ∷ name s.name ∷ gap ∷ l))
     (section_end (words (type_letters s.absolute)) (words (purpose_letter s.purpose)) (words (codes " size ")) (figure MOST_NUMBER s.size ∷ [])
     (words (codes " align ")) (figure MOST_NUMBER s.align ∷ []) (base_pieces s.base))
@@ -195,7 +122,7 @@ lined_start : (start : Option Tree) → Lined (start_rows start) (start_lines st
 lined_start None = tt
 lined_start (Some value) = ((0, inl refl), tt)
 
-lines_nested : (a b c d e f g h i : List Line) → (((((((a ++ b) ++ c) ++ d) ++ e) ++ f) ++ g) ++ h) ++ i
+pub lines_nested : (a b c d e f g h i : List Line) → (((((((a ++ b) ++ c) ++ d) ++ e) ++ f) ++ g) ++ h) ++ i
     ≡ a ++ (b ++ (c ++ (d ++ (e ++ (f ++ (g ++ (h ++ i)))))))
 lines_nested a b c d e f g h i = simp append_assoc
 

@@ -20,14 +20,14 @@ use Rattle.mufom_build_text.specs.Pieces.{loose}
 use Rattle.mufom_build_text.specs.Places.{SpellsLines}
 use Rattle.mufom_build.specs.Lines.{listing_lines}
 use Rattle.mufom_build_text.proofs.FirstBytes.{no}
-use Rattle.mufom_build.proofs.OneRow.{on_module, on_extension, on_environment, on_section, on_public, on_note, on_reference, on_block}
-use Rattle.mufom_build.proofs.OneRow.{on_end}
-use Rattle.mufom_build.proofs.OneRow.{on_name, on_value, on_select, on_counter, on_bytes, on_field, on_repeat, on_start}
 use Rattle.mufom_build.proofs.OneLine.{unlike}
-use Rattle.mufom_build.proofs.OneText.{Row, one_rows}
-use Rattle.mufom_build.proofs.OneListing.{extension_rows, environment_rows, section_row, note_row, public_row, reference_row, named_rows, public_rows}
-use Rattle.mufom_build.proofs.OneListing.{reference_rows, mark_row, item_row, load_rows, start_rows, from_loads, from_marks, from_references}
-use Rattle.mufom_build.proofs.OneListing.{from_publics, from_sections, from_environment, rows_of, listing_lined, rows_spelled}
+use Rattle.mufom_build.proofs.OneText.{one_rows}
+use Rattle.mufom_build.proofs.OneListing.{listing_lined, rows_spelled}
+use Rattle.mufom_build.specs.Rows.{on_module, on_extension, on_environment, on_section, on_public, on_note, on_reference, on_block}
+use Rattle.mufom_build.specs.Rows.{on_end, on_name, on_value, on_select, on_counter, on_bytes, on_field, on_repeat, on_start, Row}
+use Rattle.mufom_build.specs.Rows.{extension_rows, environment_rows, section_row, note_row, public_row, reference_row, named_rows}
+use Rattle.mufom_build.specs.Rows.{public_rows, reference_rows, mark_row, item_row, load_rows, start_rows, from_loads, from_marks}
+use Rattle.mufom_build.specs.Rows.{from_references, from_publics, from_sections, from_environment, rows_of}
 
 -- ---- in which order rows come
 

@@ -112,7 +112,7 @@ digits_both bs cs xs ys g h both =
 append_more : (s t u : Text) → (s ++ t) ++ 0x22 ∷ u ≡ s ++ (t ++ 0x22 ∷ u)
 append_more s t u = append_assoc s t (0x22 ∷ u)
 
-one_name : (xs ys : List ℕ) (s t u v : Text) → SpellsNameBytes xs s → SpellsNameBytes ys t → s ++ 0x22 ∷ u ≡ t ++ 0x22 ∷ v → (xs ≡ ys) × (u ≡ v)
+pub one_name : (xs ys : List ℕ) (s t u v : Text) → SpellsNameBytes xs s → SpellsNameBytes ys t → s ++ 0x22 ∷ u ≡ t ++ 0x22 ∷ v → (xs ≡ ys) × (u ≡ v)
 one_name [] [] s t u v p q same =
     let k : 0x22 ∷ u ≡ 0x22 ∷ v = ap (λ l. l ++ 0x22 ∷ u) (sym p) ∙ same ∙ ap (λ l. l ++ 0x22 ∷ v) q in (refl, cc)
 one_name [] (y ∷ ys) s t u v p (first, rest, f, here, more) same =

@@ -1,68 +1,24 @@
 -- A line of a listing by its first word and what else it states, and that no two lines that state something else have the same bytes.
-use Rattle.std.proofs.Common.{◌≡◌, ℕ, zero, suc, ◌==◌, ◌&&◌, ◌||◌, Bool, true, false, List, [], ◌∷◌, ◌++◌, get_or, length, codes, Option, Some}
-use Rattle.std.proofs.Common.{None}
+use Rattle.std.proofs.Common.{◌≡◌, ℕ, zero, suc, ◌==◌, ◌&&◌, ◌||◌, Bool, true, false, List, [], ◌∷◌, ◌++◌, get_or, length, codes}
 use Rattle.std.proofs.Common.{refl, sym, ap, subst, ◌∙◌, inl, inr, ◌⊎◌, eqb-true, ◌<◌, arith}
-use Rattle.mufom_expr.specs.declared.token.FieldKind.{FieldKind}
 use Rattle.mufom_expr.specs.Tree.{Tree, tokens_of}
-use Rattle.mufom_sections.specs.declared.section.Section.{Section}
 use Rattle.mufom_names.specs.declared.name.Note.{Note}
-use Rattle.mufom_names.specs.declared.name.Weak.{Weak}
-use Rattle.mufom_debug.specs.declared.item.BlockHead.{BlockHead}
-use Rattle.mufom_debug.specs.Marks.{kind_number}
-use Rattle.mufom_module.specs.declared.module.Order.{Order}
 use Rattle.mufom_text.specs.Words.{Text}
-use Rattle.mufom_text.specs.Show.{order_letter, type_letters, purpose_letter, kind_text}
-use Rattle.mufom_build_text.specs.Pieces.{Piece, gap, figure, position, count, name, digits, expression, words, infix_pieces}
+use Rattle.mufom_build_text.specs.Pieces.{Piece, gap, figure, digits, expression, words, infix_pieces}
 use Rattle.mufom_build_text.specs.Pieces.{value_pieces}
-use Rattle.mufom_build_text.specs.Pieces.{MOST_BYTE, MOST_POSITION, MOST_NUMBER}
-use Rattle.mufom_build.specs.Lines.{base_pieces, spaced_pieces, note_pieces, weak_pieces, head_pieces}
-use Rattle.mufom_build.specs.Marked.{end_value_pieces, spaced_digits}
+use Rattle.mufom_build_text.specs.Pieces.{MOST_NUMBER}
+use Rattle.mufom_build.specs.Lines.{spaced_pieces, note_pieces}
 use Rattle.mufom_build_text.specs.Loosely.{no_space, no_figure, no_hex}
 use Rattle.mufom_build_text.proofs.FirstBytes.{both_true}
 use Rattle.mufom_build.proofs.OnePiece.{Both, expression_both, digits_both}
 use Rattle.mufom_build.proofs.OneWord.{tight, clash, words_both, words_differ, nothing_is_no_word, turned}
 use Rattle.mufom_build.proofs.OneWord.{past_gap, past_figure}
 use Rattle.mufom_build.proofs.OneTree.{tree_both, infix_no_space}
+use Rattle.mufom_build.specs.Rows.{Keyword, on_module, on_extension, on_environment, on_section, on_public, on_note, on_reference}
+use Rattle.mufom_build.specs.Rows.{on_block, on_end, on_name, on_value, on_select, on_counter, on_bytes, on_field, on_repeat}
+use Rattle.mufom_build.specs.Rows.{on_start, word_of}
 
 -- ---- the first word of a line
-
-pub data Keyword : Type 0 where
-  on_module : Keyword
-  on_extension : Keyword
-  on_environment : Keyword
-  on_section : Keyword
-  on_public : Keyword
-  on_note : Keyword
-  on_reference : Keyword
-  on_block : Keyword
-  on_end : Keyword
-  on_name : Keyword
-  on_value : Keyword
-  on_select : Keyword
-  on_counter : Keyword
-  on_bytes : Keyword
-  on_field : Keyword
-  on_repeat : Keyword
-  on_start : Keyword
-
-abbrev pub word_of : Keyword → Text
-word_of on_module = codes "module"
-word_of on_extension = codes "extension"
-word_of on_environment = codes "environment"
-word_of on_section = codes "section"
-word_of on_public = codes "public"
-word_of on_note = codes "note"
-word_of on_reference = codes "reference"
-word_of on_block = codes "block"
-word_of on_end = codes "end"
-word_of on_name = codes "name"
-word_of on_value = codes "value"
-word_of on_select = codes "select"
-word_of on_counter = codes "counter"
-word_of on_bytes = codes "bytes"
-word_of on_field = codes "field"
-word_of on_repeat = codes "repeat"
-word_of on_start = codes "start"
 
 abbrev number_of : Keyword → ℕ
 number_of on_module = 0
@@ -136,56 +92,6 @@ one_keyword k j xs ys both = by_test (number_of k == number_of j) refl (all_told
     by_test : (b : Bool) → (number_of k == number_of j) ≡ b → (b || clash (word_of k) (word_of j)) ≡ true → k ≡ j
     by_test true e h = sym (found k) ∙ ap (λ n. get_or keywords n on_module) (eqb-true (number_of k) (number_of j) e) ∙ found j
     by_test false e h = absurd (words_differ (word_of k) (word_of j) xs ys h both)
-
--- ---- what else a line states
-
--- a note is of a name before it, or of the debug name of this position
-abbrev pub Payload : Keyword → Type 0
-Payload on_module = List ℕ × List ℕ × ℕ × Order
-Payload on_extension = ℕ × List ℕ
-Payload on_environment = ℕ × List ℕ
-Payload on_section = Section
-Payload on_public = List ℕ × Tree
-Payload on_note = Option ℕ × Note
-Payload on_reference = List ℕ × Option Weak
-Payload on_block = BlockHead × List ℕ
-Payload on_end = Option Tree
-Payload on_name = List ℕ
-Payload on_value = ℕ × Tree
-Payload on_select = ℕ
-Payload on_counter = ℕ × Tree
-Payload on_bytes = List ℕ
-Payload on_field = FieldKind × ℕ × Tree
-Payload on_repeat = ℕ
-Payload on_start = Tree
-
-abbrev pub named_note : Option ℕ × Note → List Piece
-named_note (None, note) = note_pieces note
-named_note (Some place, note) = gap ∷ figure MOST_POSITION place ∷ note_pieces note
-
--- the pieces after the first word, where `n` is the position or the count that the line states
-abbrev pub rest_pieces : ℕ → (k : Keyword) → Payload k → List Piece
-rest_pieces n on_module (title, processor, maus, order) = words (codes " ") ++ (name title ∷ (words (codes " processor ") ++ (name processor
-    ∷ (words (codes " maus ") ++ (figure MOST_BYTE maus ∷ (words (codes " order ") ++ words (order_letter order)))))))
-rest_pieces n on_extension (b, bytes) = gap ∷ digits (b ∷ bytes) ∷ []
-rest_pieces n on_environment (b, bytes) = gap ∷ digits (b ∷ bytes) ∷ []
-rest_pieces n on_section s = gap ∷ position n ∷ gap ∷ name s.name ∷ gap ∷ (words (type_letters s.absolute)
-    ++ (words (purpose_letter s.purpose) ++ (words (codes " size ") ++ (figure MOST_NUMBER s.size ∷ (words (codes " align ")
-    ++ (figure MOST_NUMBER s.align ∷ base_pieces s.base))))))
-rest_pieces n on_public (title, value) = gap ∷ position n ∷ gap ∷ name title ∷ (words (codes " = ") ++ value_pieces value)
-rest_pieces n on_note note = named_note note
-rest_pieces n on_reference (title, weak) = gap ∷ position n ∷ gap ∷ name title ∷ weak_pieces weak
-rest_pieces n on_block (head, title) = gap ∷ figure MOST_NUMBER (kind_number head) ∷ gap ∷ name title ∷ head_pieces head
-rest_pieces n on_end value = end_value_pieces value
-rest_pieces n on_name title = gap ∷ position n ∷ gap ∷ name title ∷ []
-rest_pieces n on_value (place, value) = gap ∷ figure MOST_POSITION place ∷ (words (codes " = ") ++ value_pieces value)
-rest_pieces n on_select place = gap ∷ figure MOST_POSITION place ∷ []
-rest_pieces n on_counter (place, value) = gap ∷ figure MOST_POSITION place ∷ (words (codes " = ") ++ value_pieces value)
-rest_pieces n on_bytes bytes = gap ∷ count n ∷ spaced_digits bytes
-rest_pieces n on_field (kind, size, value) = gap ∷ (words (kind_text kind) ++
-    (gap ∷ figure MOST_BYTE size ∷ (words (codes " = ") ++ value_pieces value)))
-rest_pieces n on_repeat times = gap ∷ figure MOST_NUMBER times ∷ []
-rest_pieces n on_start value = words (codes " = ") ++ value_pieces value
 
 -- ---- what may follow a line up to its end: nothing, or spaces
 

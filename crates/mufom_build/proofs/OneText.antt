@@ -18,32 +18,25 @@ use Rattle.mufom_build_text.specs.Pieces.{Piece, byte, gap, figure, position, co
 use Rattle.mufom_build_text.specs.Pieces.{AreSpaces, SpellsDigits, SpellsNameByte, SpellsNameBytes, infix_pieces}
 use Rattle.mufom_build_text.specs.Places.{AreBlank}
 use Rattle.mufom_build_text.proofs.Spelling.{spells-append}
-use Rattle.mufom_build.specs.Lines.{Line, base_pieces, spaced_pieces, head_pieces}
+use Rattle.mufom_build.specs.Lines.{base_pieces, spaced_pieces, head_pieces}
 use Rattle.mufom_build_text.specs.Loosely.{Avoids, IsFigure}
 use Rattle.mufom_build_text.proofs.FirstBytes.{no, both_true, one_run, all_figures}
 use Rattle.mufom_build.proofs.OnePiece.{Both}
 use Rattle.mufom_build.proofs.OneWord.{word_first, words_both}
 use Rattle.mufom_build.proofs.OneTree.{changed, Head, of_letter, of_one, of_two, text_of, middle_of, each_head}
-use Rattle.mufom_build.proofs.OneRow.{Keyword, on_module, on_extension, on_environment, on_section, on_public, on_note, on_reference, on_block}
-use Rattle.mufom_build.proofs.OneRow.{on_end}
-use Rattle.mufom_build.proofs.OneRow.{on_name, on_value, on_select, on_counter, on_bytes, on_field, on_repeat, on_start, word_of, word_tight}
-use Rattle.mufom_build.proofs.OneRow.{each_keyword, one_keyword, Payload, rest_pieces, IsTail}
+use Rattle.mufom_build.proofs.OneRow.{word_tight}
+use Rattle.mufom_build.proofs.OneRow.{each_keyword, one_keyword, IsTail}
 use Rattle.mufom_build.proofs.OneLine.{one_row}
-
--- a line by its first word and what else it states
-abbrev pub Row : Type 0
-Row = (k : Keyword) × Payload k
-
--- its pieces, where `n` is the position or the count that it states
-abbrev pub line_of : ℕ → Row → Line
-line_of n (k, p) = words (word_of k) ++ rest_pieces n k p
+use Rattle.mufom_build.specs.Rows.{Keyword, on_module, on_extension, on_environment, on_section, on_public, on_note, on_reference}
+use Rattle.mufom_build.specs.Rows.{on_block, on_end, on_name, on_value, on_select, on_counter, on_bytes, on_field, on_repeat}
+use Rattle.mufom_build.specs.Rows.{on_start, word_of, Payload, rest_pieces, Row, line_of}
 
 -- ---- no line has an end of a line within
 
-abbrev NotFeed : ℕ → Type 0
+abbrev pub NotFeed : ℕ → Type 0
 NotFeed b = b ≡ 10 → ⊥
 
-abbrev feedless : List Piece → Bool
+abbrev pub feedless : List Piece → Bool
 feedless [] = true
 feedless (byte v ∷ more) = not (v == 10) && feedless more
 feedless (piece ∷ more) = feedless more
@@ -96,7 +89,7 @@ nothing_no_feed s e = subst (λ (t : Text). AllByRecursion NotFeed t) (sym e) tt
 not_ten : (v : ℕ) → not (v == 10) ≡ true → NotFeed v
 not_ten v h e = no (ap (λ n. not (n == 10)) (sym e) ∙ h)
 
-spelled_no_feed : (pieces : List Piece) → feedless pieces ≡ true → (s : Text) → Spells loose pieces s → AllByRecursion NotFeed s
+pub spelled_no_feed : (pieces : List Piece) → feedless pieces ≡ true → (s : Text) → Spells loose pieces s → AllByRecursion NotFeed s
 spelled_no_feed [] h s e = nothing_no_feed s e
 spelled_no_feed (byte v ∷ ps) h s (first, rest, e, f, more) =
     let (here, others) = both_true (not (v == 10)) (feedless ps) h in
@@ -209,22 +202,22 @@ rest_feedless n on_start v = infix_feedless v
 word_feedless : (k : Keyword) → feedless (words (word_of k)) ≡ true
 word_feedless = each_keyword (λ k. feedless (words (word_of k))) refl
 
-line_feedless : (n : ℕ) (r : Row) → feedless (line_of n r) ≡ true
+pub line_feedless : (n : ℕ) (r : Row) → feedless (line_of n r) ≡ true
 line_feedless n (k, p) = feedless-append (words (word_of k)) (rest_pieces n k p) (word_feedless k) (rest_feedless n k p)
 
 -- ---- the first byte of a line
 
-abbrev IsBlank : ℕ → Type 0
+abbrev pub IsBlank : ℕ → Type 0
 IsBlank b = (b ≡ 32) ⊎ (b ≡ 10)
 
-abbrev begins_dark : Text → Bool
+abbrev pub begins_dark : Text → Bool
 begins_dark [] = false
 begins_dark (c ∷ w) = not (c == 32) && not (c == 10)
 
-word_dark : (k : Keyword) → begins_dark (word_of k) ≡ true
+pub word_dark : (k : Keyword) → begins_dark (word_of k) ≡ true
 word_dark = each_keyword (λ k. begins_dark (word_of k)) refl
 
-dark_is_not_blank : (c : ℕ) → (not (c == 32) && not (c == 10)) ≡ true → IsBlank c → ⊥
+pub dark_is_not_blank : (c : ℕ) → (not (c == 32) && not (c == 10)) ≡ true → IsBlank c → ⊥
 dark_is_not_blank c h (inl e) = no (ap (λ n. not (n == 32) && not (n == 10)) (sym e) ∙ h)
 dark_is_not_blank c h (inr e) = no (ap (λ n. not (n == 32) && not (n == 10)) (sym e) ∙ h)
 
@@ -268,7 +261,7 @@ is_tail [] = inl refl
 is_tail (b ∷ after) = inr refl
 
 -- two lines of the same bytes
-one_spelled : (r q : Row) (body inner after trailing : Text) → SpellsRow r body → SpellsRow q inner → AreSpaces after → AreSpaces trailing
+pub one_spelled : (r q : Row) (body inner after trailing : Text) → SpellsRow r body → SpellsRow q inner → AreSpaces after → AreSpaces trailing
     → body ++ after ≡ inner ++ trailing → r ≡ q
 one_spelled (k, p) (j, q) body inner after trailing (m, spelled) (n, too) spaces others same =
     let xs = tail_of after in

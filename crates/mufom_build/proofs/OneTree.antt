@@ -175,28 +175,28 @@ middle_test (of_letter letter) = true
 middle_test (of_one f) = true
 middle_test (of_two f) = begins_unlike_number (middle_text (function_of_two f))
 
-middle_no_figure : (f : TwoOperands) (more : List Piece) → no_figure (words (middle_text (function_of_two f)) ++ more) ≡ true
+pub middle_no_figure : (f : TwoOperands) (more : List Piece) → no_figure (words (middle_text (function_of_two f)) ++ more) ≡ true
 middle_no_figure f more = words_no_figure (middle_text (function_of_two f)) more (each_head middle_test refl (of_two f))
 
 -- it begins and ends with words without two spaces in a row
-head_tight : (h : Head) → tight (text_of h) ≡ true
+pub head_tight : (h : Head) → tight (text_of h) ≡ true
 head_tight = each_head (λ h. tight (text_of h)) refl
 
-head_solid : (h : Head) → begins_solid (text_of h) ≡ true
+pub head_solid : (h : Head) → begins_solid (text_of h) ≡ true
 head_solid = each_head (λ h. begins_solid (text_of h)) refl
 
-middle_spaced : (h : Head) → spaced (middle_of h) ≡ true
+pub middle_spaced : (h : Head) → spaced (middle_of h) ≡ true
 middle_spaced = each_head (λ h. spaced (middle_of h)) refl
 
 -- ---- expressions
 
 -- the pieces of an expression of one operand, and of two, and what follows
-one_pieces : (f : OneOperand) (a : Tree) (xs : List Piece) → infix_pieces (one f a) ++ xs
+pub one_pieces : (f : OneOperand) (a : Tree) (xs : List Piece) → infix_pieces (one f a) ++ xs
     ≡ words (opening_text (function_of_one f)) ++ (infix_pieces a ++ (words (codes ")") ++ xs))
 one_pieces f a xs = append_assoc (words (opening_text (function_of_one f)) ++ infix_pieces a) (words (codes ")")) xs
     ∙ append_assoc (words (opening_text (function_of_one f))) (infix_pieces a) (words (codes ")") ++ xs)
 
-two_pieces : (f : TwoOperands) (a b : Tree) (xs : List Piece) → infix_pieces (two f a b) ++ xs
+pub two_pieces : (f : TwoOperands) (a b : Tree) (xs : List Piece) → infix_pieces (two f a b) ++ xs
     ≡ words (opening_text (function_of_two f)) ++ (infix_pieces a ++ (words (middle_text (function_of_two f))
     ++ (infix_pieces b ++ (words (codes ")") ++ xs))))
 two_pieces f a b xs =
@@ -208,7 +208,7 @@ two_pieces f a b xs =
     ∙ append_assoc (o ++ infix_pieces a) m (infix_pieces b ++ (e ++ xs))
     ∙ append_assoc o (infix_pieces a) (m ++ (infix_pieces b ++ (e ++ xs)))
 
-variable_pieces : (letter : Letter) (place : ℕ) (xs : List Piece) → infix_pieces (variable letter place) ++ xs
+pub variable_pieces : (letter : Letter) (place : ℕ) (xs : List Piece) → infix_pieces (variable letter place) ++ xs
     ≡ words (letter_text letter) ++ (figure MOST_POSITION place ∷ xs)
 variable_pieces letter place xs = append_assoc (words (letter_text letter)) (figure MOST_POSITION place ∷ []) xs
 

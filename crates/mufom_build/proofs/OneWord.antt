@@ -32,7 +32,7 @@ word_both true c xs ys g h both = gap_both xs ys (g refl) (h refl) both
 word_both false c xs ys g h both = byte_both c xs ys both
 
 -- what a test says that is made under a condition
-under : (b c : Bool) → (if b then c else true) ≡ true → b ≡ true → c ≡ true
+pub under : (b c : Bool) → (if b then c else true) ≡ true → b ≡ true → c ≡ true
 under true c h e = h
 under false c h e = absurd (no e)
 
@@ -46,7 +46,7 @@ words_both (c ∷ w) xs ys h both =
     (λ e. solid_no_space w ys (under (c == 32) (begins_solid w) here e)) both)
 
 -- the words have no two spaces in a row, but may end with one
-abbrev begins_free : Text → Bool
+abbrev pub begins_free : Text → Bool
 begins_free [] = true
 begins_free (c ∷ w) = not (c == 32)
 

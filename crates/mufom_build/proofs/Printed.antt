@@ -1,5 +1,5 @@
 -- Pieces with the text that a listing prints of them, and the lines of these.
-use Rattle.std.proofs.Common.{◌≡◌, ℕ, zero, suc, ◌<◌, List, [], ◌∷◌, ◌++◌, codes, refl, sym, ap, subst, ◌∙◌, inl, inr, arith, append_assoc}
+use Rattle.std.proofs.Common.{◌≡◌, ℕ, zero, suc, ◌<◌, ◌≤◌, ◌==◌, Bool, true, false, if◌then◌else◌, List, [], ◌∷◌, ◌++◌, codes, refl, sym, ap, subst, ◌∙◌, inl, inr, arith, append_assoc}
 use Rattle.std.specs.Fmt.{decimal}
 use Rattle.std.specs.List.{All, AllByRecursion}
 use Rattle.std.proofs.lemmas.List.Elements.{All-head, All-tail}
@@ -10,47 +10,67 @@ use Rattle.mufom_expr.specs.declared.token.Token.{Token}
 use Rattle.mufom_expr.specs.InfixText.{infix_text, letter_text, opening_text, middle_text}
 use Rattle.mufom_module.specs.Made.{IsNumber, IsPosition, IsMadeTree}
 use Rattle.mufom_text.specs.Words.{Text, line, quoted, hex_bytes, spaced_numbers, indent}
-use Rattle.mufom_build_text.specs.Pieces.{Piece, block, figure, position, count, name, digits, exact, MOST_BYTE, MOST_POSITION, MOST_NUMBER, Spells}
+use Rattle.mufom_build_text.specs.Pieces.{Piece, byte, gap, block, figure, position, count, name, digits, exact, MOST_BYTE, MOST_POSITION, MOST_NUMBER, Spells}
 use Rattle.mufom_build_text.specs.Pieces.{AreSpaces, words, number_piece, place_piece, small_piece, name_piece, infix_pieces, value_pieces}
 use Rattle.mufom_build_text.specs.Places.{SpellsLines, AreBlank}
+use Rattle.mufom_build.specs.Begun.{Fits, AllFit}
 use Rattle.mufom_build.specs.Lines.{Line, spaced_pieces}
 use Rattle.mufom_build_text.proofs.Spelling.{spells-append, spells-one, number_spelled, words_spelled, digits_spelled, name_spelled}
 
--- the text spells the pieces
+all_fit : {X : Type 0} (P : X → Type 0) (xs ys : List X) → AllByRecursion P xs → AllByRecursion P ys → AllByRecursion P (xs ++ ys)
+all_fit P [] ys all others = others
+all_fit P (x ∷ xs) ys (here, all) others = (here, all_fit P xs ys all others)
+
+-- the text spells the pieces, and none of them states too much
 pub record Printed (pieces : List Piece) (text : Text) : Type 0 where
   pub spelled : Spells exact pieces text
+  pub fit : AllByRecursion Fits pieces
 
 -- pieces and further pieces, with the text of both
 infixl 10 ◌▸◌
 pub ◌▸◌ : {xs ys : List Piece} {s t : Text} → Printed xs s → Printed ys t → Printed (xs ++ ys) (s ++ t)
-◌▸◌ {xs} {ys} {s} {t} p q = record { spelled = spells-append exact xs ys s t p.spelled q.spelled }
+◌▸◌ {xs} {ys} {s} {t} p q = record {
+  spelled = spells-append exact xs ys s t p.spelled q.spelled;
+  fit = all_fit Fits xs ys p.fit q.fit;
+}
 
 pub none : Printed [] []
-none = record { spelled = refl }
+none = record { spelled = refl; fit = tt }
+
+words_fit : (text : Text) → AllByRecursion Fits (words text)
+words_fit [] = tt
+words_fit (b ∷ text) = (one (b == 32), words_fit text)
+  where
+    one : (is_space : Bool) → Fits (if is_space then gap else byte b)
+    one true = tt
+    one false = tt
 
 pub in_words : (text : Text) → Printed (words text) text
-in_words text = record { spelled = words_spelled exact text }
+in_words text = record { spelled = words_spelled exact text; fit = words_fit text }
 
 pub in_number : (n : ℕ) → IsNumber n → Printed (number_piece n) (decimal n)
-in_number n small = record { spelled = spells-one exact (figure MOST_NUMBER n) (decimal n) (number_spelled n small) }
+in_number n small = record { spelled = spells-one exact (figure MOST_NUMBER n) (decimal n) (number_spelled n small); fit = (omega (arith, small), tt) }
 
 pub in_place : (n : ℕ) → IsPosition n → Printed (place_piece n) (decimal n)
-in_place n small = record { spelled = spells-one exact (figure MOST_POSITION n) (decimal n) (number_spelled n (omega (arith, small))) }
+in_place n small = record { spelled = spells-one exact (figure MOST_POSITION n) (decimal n) (number_spelled n (omega (arith, small))); fit = (omega (arith, small), tt) }
 
 pub in_byte : (n : ℕ) → n < 256 → Printed (small_piece n) (decimal n)
-in_byte n small = record { spelled = spells-one exact (figure MOST_BYTE n) (decimal n) (number_spelled n (omega (arith, small))) }
+in_byte n small = record { spelled = spells-one exact (figure MOST_BYTE n) (decimal n) (number_spelled n (omega (arith, small))); fit = (omega (arith, small), tt) }
 
-pub in_position : (n : ℕ) → IsNumber n → Printed (position n ∷ []) (decimal n)
-in_position n small = record { spelled = spells-one exact (position n) (decimal n) (number_spelled n small) }
+pub in_position : (n : ℕ) → IsPosition n → Printed (position n ∷ []) (decimal n)
+in_position n small = record {
+  spelled = spells-one exact (position n) (decimal n) (number_spelled n (omega (arith, small)));
+  fit = (omega (arith, small), tt);
+}
 
 pub in_count : (n : ℕ) → IsNumber n → Printed (count n ∷ []) (decimal n)
-in_count n small = record { spelled = spells-one exact (count n) (decimal n) (number_spelled n small) }
+in_count n small = record { spelled = spells-one exact (count n) (decimal n) (number_spelled n small); fit = (omega (arith, small), tt) }
 
 pub in_name : (bytes : List ℕ) → AreBytes bytes → Printed (name_piece bytes) (quoted bytes)
-in_name bytes small = record { spelled = spells-one exact (name bytes) (quoted bytes) (name_spelled bytes small) }
+in_name bytes small = record { spelled = spells-one exact (name bytes) (quoted bytes) (name_spelled bytes small); fit = (tt, tt) }
 
 pub in_digits : (bytes : List ℕ) → AreBytes bytes → Printed (digits bytes ∷ []) (hex_bytes bytes)
-in_digits bytes small = record { spelled = spells-one exact (digits bytes) (hex_bytes bytes) (digits_spelled bytes small) }
+in_digits bytes small = record { spelled = spells-one exact (digits bytes) (hex_bytes bytes) (digits_spelled bytes small); fit = (tt, tt) }
 
 pub in_spaced : (ns : List ℕ) → All IsNumber ns → Printed (spaced_pieces ns) (spaced_numbers ns)
 in_spaced [] small = none
@@ -75,10 +95,10 @@ in_infix (two f a b) all =
     ▸ in_infix b parts.1 ▸ in_words (codes ")")
 
 pub in_value : (t : Tree) → IsMadeTree t → Printed (value_pieces t) (infix_text t)
-in_value t made = record { spelled = ([], infix_text t, refl, refl, (in_infix t made.1).spelled) }
+in_value t made = record { spelled = ([], infix_text t, refl, refl, (in_infix t made.1).spelled); fit = (made.0, (in_infix t made.1).fit) }
 
-pub in_block : (opened : ℕ) → Printed (block opened ∷ []) []
-in_block opened = record { spelled = ([], [], refl, refl, refl) }
+pub in_block : (opened : ℕ) → opened ≤ 32 → Printed (block opened ∷ []) []
+in_block opened few = record { spelled = ([], [], refl, refl, refl); fit = (few, tt) }
 
 -- ---- lines
 
@@ -88,9 +108,10 @@ Prints [] text = text ≡ []
 Prints (pieces ∷ lines) text = (before : Text) × (body : Text) × (rest : Text) × (text ≡ before ++ (body ++ 10 ∷ rest))
     × AreSpaces before × Spells exact pieces body × Prints lines rest
 
--- the text is that which a listing prints of the lines
+-- the text is that which a listing prints of the lines, and none of them states too much
 pub record PrintedLines (lines : List Line) (text : Text) : Type 0 where
   pub prints : Prints lines text
+  pub fit : AllFit lines
 
 prints-append : (xs ys : List Line) (s t : Text) → Prints xs s → Prints ys t → Prints (xs ++ ys) (s ++ t)
 unfolding Prints
@@ -106,11 +127,14 @@ prints-append (x ∷ xs) ys s t (before, body, rest, e, spaces, spelled, more) o
 )
 
 pub all : {xs ys : List Line} {s t : Text} → PrintedLines xs s → PrintedLines ys t → PrintedLines (xs ++ ys) (s ++ t)
-all {xs} {ys} {s} {t} p q = record { prints = prints-append xs ys s t p.prints q.prints }
+all {xs} {ys} {s} {t} p q = record {
+  prints = prints-append xs ys s t p.prints q.prints;
+  fit = all_fit (λ pieces. AllByRecursion Fits pieces) xs ys p.fit q.fit;
+}
 
 pub no_lines : PrintedLines [] []
 unfolding Prints
-no_lines = record { prints = refl }
+no_lines = record { prints = refl; fit = tt }
 
 indent-spaces : (depth : ℕ) → AreSpaces (indent depth)
 indent-spaces zero = tt
@@ -149,11 +173,12 @@ on_indented_line {depth} {pieces} {text} p = record {
     p.printed.spelled,
     refl,
   );
+  fit = (p.printed.fit, tt);
 }
 
 pub on_line : {pieces : Line} {text : Text} → Printed pieces text → PrintedLines (pieces ∷ []) (line text)
 unfolding Prints
-on_line {pieces} {text} p = record { prints = ([], text, [], refl, tt, p.spelled, refl) }
+on_line {pieces} {text} p = record { prints = ([], text, [], refl, tt, p.spelled, refl); fit = (p.fit, tt) }
 
 -- ---- the lines of a text
 

@@ -1,6 +1,6 @@
 -- What a listing prints of a module spells its lines.
 use Rattle.std.proofs.Common.{◌≡◌, ℕ, suc, ◌+◌, ◌<◌, ◌≤◌, ◌^◌, List, [], ◌∷◌, ◌++◌, length, flat_map, map, ◌-◌, Bool, true, false, cond, ◌||◌, nat_lt}
-use Rattle.std.proofs.Common.{Option, Some, None, codes, refl, arith}
+use Rattle.std.proofs.Common.{Option, Some, None, codes, refl, arith, max}
 use Rattle.std.specs.Fmt.{digits}
 use Rattle.std.specs.Prelude.{IfSome}
 use Rattle.std.specs.List.{All, list_any, find}
@@ -19,19 +19,20 @@ use Rattle.mufom_loads.specs.declared.load.Load.TheVariants.{SetSection, SetPc, 
 use Rattle.mufom_debug.specs.declared.item.BlockHead.{BlockHead}
 use Rattle.mufom_debug.specs.declared.item.BlockHead.TheVariants as heads
 use Rattle.mufom_debug.specs.Marks.{DebugMark, block_begin, block_end, name_mark, note_mark, value_mark, marks_of}
-use Rattle.mufom_debug.specs.Marks.{open_after, kind_number, names_after}
+use Rattle.mufom_debug.specs.Marks.{open_after, kind_number, names_after, depth_from}
 use Rattle.mufom_module.specs.declared.module.Parts.{Parts}
 use Rattle.mufom_module.specs.declared.module.Defect.TheVariants as d
 use Rattle.mufom_module.proofs.Valid.{weighs_less}
 use Rattle.mufom_module.proofs.EntryCounts.{sections-count, publics-count, references-count}
 use Rattle.mufom_module.specs.Defects.{IsValid, is_long_literal, has_defect}
 use Rattle.mufom_module.specs.Contents.{any_item}
-use Rattle.mufom_module.specs.Made.{IsNumber, IsMade, IsMadeTree, IsMadeSection, IsMadeNote, IsMadeWeak, IsMadePublic, IsMadeReference, IsMadeItem}
+use Rattle.mufom_module.specs.Made.{IsNumber, IsPosition, IsMade, IsMadeTree, IsMadeSection, IsMadeNote, IsMadeWeak, IsMadePublic, IsMadeReference, IsMadeItem}
 use Rattle.mufom_module.specs.Made.{IsMadeLoad, IsMadeHead, IsMadeMark}
 use Rattle.mufom_module.specs.Written.{each_from}
 use Rattle.mufom_text.specs.declared.form.TextForm.TheVariants.{Listing}
 use Rattle.mufom_text.specs.Words.{Text, line}
 use Rattle.mufom_text.specs.Show as show
+use Rattle.mufom_build.specs.Begun.{AllFit}
 use Rattle.mufom_build.specs.Lines as lines
 use Rattle.mufom_build.specs.Lines.{Line}
 use Rattle.mufom_build.proofs.Printed.{lines_spelled, Printed, ◌▸◌, none, in_words, in_number, in_place, in_byte, in_position, in_count, in_name}
@@ -53,7 +54,7 @@ in_base : (base : Option ℕ) → IfSome base IsNumber → Printed (lines.base_p
 in_base None small = none
 in_base (Some base) small = in_words (codes " base ") ▸ in_number base small
 
-in_section : (n : ℕ) (s : Section) → IsNumber n → IsMadeSection s → PrintedLines (lines.section_lines n s) (show.section_line n s)
+in_section : (n : ℕ) (s : Section) → IsPosition n → IsMadeSection s → PrintedLines (lines.section_lines n s) (show.section_line n s)
 in_section n s small made = on_line (in_words (codes "section ") ▸ in_position n small ▸ in_words (codes " ") ▸ in_name s.name made.name ▸
     in_words (codes " ") ▸ in_words (show.type_letters s.absolute) ▸ in_words (show.purpose_letter s.purpose) ▸ in_words (codes " size ") ▸
     in_number s.size made.size ▸ in_words (codes " align ") ▸ in_number s.align made.align ▸ in_base s.base made.base)
@@ -69,7 +70,7 @@ in_notes [] made = no_lines
 in_notes (note ∷ notes) made = all (on_line (in_words (codes "note") ▸ in_note note (All-head IsMadeNote note notes made)))
     (in_notes notes (All-tail IsMadeNote note notes made))
 
-in_public : (n : ℕ) (p : Public) → IsNumber n → IsMadePublic p → PrintedLines (lines.public_lines n p) (show.public_lines n p)
+in_public : (n : ℕ) (p : Public) → IsPosition n → IsMadePublic p → PrintedLines (lines.public_lines n p) (show.public_lines n p)
 in_public n p small made = all (on_line (in_words (codes "public ") ▸ in_position n small ▸ in_words (codes " ") ▸ in_name p.name made.name ▸
     in_words (codes " = ") ▸ in_value p.value made.value)) (in_notes p.notes made.notes)
 
@@ -77,17 +78,17 @@ in_weak : (weak : Option Weak) → IfSome weak IsMadeWeak → Printed (lines.wea
 in_weak None made = none
 in_weak (Some weak) made = in_words (codes " weak size ") ▸ in_number weak.size made.0 ▸ in_words (codes " default ") ▸ in_number weak.default made.1
 
-in_reference : (n : ℕ) (q : Reference) → IsNumber n → IsMadeReference q → PrintedLines (lines.reference_lines n q) (show.reference_lines n q)
+in_reference : (n : ℕ) (q : Reference) → IsPosition n → IsMadeReference q → PrintedLines (lines.reference_lines n q) (show.reference_lines n q)
 in_reference n q small made = all (on_line (in_words (codes "reference ") ▸ in_position n small ▸ in_words (codes " ") ▸ in_name q.name made.name ▸
     in_weak q.weak made.weak)) (in_notes q.notes made.notes)
 
 -- entries one after another, each by its position
 in_each : {X : Type 0} (Made : X → Type 0) (lines_of : ℕ → X → List Line) (text_of : ℕ → X → Text)
-    → ((n : ℕ) (x : X) → IsNumber n → Made x → PrintedLines (lines_of n x) (text_of n x))
-    → (n : ℕ) (xs : List X) → n + length xs < 2 ^ 64 → All Made xs → PrintedLines (lines.each_lines n lines_of xs) (each_from n text_of xs)
+    → ((n : ℕ) (x : X) → IsPosition n → Made x → PrintedLines (lines_of n x) (text_of n x))
+    → (n : ℕ) (xs : List X) → n + length xs < 2 ^ 32 → All Made xs → PrintedLines (lines.each_lines n lines_of xs) (each_from n text_of xs)
 in_each Made lines_of text_of one n [] small made = no_lines
 in_each Made lines_of text_of one n (x ∷ xs) small made =
-    let sum : n + suc (length xs) < 2 ^ 64 = small in
+    let sum : n + suc (length xs) < 2 ^ 32 = small in
     all (one n x (omega (arith, sum)) (All-head Made x xs made))
     (in_each Made lines_of text_of one (n + 1) xs (omega (arith, sum)) (All-tail Made x xs made))
 
@@ -117,15 +118,15 @@ in_end : (end : Option Tree) → IfSome end IsMadeTree → Printed (lines.end_pi
 in_end None made = in_words (codes "end")
 in_end (Some value) made = in_words (codes "end = ") ▸ in_value value made
 
-in_mark : (depth n : ℕ) (mark : DebugMark) → IsNumber n → IsMadeMark mark
+in_mark : (depth n : ℕ) (mark : DebugMark) → open_after depth mark ≤ 32 → IsPosition n → IsMadeMark mark
     → PrintedLines (lines.mark_pieces depth n mark ∷ []) (show.mark_line depth n mark)
-in_mark depth n (block_begin head name) small (a, b) = on_indented_line (indented depth (in_block (depth + 1) ▸ in_words (codes "block "))
+in_mark depth n (block_begin head name) few small (a, b) = on_indented_line (indented depth (in_block (depth + 1) few ▸ in_words (codes "block "))
     ▹ in_number (kind_number head) (kind-small head) ▹ in_words (codes " ") ▹ in_name name b ▹ in_head head a)
-in_mark depth n (block_end end) small made = on_indented_line (indented (depth - 1) (in_end end made))
-in_mark depth n (name_mark name) small made = on_indented_line (indented depth (in_words (codes "name ")) ▹ in_position n small ▹
+in_mark depth n (block_end end) few small made = on_indented_line (indented (depth - 1) (in_end end made))
+in_mark depth n (name_mark name) few small made = on_indented_line (indented depth (in_words (codes "name ")) ▹ in_position n small ▹
     in_words (codes " ") ▹ in_name name made)
-in_mark depth n (note_mark name note) small (a, b) = on_indented_line (indented depth (in_words (codes "note ")) ▹ in_place name a ▹ in_note note b)
-in_mark depth n (value_mark name value) small (a, b) = on_indented_line (indented depth (in_words (codes "value ")) ▹ in_place name a ▹
+in_mark depth n (note_mark name note) few small (a, b) = on_indented_line (indented depth (in_words (codes "note ")) ▹ in_place name a ▹ in_note note b)
+in_mark depth n (value_mark name value) few small (a, b) = on_indented_line (indented depth (in_words (codes "value ")) ▹ in_place name a ▹
     in_words (codes " = ") ▹ in_value value b)
 
 one_more : (n : ℕ) (mark : DebugMark) → names_after n mark ≤ n + 1
@@ -135,14 +136,20 @@ one_more n (name_mark name) = omega arith
 one_more n (note_mark name note) = omega arith
 one_more n (value_mark name value) = omega arith
 
-in_marks : (depth n : ℕ) (marks : List DebugMark) → n + length marks < 2 ^ 64 → All IsMadeMark marks
+least_depth : (opened : ℕ) (marks : List DebugMark) → opened ≤ depth_from opened marks
+least_depth opened [] = omega arith
+least_depth opened (mark ∷ marks) = omega arith
+
+in_marks : (depth n : ℕ) (marks : List DebugMark) → depth_from depth marks ≤ 32 → n + length marks < 2 ^ 32 → All IsMadeMark marks
     → PrintedLines (lines.mark_lines depth n marks) (show.mark_lines depth n marks)
-in_marks depth n [] small made = no_lines
-in_marks depth n (mark ∷ marks) small made =
-    let sum : n + suc (length marks) < 2 ^ 64 = small in
+in_marks depth n [] deep small made = no_lines
+in_marks depth n (mark ∷ marks) deep small made =
+    let sum : n + suc (length marks) < 2 ^ 32 = small in
     let next = one_more n mark in
-    all (in_mark depth n mark (omega (arith, sum)) (All-head IsMadeMark mark marks made))
-    (in_marks (open_after depth mark) (names_after n mark) marks (omega (arith, sum, next)) (All-tail IsMadeMark mark marks made))
+    let all_deep : max depth (depth_from (open_after depth mark) marks) ≤ 32 = deep in
+    let least = least_depth (open_after depth mark) marks in
+    all (in_mark depth n mark (omega (arith, all_deep, least)) (omega (arith, sum)) (All-head IsMadeMark mark marks made))
+    (in_marks (open_after depth mark) (names_after n mark) marks (omega (arith, all_deep)) (omega (arith, sum, next)) (All-tail IsMadeMark mark marks made))
 
 -- ---- loads
 
@@ -208,6 +215,14 @@ literals_fit m valid =
     misses (has_defect m) (d.Depth ∷ d.LongId ∷ d.BadMaus ∷ d.BadAlign ∷ d.MissingBase ∷ d.Position ∷ d.MisplacedP ∷ d.NoSection ∷ []) d.LongRun
     (d.FieldSize ∷ d.Attribute ∷ d.Nesting ∷ d.Weight ∷ []) valid
 
+-- at most 32 blocks are open
+depth_fits : (m : Parts) → IsValid m → depth_from 0 (marks_of m.debug) ≤ 32
+depth_fits m valid = small (depth_from 0 (marks_of m.debug)) (misses (has_defect m) [] d.Depth (d.LongId ∷ d.BadMaus ∷ d.BadAlign ∷ d.MissingBase
+    ∷ d.Position ∷ d.MisplacedP ∷ d.NoSection ∷ d.LongRun ∷ d.FieldSize ∷ d.Attribute ∷ d.Nesting ∷ d.Weight ∷ []) valid)
+  where
+    small : (n : ℕ) → nat_lt 32 n ≡ false → n ≤ 32
+    small n h = grind arith
+
 in_parts : (m : Parts) → IsMade m → IsValid m → length (marks_of m.debug) < 2 ^ 32 → PrintedLines (lines.listing_lines m) (show.listing_text m)
 in_parts m made valid few =
     let light = weighs_less m valid in
@@ -220,10 +235,14 @@ in_parts m made valid few =
     (in_each IsMadePublic lines.public_lines show.public_lines in_public 0 m.names.publics (omega (arith, light, publics)) made.publics))
     (in_each IsMadeReference lines.reference_lines show.reference_lines in_reference 0 m.names.references (omega (arith, light, references))
     made.references))
-    (in_marks 0 0 (marks_of m.debug) (omega (arith, few)) made.debug))
+    (in_marks 0 0 (marks_of m.debug) (depth_fits m valid) (omega (arith, few)) made.debug))
     (in_loads m.loads made.loads (literals_fit m valid)))
     (in_start m.start made.start)
 
 -- The listing of a module is one from which the module can be built.
 pub listing_builds : (m : Parts) → IsMade m → IsValid m → length (marks_of m.debug) < 2 ^ 32 → lines.Build (show.listing_text m) m
 listing_builds m made valid few = record { listed = lines_spelled (in_parts m made valid few); made = made; valid = valid }
+
+-- No line of the listing of a module states too much.
+pub listing_fits : (m : Parts) → IsMade m → IsValid m → length (marks_of m.debug) < 2 ^ 32 → AllFit (lines.listing_lines m)
+listing_fits m made valid few = (in_parts m made valid few).fit

@@ -54,7 +54,7 @@ few_mark (name_mark text) made = tt
 few_mark (note_mark n note) made = made.1.few
 few_mark (value_mark n value) made = tt
 
-are_few : (m : Parts) → IsMade m → AreFew m
+pub are_few : (m : Parts) → IsMade m → AreFew m
 are_few m made = record {
   publics = All-weaker IsMadePublic (λ p. All HasFewNumbers p.notes) (λ p h. All-weaker IsMadeNote HasFewNumbers (λ note k. k.few) p.notes h.notes)
       m.names.publics made.publics;

@@ -2,4 +2,12 @@ pub mod Lines
 pub mod Refusals
 pub mod Outlines
 pub mod Marked
-pub mod Titles
+pub mod Rows
+pub mod Order
+pub mod Shown
+pub mod ReadRows
+pub mod Begun
+pub mod Sketches
+pub mod Drafts
+pub mod FirstWords
+pub mod ReadKinds

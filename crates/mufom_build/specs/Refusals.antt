@@ -4,7 +4,6 @@ use Rattle.std.specs.Prelude.{if◌then◌else◌, ◌⊎◌}
 use Rattle.mufom_module.specs.declared.module.Parts.{Parts}
 use Rattle.mufom_module.specs.declared.module.Defect.{Defect}
 use Rattle.mufom_module.specs.Defects.{first_defect}
-use Rattle.mufom_module.specs.Made.{IsMade}
 use Rattle.mufom_text.specs.Words.{Text, line}
 use Rattle.mufom_build_text.specs.declared.refusal.BuildReason.{BuildReason}
 use Rattle.mufom_build_text.specs.declared.refusal.BuildReason.TheVariants.{BadText}
@@ -93,16 +92,10 @@ IsRefusedAt text at column reason = let texts = text_lines text in
     ((before : ℕ) × (at ≡ before + 1) × (before < length texts) × AreRight texts before × IsWrongAt texts before column reason)
     ⊎ ((at ≡ last_line text) × (column ≡ 1) × (reason ≡ BadText) × AreRight texts (length texts) × ¬ (Shape text))
 
--- The text is the listing of parts that have this defect, read exactly.
-pub record ListsDefect (text : Text) (defect : Defect) : Type 0 where
-  pub parts : Parts
-  pub listed : SpellsLines exact (listing_lines parts) text
-  pub first : first_defect parts ≡ Some defect
-
 -- No line is wrong, and the text is the listing of parts that have this defect.
 pub record HasDefect (text : Text) (defect : Defect) : Type 0 where
   pub right : AreRight (text_lines text) (length (text_lines text))
   pub parts : Parts
   pub listed : SpellsLines exact (listing_lines parts) text
-  pub made : IsMade parts
+  pub few : AreFew parts
   pub first : first_defect parts ≡ Some defect

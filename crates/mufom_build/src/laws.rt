@@ -1,16 +1,17 @@
 //! Laws of listings, each the contract of a function that does nothing.
 
-ghost use Rattle.std.specs.Prelude.{◌≡◌};
+ghost use Rattle.std.specs.Prelude.{◌≡◌, ℕ};
 ghost use Rattle.mufom_module.specs.declared.module.Defect.{Defect};
 ghost use Rattle.mufom_module.specs.declared.module.Parts.{Parts};
 ghost use Rattle.mufom_module.specs.Defects.{IsValid};
 ghost use Rattle.mufom_module.specs.Made.{IsMade};
 ghost use Rattle.mufom_text.specs.Show.{listing_text};
 ghost use Rattle.mufom_text.specs.Words.{Text};
+ghost use Rattle.mufom_build_text.specs.declared.refusal.BuildReason.{BuildReason};
 ghost use Rattle.mufom_build_text.specs.Pieces.{loose};
 ghost use Rattle.mufom_build_text.specs.Places.{SpellsLines};
 ghost use Rattle.mufom_build.specs.Lines.{listing_lines, Build, Shape};
-ghost use Rattle.mufom_build.specs.Refusals.{ListsDefect};
+ghost use Rattle.mufom_build.specs.Refusals.{HasDefect, IsRefusedAt};
 
 /// The listing of a module, as it is printed, is a text from which the module is built.
 pub fn listings_build()
@@ -29,7 +30,21 @@ pub fn texts_list_one_module()
     ensures exactly { (text : Text) (m n : Parts) → Build text m → Build text n → m ≡ n }
 {}
 
-/// No module can be built from a text that is the listing of parts with a defect.
+/// A text that is the listing of parts with a defect has that one alone, and no module can be built from it.
 pub fn defects_build_nothing()
-    ensures { (text : Text) (m : Parts) (d : Defect) → Build text m → ListsDefect text d → ⊥ }
+    ensures nothing { (text : Text) (m : Parts) (d : Defect) → Build text m → HasDefect text d → ⊥ }
+    ensures one { (text : Text) (d other : Defect) → HasDefect text d → HasDefect text other → d ≡ other }
+{}
+
+/// A text is refused at one line and column at most, and for one reason.
+pub fn texts_have_one_refusal()
+    ensures { (text : Text) (line column other_line other : ℕ) (reason kind : BuildReason) → IsRefusedAt text line column reason
+        → IsRefusedAt text other_line other kind → (line ≡ other_line) × (column ≡ other) × (reason ≡ kind) }
+{}
+
+/// A text is refused at no place from which a module can be built, or that is the listing of parts with a defect.
+pub fn listings_are_not_refused()
+    ensures built { (text : Text) (m : Parts) (line column : ℕ) (reason : BuildReason) → Build text m → IsRefusedAt text line column reason → ⊥ }
+    ensures defect { (text : Text) (d : Defect) (line column : ℕ) (reason : BuildReason) → HasDefect text d
+        → IsRefusedAt text line column reason → ⊥ }
 {}

@@ -1,6 +1,6 @@
 //! Debug items that are being read, with the blocks that are still open.
 
-ghost use Rattle.std.specs.Prelude.{◌≡◌, ◌<◌, ◌++◌, ◌∷◌, [], length, OnOk, IfSome};
+ghost use Rattle.std.specs.Prelude.{◌≡◌, ◌<◌, ◌++◌, ◌∷◌, [], length, OnOk, IfSome, is_some, ◌==◌};
 ghost use Rattle.mufom_debug.specs.Marks.{marks_of, block_begin, block_end, name_mark, note_mark, value_mark};
 ghost use Rattle.mufom_build.specs.Outlines.{marks_so_far, IsKept};
 
@@ -132,7 +132,8 @@ impl Outline {
 
     /// The items, if no block is open.
     pub(crate) fn finish(self) -> Option<List<DebugItem>>
-        ensures { IfSome result (λ items. marks_of items ≡ marks_so_far self) }
+        ensures some { is_some result ≡ (length self.blocks.items == 0) }
+        ensures marks { IfSome result (λ items. marks_of items ≡ marks_so_far self) }
     {
         let Outline {
             blocks,

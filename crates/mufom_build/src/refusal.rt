@@ -1,6 +1,6 @@
 //! Why no module is built from a text.
 
-ghost use Rattle.std.specs.Prelude.{◌≡◌};
+ghost use Rattle.std.specs.Prelude.{◌≡◌, ℕ};
 ghost use Rattle.mufom_module.specs.declared.module.Defect.{Defect};
 
 use mufom_build_text::{BuildReason, PieceStop};
@@ -23,7 +23,9 @@ pub enum BuildRefusal {
 
 /// The same as an error of [`build`](crate::build).
 pub(crate) fn refusal_of(stop: PieceStop) -> BuildRefusal
-    ensures { (d : Defect) → result ≡ BuildRefusal.Module d → ⊥ }
+    ensures defect { (d : Defect) → result ≡ BuildRefusal.Module d → ⊥ }
+    ensures at { (line column : ℕ) (reason : BuildReason) → result ≡ BuildRefusal.At line column reason
+        → stop ≡ PieceStop.At line column reason }
 {
     match stop {
         PieceStop::At {

@@ -2,8 +2,12 @@ pub mod Spelling
 pub mod Lists
 pub mod Reading
 pub mod Fronts
-pub mod InfixReading
+pub mod Columns
 pub mod FirstBytes
 pub mod Noted
 pub mod Loosely
+pub mod Heads
+pub mod TreeReading
+pub mod InfixReading
+pub mod ValueReading
 pub mod Names

@@ -137,7 +137,7 @@ pub record Stays (before after : Place) : Type 0 where
 pub stays : (a : Place) → Stays a a
 stays a = record { rest = refl; line = refl; column = refl; same = refl; right = λ r. r }
 
-moves_stays : {a b : Place} → Stays a b → Moves a b
+pub moves_stays : {a b : Place} → Stays a b → Moves a b
 moves_stays {a} {b} s =
     let same : length b.rest ≡ length a.rest = ap length s.rest in
     record {
@@ -391,7 +391,7 @@ pub passes_then : (xs ys : List Piece) (a b c : Place) → Passes xs a b → Pas
 passes_then [] ys a b c same q = subst (λ (p : Place). Passes ys p c) (sym same) q
 passes_then (x ∷ xs) ys a b c (next, one, more) q = (next, one, passes_then xs ys next b c more q)
 
-both_hold : {a b : Bool} → a ≡ true → b ≡ true → (a && b) ≡ true
+pub both_hold : {a b : Bool} → a ≡ true → b ≡ true → (a && b) ≡ true
 both_hold {a} {b} e f = ap (λ c. c && b) e ∙ f
 
 words_before : (text : Text) (b : ℕ) (more : List Piece) → words (text ++ b ∷ []) ++ more ≡ words text ++ (word_piece b ∷ more)

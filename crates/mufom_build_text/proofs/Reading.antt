@@ -6,7 +6,7 @@ use Rattle.std.specs.Str.Parse.{digits_value}
 use Rattle.mufom_text.specs.Words.{Text}
 use Rattle.mufom_build_text.specs.Pieces.{Piece, byte, gap, figure, name, block, exact}
 use Rattle.mufom_build_text.specs.Pieces.{Spells, SpellsPiece, SpellsNumber}
-use Rattle.mufom_build_text.specs.Pieces.{words, word_piece, infix_pieces, value_pieces}
+use Rattle.mufom_build_text.specs.Pieces.{words, word_piece}
 use Rattle.mufom_build_text.specs.Places.{SpellsLines, AreBlank}
 use Rattle.mufom_build_text.specs.Reads.{Place, IsRight, IsSpaceFront, IsBlankFront, ReadsRight, Reads, ReadsNumeral, IsNameFront}
 use Rattle.mufom_build_text.specs.Reads.{IsLineEnd, EndsLine}
@@ -123,18 +123,6 @@ reads_stated stated right a b c read rest judged piece spells = record {
         is = read.is ∙ ap (λ l. read.front ++ l) (sym rest);
         spelled = spells-one exact piece read.front (spells read.front (read.numeral, value));
       };
-}
-
--- ---- expressions
-
-pub value_read : (t : _) (a b : Place) → Reads (infix_pieces t) a b → Reads (value_pieces t) a b
-value_read t a b read = record {
-  read = λ right. let r = read.read right in record {
-    right = r.right;
-    front = r.front;
-    is = r.is;
-    spelled = ([], r.front, refl, refl, r.spelled);
-  };
 }
 
 -- ---- lines

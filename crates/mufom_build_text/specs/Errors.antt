@@ -1,5 +1,6 @@
 -- What is noted of a line while it is read, and which of it is named.
-use Rattle.std.specs.Prelude.{◌≡◌, ℕ, ◌-◌, ◌==◌, ◌&&◌, nat_le, nat_lt, Bool, true, false, length, Option, Some, None, if◌then◌else◌, ◌⊎◌}
+use Rattle.std.specs.Prelude.{◌≡◌, ℕ, ◌+◌, ◌-◌, ◌==◌, ◌&&◌, nat_le, nat_lt, Bool, true, false, ◌∷◌, length, Option, Some, None}
+use Rattle.std.specs.Prelude.{if◌then◌else◌, ◌⊎◌}
 use Rattle.std.specs.Str.Parse.{digits_value}
 use Rattle.mufom_text.specs.Words.{Text}
 use Rattle.mufom_build_text.specs.declared.cursor.LineError.{LineError}
@@ -102,6 +103,8 @@ IsWrongEnd place line column reason =
 pub record IsNamed (place : Place) (line column : ℕ) (reason : BuildReason) : Type 0 where
   pub end : Place
   pub spaces : IsSpaceFront place.rest end.rest
+  pub last : (more : Text) → end.rest ≡ 32 ∷ more → ⊥
   pub here : end.line ≡ place.line
+  pub passed : end.column + length end.rest ≡ place.column + length place.rest
   pub same : end.error ≡ place.error
   pub named : IsWrongEnd end line column reason

@@ -1,5 +1,5 @@
 -- What is read between two places of a text.
-use Rattle.std.specs.Prelude.{◌≡◌, ℕ, ◌≤◌, ◌^◌, List, [], ◌∷◌, ◌++◌, Option, None, MatchOption, ◌⊎◌}
+use Rattle.std.specs.Prelude.{◌≡◌, ℕ, ◌+◌, ◌≤◌, ◌^◌, ◌==◌, List, [], ◌∷◌, ◌++◌, length, Option, None, MatchOption, ◌⊎◌, if◌then◌else◌}
 use Rattle.std.specs.Str.Parse.{IsNumeral, digits_value}
 use Rattle.mufom_text.specs.Words.{Text}
 use Rattle.mufom_build_text.specs.declared.cursor.LineError.{LineError}
@@ -63,6 +63,30 @@ pub record IsNameFront (bytes : List ℕ) (text rest : Text) : Type 0 where
   pub is : text ≡ front ++ rest
   pub spelled : SpellsNameBytes bytes front
 
+-- ---- lines and columns
+
+-- how many lines end in a text: the number of its bytes 0A
+abbrev pub feeds : Text → ℕ
+feeds [] = 0
+feeds (b ∷ text) = if b == 10 then feeds text + 1 else feeds text
+
+-- the column after a text that begins at this column
+abbrev pub column_after : ℕ → Text → ℕ
+column_after column [] = column
+column_after column (b ∷ text) = if b == 10 then column_after 1 text else column_after (column + 1) text
+
+-- the text begins with neither a space nor an end of a line
+abbrev pub IsPastBlanks : Text → Type 0
+IsPastBlanks text = (b : ℕ) (more : Text) → text ≡ b ∷ more → (b ≡ 32) ⊎ (b ≡ 10) → ⊥
+
+-- Spaces and ends of lines, or nothing, are passed over from a line and a column to another line and column.
+pub record PassesBlanks (text : Text) (from_line from_column : ℕ) (rest : Text) (line column : ℕ) : Type 0 where
+  pub front : Text
+  pub is : text ≡ front ++ rest
+  pub blank : AreBlank front
+  pub line_is : line ≡ from_line + feeds front
+  pub column_is : column ≡ column_after from_column front
+
 -- no text, or an end of a line
 abbrev pub IsLineEnd : Text → Type 0
 IsLineEnd text = (text ≡ []) ⊎ ((more : Text) × (text ≡ 10 ∷ more))
@@ -74,6 +98,17 @@ pub record EndsLine (text rest : Text) : Type 0 where
   pub line_end : IsLineEnd end
   pub blank : IsBlankFront end rest
   pub last : (more : Text) → rest ≡ 10 ∷ more → ⊥
+
+-- The line of the first place ends after spaces, and the second place is behind the blank lines and the spaces that follow.
+pub record LeavesLine (before after : Place) : Type 0 where
+  pub end : Place
+  pub spaces : IsSpaceFront before.rest end.rest
+  pub line : end.line ≡ before.line
+  pub column : end.column + length end.rest ≡ before.column + length before.rest
+  pub line_end : IsLineEnd end.rest
+  pub blanks : PassesBlanks end.rest end.line end.column after.rest after.line after.column
+  pub past : IsPastBlanks after.rest
+  pub error : after.error ≡ before.error
 
 -- The text is of these lines, and is not empty where there are any.
 pub record Follow (lines : List (List Piece)) (text : Text) : Type 0 where

@@ -1,8 +1,9 @@
 //! A place in a text that is read line by line.
 
-ghost use Rattle.std.specs.Prelude.{◌≡◌, ◌≤◌, ◌<◌, ◌+◌, ◌^◌, ◌↔◌, ◌∷◌, [], List, ℕ, length, IsTrue, OnOk, Err, true};
+ghost use Rattle.std.specs.Prelude.{◌≡◌, ◌≤◌, ◌<◌, ◌+◌, ◌^◌, ◌==◌, ◌↔◌, ◌∷◌, [], List, ℕ, length, IsTrue, OnOk, Err, true, if◌then◌else◌};
 ghost use Rattle.mufom_numbers.specs.declared.limits.TheConstants.{MOST_FILE_BYTES};
 ghost use Rattle.mufom_build_text.specs.Reads.{beginning, IsRight, IsSpaceFront, IsBlankFront, IsLineEnd, EndsLine};
+ghost use Rattle.mufom_build_text.specs.Reads.{IsPastBlanks, PassesBlanks, LeavesLine};
 ghost use Rattle.mufom_build_text.specs.Errors.{error_at, first_error, is_bad, wrong_line, Fails, IsWrongEnd, IsNamed};
 
 use crate::refusal::{BuildReason, PieceStop};
@@ -55,8 +56,10 @@ pub fn after_spaces(text: &[u8]) -> &[u8]
 fn place_after(byte: u8, line: u32, column: u32) -> (u32, u32)
     requires line { line + 1 < 2 ^ 32 }
     requires column { column + 1 < 2 ^ 32 }
-    ensures line { result.0 ≤ line + 1 }
-    ensures column { result.1 ≤ column + 1 }
+    ensures line { result.0 ≡ (if byte == 10 then line + 1 else line) }
+    ensures column { result.1 ≡ (if byte == 10 then 1 else column + 1) }
+    ensures next_line { result.0 ≤ line + 1 }
+    ensures next_column { result.1 ≤ column + 1 }
     ensures positive { 0 < result.1 }
 {
     if byte == b'\n' {
@@ -70,8 +73,8 @@ fn after_blanks(text: &[u8], from_line: u32, from_column: u32) -> (&[u8], u32, u
     requires line { from_line + length text.now < 2 ^ 32 }
     requires column { from_column + length text.now < 2 ^ 32 }
     requires positive { 0 < from_column }
-    ensures front { IsBlankFront text.now result.0.now }
-    ensures last { (more : List ℕ) → result.0.now ≡ 10 ∷ more → ⊥ }
+    ensures blanks { PassesBlanks text.now from_line from_column result.0.now result.1 result.2 }
+    ensures past { IsPastBlanks result.0.now }
     ensures line { result.1 + length result.0.now < 2 ^ 32 }
     ensures column { result.2 + length result.0.now < 2 ^ 32 }
     ensures positive { 0 < result.2 }
@@ -214,6 +217,8 @@ impl<'a> Cursor<'a> {
     pub fn pass_blanks(&mut self)
         ensures front { IsBlankFront self.old.rest self.new.rest }
         ensures last { (more : List ℕ) → self.new.rest ≡ 10 ∷ more → ⊥ }
+        ensures blanks { PassesBlanks self.old.rest self.old.line self.old.column self.new.rest self.new.line self.new.column }
+        ensures past { IsPastBlanks self.new.rest }
         ensures error { self.new.error ≡ self.old.error }
         ensures within { length self.new.rest ≤ length self.old.rest }
     {
@@ -249,6 +254,7 @@ impl<'a> Cursor<'a> {
     pub fn end_line(&mut self) -> Result<(), PieceStop>
         ensures right { OnOk result (IsRight self.old) }
         ensures ends { OnOk result (EndsLine self.old.rest self.new.rest) }
+        ensures leaves { OnOk result (LeavesLine self.old self.new) }
         ensures within { OnOk result (length self.new.rest ≤ length self.old.rest) }
         ensures wrong { (line column : ℕ) (reason : BuildReason) → result ≡ Err (PieceStop.At line column reason)
             → IsNamed self.old line column reason }

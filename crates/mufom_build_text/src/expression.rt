@@ -1,18 +1,25 @@
 //! Expressions in infix form, as a listing has them. The functions whose operands are still being read are
 //! kept on a stack of their own, so that no depth of a text is a depth of calls.
 
-ghost use Rattle.std.specs.Prelude.{◌≡◌, ◌≤◌, ◌<◌, ◌+◌, ◌∷◌, ◌++◌, [], true, false, length, IfOk, OnOk, IfSome};
-ghost use Rattle.mufom_build_text.specs.Pieces.{words, value_pieces};
-ghost use Rattle.mufom_build_text.specs.Reads.{Place, Reads};
+ghost use Rattle.std.specs.Prelude.{◌≡◌, ◌≤◌, ◌<◌, ◌+◌, ◌∷◌, ◌++◌, [], ℕ, List, true, length, IfOk, OnOk, IfSome, None};
+ghost use Rattle.mufom_expr.specs.declared.token.Token.{Token};
+ghost use Rattle.mufom_expr.specs.Tree.{Tree, TwoOperands, function_of_two};
+ghost use Rattle.mufom_expr.specs.Terms.{FindsTooFew};
+ghost use Rattle.mufom_expr.specs.InfixText.{middle_text};
+ghost use Rattle.mufom_build_text.specs.Pieces.{Piece, words, infix_pieces, value_pieces};
+ghost use Rattle.mufom_build_text.specs.Reads.{Place};
 ghost use Rattle.mufom_build_text.specs.Errors.{IsSound};
-ghost use Rattle.mufom_build_text.specs.Infix.{is_first, has_operator, FitsMiddle, frame_text};
-ghost use Rattle.mufom_build_text.specs.Infix.{IsLeaf, IsBefore, IsBehind, IsBetween, IsClosed, IsRead};
+ghost use Rattle.mufom_build_text.specs.Loosely.{Goes, ReadsLoosely, NoFigure};
+ghost use Rattle.mufom_build_text.specs.Infix.{frame_by, operator_by, letter_by, byte_at, is_first, has_operator, FitsMiddle, frame_text};
+ghost use Rattle.mufom_build_text.specs.Infix.{frame_before, letter_before, Tells, Keeps, middle_of};
+ghost use Rattle.mufom_build_text.specs.Infix.{IsLeaf, IsBefore, IsBehind, IsBetween, IsClosed, IsWhole};
 
 use crate::cursor::{Cursor, after_spaces};
-use crate::refusal::{BuildReason, PieceStop};
+use crate::refusal::BuildReason;
 use mufom_expr::{
     Builder, ExprFault, Function, Letter, Postfix, Token, infix_middle, infix_opening, letter_name,
 };
+use mufom_numbers::NoMemory;
 use std::alloc::Global;
 
 /// What comes between the two operands of a function.
@@ -44,22 +51,31 @@ struct Infix {
     is_long: bool,
 }
 
-// The function of which the text begins with what comes before its operands.
-fn opened(text: &[u8]) -> Option<Frame>
-    ensures { IfSome result (λ frame. is_first frame ≡ true) }
+// The function whose text before its operands the first bytes of a text tell.
+fn frame_by(text: &[u8]) -> Option<Frame>
+    ensures exact { result ≡ frame_by (byte_at text.now 0) (byte_at text.now 1) }
+    ensures first { IfSome result (λ frame. is_first frame ≡ true) }
 {
     match text {
         [b'(', ..] => Some(Frame::First(Middle::Operator)),
         [b'a', b'b', ..] => Some(Frame::Last(Function::Abs)),
-        [b'n', ..] => Some(Frame::Last(Function::Neg)),
+        [b'a', b'n', ..] => Some(Frame::First(Middle::Comma(Function::And))),
         [b'm', b'a', ..] => Some(Frame::First(Middle::Comma(Function::Max))),
         [b'm', b'i', ..] => Some(Frame::First(Middle::Comma(Function::Min))),
         [b'm', b'o', ..] => Some(Frame::First(Middle::Comma(Function::Mod))),
-        [b'a', b'n', ..] => Some(Frame::First(Middle::Comma(Function::And))),
+        [b'n', ..] => Some(Frame::Last(Function::Neg)),
         [b'o', ..] => Some(Frame::First(Middle::Comma(Function::Or))),
         [b'x', ..] => Some(Frame::First(Middle::Comma(Function::Xor))),
         _ => None,
     }
+}
+
+// The function that is opened here.
+fn opened(cursor: &Cursor) -> Option<Frame>
+    ensures tells { Tells result cursor.now }
+    ensures first { IfSome result (λ frame. is_first frame ≡ true) }
+{
+    frame_by(cursor.rest())
 }
 
 // The text before the operands of a function.
@@ -73,35 +89,40 @@ fn opening(frame: Frame) -> &'static str
     }
 }
 
-// The function of the operator that comes after spaces.
-fn operator(cursor: &Cursor) -> Result<Function, PieceStop>
-    ensures { IfOk result (λ function. has_operator function ≡ true) }
+// The function whose operator a text begins with. Where it begins with none of them, any of these functions:
+// its operator is then missing.
+fn operator(text: &[u8]) -> Function
+    ensures exact { result ≡ operator_by (byte_at text.now 0) (byte_at text.now 1) }
+    ensures has { has_operator result ≡ true }
 {
-    match after_spaces(cursor.rest()) {
-        [b'+', ..] => Ok(Function::Plus),
-        [b'-', ..] => Ok(Function::Minus),
-        [b'/', ..] => Ok(Function::Divide),
-        [b'*', ..] => Ok(Function::Times),
-        [b'<', b'>', ..] => Ok(Function::Unequal),
-        [b'<', ..] => Ok(Function::Less),
-        [b'>', ..] => Ok(Function::Greater),
-        [b'=', ..] => Ok(Function::Equal),
-        _ => Err(cursor.bad_line()),
+    match text {
+        [b'-', ..] => Function::Minus,
+        [b'/', ..] => Function::Divide,
+        [b'*', ..] => Function::Times,
+        [b'<', b'>', ..] => Function::Unequal,
+        [b'<', ..] => Function::Less,
+        [b'>', ..] => Function::Greater,
+        [b'=', ..] => Function::Equal,
+        _ => Function::Plus,
     }
 }
 
 // The function between whose operands this comes.
-fn function_of(cursor: &Cursor, middle: Middle) -> Result<Function, PieceStop>
-    ensures { IfOk result (λ function. FitsMiddle middle function) }
+fn function_of(cursor: &Cursor, middle: Middle) -> Function
+    ensures fits { FitsMiddle middle result }
+    ensures tells { (g : TwoOperands) (more : List Piece) → middle_of g ≡ middle
+        → Goes (words (middle_text (function_of_two g)) ++ more) cursor.now → function_of_two g ≡ result }
 {
     match middle {
-        Middle::Operator => operator(cursor),
-        Middle::Comma(function) => Ok(function),
+        Middle::Operator => operator(after_spaces(cursor.rest())),
+        Middle::Comma(function) => function,
     }
 }
 
-// The letter of the variable that the text begins with.
-fn letter(text: &[u8]) -> Option<Letter> {
+// The letter that the first byte of a text tells.
+fn letter_by(text: &[u8]) -> Option<Letter>
+    ensures { result ≡ letter_by (byte_at text.now 0) }
+{
     match text {
         [b'I', ..] => Some(Letter::I),
         [b'L', ..] => Some(Letter::L),
@@ -113,39 +134,25 @@ fn letter(text: &[u8]) -> Option<Letter> {
     }
 }
 
-// Checks that no piece of the line was missing.
-fn check(cursor: &Cursor) -> Result<(), PieceStop>
-    ensures { OnOk result (IsSound cursor.now) }
+// The letter of the variable that comes next.
+fn letter(cursor: &Cursor) -> Option<Letter>
+    ensures { (t : Tree) (more : List Piece) → Goes (infix_pieces t ++ more) cursor.now → frame_before t ≡ None
+        → letter_before t ≡ result }
 {
-    if cursor.is_bad() {
-        return Err(cursor.bad_line());
-    }
-    Ok(())
-}
-
-// Passes over words, where they are next.
-fn pass(cursor: &mut Cursor, text: &str) -> Result<(), PieceStop>
-    ensures reads { OnOk result (Reads (words text.now) cursor.old cursor.new) }
-    ensures within { OnOk result (length cursor.new.rest + length text.now ≤ length cursor.old.rest) }
-{
-    cursor.words(text.as_bytes());
-    check(cursor)
+    letter_by(cursor.rest())
 }
 
 // Reads a number or a variable.
-fn leaf(cursor: &mut Cursor) -> Result<Token, PieceStop>
-    ensures reads { IfOk result (λ token. IsLeaf cursor.old cursor.new token) }
-    ensures within { OnOk result (length cursor.new.rest < length cursor.old.rest) }
+fn leaf(cursor: &mut Cursor) -> Token
+    ensures reads { Tells None cursor.old → IsLeaf cursor.old cursor.new result }
+    ensures within { length cursor.new.rest ≤ length cursor.old.rest }
+    ensures shorter { IsSound cursor.new → length cursor.new.rest < length cursor.old.rest }
 {
-    let Some(letter) = letter(cursor.rest()) else {
-        let number = cursor.number();
-        check(cursor)?;
-        return Ok(Token::Number(number));
+    let Some(letter) = letter(cursor) else {
+        return Token::Number(cursor.number());
     };
-    pass(cursor, letter_name(letter))?;
-    let place = cursor.place();
-    check(cursor)?;
-    Ok(Token::Var(letter, place))
+    cursor.words(letter_name(letter).as_bytes());
+    Token::Var(letter, cursor.place())
 }
 
 impl Infix {
@@ -161,48 +168,54 @@ impl Infix {
     }
 
     // Adds a token. Of a long expression no more than the first 255 tokens are kept.
-    fn add(&mut self, cursor: &Cursor, token: Token) -> Result<(), PieceStop>
+    fn add(&mut self, token: Token) -> Result<(), NoMemory>
         ensures frames { self.new.frames.items ≡ self.old.frames.items }
-        ensures long { self.new.is_long ≡ false → self.old.is_long ≡ false }
-        ensures tokens { OnOk result (self.new.is_long ≡ false → self.new.tokens ≡ self.old.tokens ++ token ∷ []) }
+        ensures keeps { (all : List Token) → Keeps all self.old → (FindsTooFew all token → ⊥) → OnOk result (Keeps (all ++ token ∷ []) self.new) }
     {
         match self.tokens.push(token) {
             Ok(()) => Ok(()),
-            Err(ExprFault::TooLong) => {
-                self.is_long = true;
-                Ok(())
-            }
-            Err(ExprFault::NoMemory) => Err(PieceStop::NoMemory),
-            Err(_) => Err(cursor.bad_line()),
+            Err(fault) => match fault {
+                ExprFault::NoMemory => Err(NoMemory),
+                // Each function that is added has its operands before it, so this is a 256th token.
+                _ => {
+                    self.is_long = true;
+                    Ok(())
+                }
+            },
         }
     }
 
     // Reads what comes before the next number or variable, if anything.
-    fn open(&mut self, cursor: &mut Cursor) -> Result<(), PieceStop>
+    fn open(&mut self, cursor: &mut Cursor) -> Result<(), NoMemory>
         ensures reads { (start : Place) → IsBefore start cursor.old self.old → OnOk result (IsBefore start cursor.new self.new) }
+        ensures ends { OnOk result (Tells None cursor.new) }
         ensures within { OnOk result (length cursor.new.rest ≤ length cursor.old.rest) }
     {
-        while let Some(frame) = opened(cursor.rest()) {
-            pass(cursor, opening(frame))?;
+        while let Some(frame) = opened(cursor) {
+            cursor.words(opening(frame).as_bytes());
             self.frames.push(frame)?;
+            if cursor.is_bad() {
+                return Ok(());
+            }
         }
         Ok(())
     }
 
     // Reads the next number or variable, and what comes before it.
-    fn operand(&mut self, cursor: &mut Cursor) -> Result<(), PieceStop>
+    fn operand(&mut self, cursor: &mut Cursor) -> Result<(), NoMemory>
         ensures reads { (start : Place) → IsBefore start cursor.old self.old → OnOk result (IsBehind start cursor.new self.new) }
-        ensures within { OnOk result (length cursor.new.rest < length cursor.old.rest) }
+        ensures within { OnOk result (length cursor.new.rest ≤ length cursor.old.rest) }
+        ensures shorter { OnOk result (IsSound cursor.new → length cursor.new.rest < length cursor.old.rest) }
     {
         self.open(cursor)?;
-        let token = leaf(cursor)?;
-        self.add(cursor, token)
+        self.add(leaf(cursor))
     }
 
     // Reads the closing brackets of the functions whose last operand has ended. Returns what comes after the
     // first operand of the next function, if there is one.
-    fn close(&mut self, cursor: &mut Cursor) -> Result<Option<Middle>, PieceStop>
+    fn close(&mut self, cursor: &mut Cursor) -> Result<Option<Middle>, NoMemory>
         ensures reads { (start : Place) → IsBehind start cursor.old self.old → IfOk result (λ middle. IsClosed middle start cursor.new self.new) }
+        ensures sound { OnOk result (IsSound cursor.new → IsSound cursor.old) }
         ensures within { OnOk result (length cursor.new.rest ≤ length cursor.old.rest) }
     {
         while let Some(frame) = self.frames.pop() {
@@ -210,32 +223,36 @@ impl Infix {
                 Frame::First(middle) => return Ok(Some(middle)),
                 Frame::Last(function) => function,
             };
-            pass(cursor, ")")?;
-            self.add(cursor, Token::Fun(function))?;
+            cursor.words(b")");
+            self.add(Token::Fun(function))?;
         }
         Ok(None)
     }
 
     // Reads what comes between the two operands of a function.
-    fn pass_middle(&mut self, cursor: &mut Cursor, middle: Middle) -> Result<(), PieceStop>
+    fn pass_middle(&mut self, cursor: &mut Cursor, middle: Middle) -> Result<(), NoMemory>
         ensures reads { (start : Place) → IsBetween middle start cursor.old self.old → OnOk result (IsBefore start cursor.new self.new) }
         ensures within { OnOk result (length cursor.new.rest ≤ length cursor.old.rest) }
     {
-        let function = function_of(cursor, middle)?;
-        pass(cursor, infix_middle(function))?;
+        let function = function_of(cursor, middle);
+        cursor.words(infix_middle(function).as_bytes());
         self.frames.push(Frame::Last(function))?;
         Ok(())
     }
 
-    // Reads an expression.
-    fn whole(&mut self, cursor: &mut Cursor) -> Result<(), PieceStop>
-        ensures reads { (start : Place) → IsBefore start cursor.old self.old → OnOk result (IsRead start cursor.new self.new) }
-        ensures within { OnOk result (length cursor.new.rest < length cursor.old.rest) }
+    // Reads an expression, up to its end or to where a piece of it is missing.
+    fn whole(&mut self, cursor: &mut Cursor) -> Result<(), NoMemory>
+        ensures reads { (start : Place) → IsBefore start cursor.old self.old → OnOk result (IsWhole start cursor.new self.new) }
+        ensures within { OnOk result (length cursor.new.rest ≤ length cursor.old.rest) }
+        ensures shorter { OnOk result (IsSound cursor.new → length cursor.new.rest < length cursor.old.rest) }
     {
         self.operand(cursor)?;
         while let Some(middle) = self.close(cursor)? {
             self.pass_middle(cursor, middle)?;
             self.operand(cursor)?;
+            if cursor.is_bad() {
+                return Ok(());
+            }
         }
         Ok(())
     }
@@ -243,14 +260,18 @@ impl Infix {
 
 impl<'a> Cursor<'a> {
     /// Passes over an expression in infix form. Notes `TooLong` at its first byte where it has more than 255
-    /// tokens.
-    pub fn value(&mut self, alloc: Global) -> Result<Postfix, PieceStop>
-        ensures reads { IfOk result (λ p. Reads (value_pieces p) self.old self.new) }
-        ensures within { OnOk result (length self.new.rest < length self.old.rest) }
+    /// tokens. Where the line is wrong, the result may be another expression.
+    pub fn value(&mut self, alloc: Global) -> Result<Postfix, NoMemory>
+        ensures reads { IfOk result (λ p. ReadsLoosely value_pieces NoFigure p self.old self.new) }
+        ensures within { OnOk result (length self.new.rest ≤ length self.old.rest) }
+        ensures shorter { OnOk result (IsSound self.new → length self.new.rest < length self.old.rest) }
     {
         let column = self.column();
         let mut infix = Infix::new(alloc);
         infix.whole(self)?;
+        if self.is_bad() {
+            return Postfix::constant(alloc, 0);
+        }
         let Infix {
             frames: _,
             tokens,
@@ -258,11 +279,12 @@ impl<'a> Cursor<'a> {
         } = infix;
         if is_long {
             self.note(column, BuildReason::TooLong);
-            return Ok(Postfix::constant(alloc, 0)?);
+            return Postfix::constant(alloc, 0);
         }
         match tokens.finish() {
             Ok(value) => Ok(value),
-            Err(_) => Err(self.bad_line()),
+            // The tokens are those of an expression.
+            Err(_) => Postfix::constant(alloc, 0),
         }
     }
 }

@@ -34,18 +34,33 @@ pub enum PieceStop {
 }
 
 impl From<NoMemory> for PieceStop {
+    ghost use Rattle.std.specs.Prelude.{◌≡◌};
+    ghost use Rattle.mufom_build_text.specs.declared.refusal.PieceStop.TheVariants as stops;
+
+    ghost from_gives = { λ _ stop. stop ≡ stops.NoMemory };
+
     fn from(_: NoMemory) -> Self {
         PieceStop::NoMemory
     }
 }
 
 impl From<AllocError> for PieceStop {
+    ghost use Rattle.std.specs.Prelude.{◌≡◌};
+    ghost use Rattle.mufom_build_text.specs.declared.refusal.PieceStop.TheVariants as stops;
+
+    ghost from_gives = { λ _ stop. stop ≡ stops.NoMemory };
+
     fn from(_: AllocError) -> Self {
         PieceStop::NoMemory
     }
 }
 
 impl<T: Drop> From<AllocFailed<T>> for PieceStop {
+    ghost use Rattle.std.specs.Prelude.{◌≡◌};
+    ghost use Rattle.mufom_build_text.specs.declared.refusal.PieceStop.TheVariants as stops;
+
+    ghost from_gives = { λ _ stop. stop ≡ stops.NoMemory };
+
     fn from(_: AllocFailed<T>) -> Self {
         PieceStop::NoMemory
     }

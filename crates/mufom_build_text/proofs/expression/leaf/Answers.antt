@@ -1,18 +1,14 @@
-use Rattle.std.proofs.Common.{ap, arith}
-use Rattle.mufom_build_text.specs.Pieces.{words}
-use Rattle.mufom_build_text.proofs.Loosely.{reads_exactly}
-use Rattle.mufom_build_text.proofs.InfixReading.{number_leaf, variable_leaf, same_reads}
+use Rattle.std.proofs.Common.{ℕ, List, subst, ◌∙◌}
+use Rattle.mufom_build_text.specs.Loosely.{ReadsWords}
+use Rattle.mufom_build_text.proofs.InfixReading.{number_leaf, variable_leaf}
 use Rattle.mufom_build_text.proofs.expression.leaf.Goals as goal
 
-pub returns-in_default : goal.returns-in_default
-returns-in_default c = record {
-  reads = number_leaf _ _ _ (reads_exactly c.number-number.ensures.reads);
-  within = c.number-number.ensures.shorter c.in_ok-check.ensures;
-}
+pub returns-in_default-clause-reads : goal.returns-in_default-clause-reads
+returns-in_default-clause-reads c = λ tells. number_leaf c.number.result tells
+    (λ t more goes none. c.letter.ensures t more goes none ∙ c.in_default.is) c.number.ensures.reads
 
-pub returns : goal.returns
-returns c = record {
-  reads = variable_leaf _ _ _ _ _ (same_reads (ap words c.letter_name.ensures) c.in_ok-pass.ensures.reads)
-      (reads_exactly c.place-place.ensures.reads);
-  within = omega (arith, c.in_ok-pass.ensures.within, c.place-place.ensures.shorter c.in_ok-check-2.ensures);
-}
+pub returns-clause-reads : goal.returns-clause-reads
+returns-clause-reads c = λ tells. variable_leaf c.in-Some.letter c.place.result tells
+    (λ t more goes none. c.letter.ensures t more goes none ∙ c.in-Some.is)
+    (subst (λ (l : List ℕ). ReadsWords l c.args.cursor.now c.words.new.self) (c.as_bytes.ensures.value ∙ c.letter_name.ensures) c.words.ensures.reads)
+    c.place.ensures.reads

@@ -1,12 +1,27 @@
-use Rattle.std.proofs.Common.{refl, ap, arith}
-use Rattle.mufom_build_text.specs.Pieces.{words}
-use Rattle.mufom_build_text.proofs.InfixReading.{first_of, opened_more, same_reads}
+use Rattle.std.proofs.Common.{ℕ, List, refl, subst, ◌∙◌, arith}
+use Rattle.mufom_build_text.specs.Loosely.{ReadsWords}
+use Rattle.mufom_build_text.proofs.InfixReading.{opened_more}
 use Rattle.mufom_build_text.proofs.expression.Infix.open.Goals as goal
+
+pub returns-then-is_bad-clause-reads : goal.returns-then-is_bad-clause-reads
+returns-then-is_bad-clause-reads c = λ start before. opened_more c.in-Some.frame start c.loop-frame.cursor c.words.new.self c.loop-frame.self _
+    c.in-Some.ensures.first
+    (record {
+      passed = subst (λ (l : List ℕ). ReadsWords l c.loop-frame.cursor c.words.new.self) (c.as_bytes.ensures.value ∙ c.opening.ensures)
+          c.words.ensures.reads;
+      tells = λ t more goes. c.opened.ensures.tells t more goes ∙ c.in-Some.is;
+    })
+    (c.loop-frame.invariant.reads start before) c.in_ok-push.ensures.items refl refl
 
 pub loop-frame-preserved : goal.loop-frame-preserved
 loop-frame-preserved c = record {
-  reads = λ start before. opened_more start c.loop-frame.cursor c.pass.new.cursor c.loop-frame.self _ c.in-Some.frame
-      (c.loop-frame.invariant.reads start before) (first_of c.in-Some.frame c.in-Some.ensures)
-      (same_reads (ap words c.opening.ensures) c.in_ok-pass.ensures.reads) c.in_ok-push.ensures.items refl refl;
-  within = omega (arith, c.in_ok-pass.ensures.within);
+  reads = λ start before. opened_more c.in-Some.frame start c.loop-frame.cursor c.words.new.self c.loop-frame.self _
+      c.in-Some.ensures.first
+      (record {
+        passed = subst (λ (l : List ℕ). ReadsWords l c.loop-frame.cursor c.words.new.self) (c.as_bytes.ensures.value ∙ c.opening.ensures)
+            c.words.ensures.reads;
+        tells = λ t more goes. c.opened.ensures.tells t more goes ∙ c.in-Some.is;
+      })
+      (c.loop-frame.invariant.reads start before) c.in_ok-push.ensures.items refl refl;
+  within = omega (arith, c.words.ensures.within);
 }

@@ -1,8 +1,0 @@
-use Rattle.mufom_build_text.proofs.Loosely.{reads_exactly}
-use Rattle.mufom_build_text.proofs.Reading.{◌▸◌}
-use Rattle.mufom_build.proofs.debug.read_part.Goals as goal
-
-pub returns-clause-reads : goal.returns-clause-reads
-returns-clause-reads c = reads_exactly c.words.ensures.reads ▸ reads_exactly c.number-section_type.ensures.reads
-    ▸ reads_exactly c.words-2.ensures.reads ▸ reads_exactly c.place-section.ensures.reads
-    ▸ reads_exactly c.words-3.ensures.reads ▸ c.in_ok-offset.ensures.reads

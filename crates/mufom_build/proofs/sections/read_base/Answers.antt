@@ -1,6 +1,0 @@
-use Rattle.mufom_build_text.proofs.Loosely.{reads_exactly}
-use Rattle.mufom_build_text.proofs.Reading.{◌▸◌}
-use Rattle.mufom_build.proofs.sections.read_base.Goals as goal
-
-pub returns-clause-reads : goal.returns-clause-reads
-returns-clause-reads c = reads_exactly c.words.ensures.reads ▸ reads_exactly c.number.ensures.reads

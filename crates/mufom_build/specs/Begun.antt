@@ -1,0 +1,91 @@
+-- How far a listing has been read of a text, and what the place is behind it.
+use Rattle.std.specs.Prelude.{◌≡◌, ℕ, ◌+◌, ◌≤◌, Bool, true, false, List, [], ◌∷◌, ◌++◌, length, flat_map, ◌⊎◌}
+use Rattle.std.specs.List.{AllByRecursion}
+use Rattle.mufom_text.specs.Words.{Text, line}
+use Rattle.mufom_build_text.specs.Pieces.{Piece, byte, gap, figure, position, count, name, digits, expression, block, Reading, exact, Spells, AreSpaces}
+use Rattle.mufom_build_text.specs.Pieces.{MOST_POSITION, MOST_NUMBER}
+use Rattle.mufom_build_text.specs.declared.refusal.BuildReason.{BuildReason}
+use Rattle.mufom_build_text.specs.Errors.{wrong_line, Fails, IsNamed}
+use Rattle.mufom_build_text.specs.Reads.{Place, IsRight, IsPastBlanks}
+use Rattle.mufom_build.specs.Lines.{Line}
+use Rattle.mufom_build.specs.Order.{State, start, next, row_pieces, lines_from, Run}
+use Rattle.mufom_build.specs.Refusals.{text_lines, last_line}
+use Rattle.mufom_build.specs.Rows.{Row}
+
+-- ---- texts of one line each
+
+-- no line ends in the text
+abbrev pub IsPlain : Text → Type 0
+IsPlain text = AllByRecursion (λ b. b ≡ 10 → ⊥) text
+
+-- the text is that of the line, with any spaces before and after it
+abbrev pub SpellsLine : Reading → Line → Text → Type 0
+SpellsLine reading pieces text = (before : Text) × (body : Text) × (after : Text) × (text ≡ before ++ (body ++ after)) × AreSpaces before
+    × Spells reading pieces body × AreSpaces after
+
+-- The texts are those of rows in their order, in a listing that is this far, or of spaces alone.
+abbrev pub AreRows : Reading → State → List Row → List Text → Type 0
+AreRows reading s rows [] = rows ≡ []
+AreRows reading s rows (text ∷ texts) = (AreSpaces text × AreRows reading s rows texts)
+    ⊎ ((r : Row) × (more : List Row) × (rows ≡ r ∷ more) × SpellsLine reading (row_pieces s r) text × AreRows reading (next s r) more texts)
+
+-- ---- pieces that state nothing wrong
+
+-- what the piece states is no greater than its field holds
+abbrev pub Fits : Piece → Type 0
+Fits (byte value) = Unit {0}
+Fits gap = Unit {0}
+Fits (figure most value) = value ≤ most
+Fits (position value) = value ≤ MOST_POSITION
+Fits (count value) = value ≤ MOST_NUMBER
+Fits (name bytes) = Unit {0}
+Fits (digits bytes) = Unit {0}
+Fits (expression tokens) = tokens ≤ 255
+Fits (block opened) = opened ≤ 32
+
+-- the same of all pieces of lines
+abbrev pub AllFit : List Line → Type 0
+AllFit lines = AllByRecursion (λ pieces. AllByRecursion Fits pieces) lines
+
+-- ---- places
+
+-- The place is before a line, behind these texts and the spaces that the line begins with.
+pub record IsBeforeLine (text : Text) (texts : List Text) (place : Place) : Type 0 where
+  pub lead : Text
+  pub is : text ≡ flat_map line texts ++ (lead ++ place.rest)
+  pub spaces : AreSpaces lead
+  pub first : ℕ
+  pub others : Text
+  pub some : place.rest ≡ first ∷ others
+  pub line_is : place.line ≡ length texts + 1
+  pub column_is : place.column ≡ length lead + 1
+
+-- The place is at the end of the text, and these are its texts.
+pub record IsAtEnd (text : Text) (texts : List Text) (place : Place) : Type 0 where
+  pub none : place.rest ≡ []
+  pub all : text_lines text ≡ texts
+  pub last : wrong_line place ≡ last_line text
+
+-- The rows may be the first of a listing, and are stated exactly by the text up to the place, which is before a further line or at
+-- the end of the text.
+pub record Begun (text : Text) (rows : List Row) (place : Place) : Type 0 where
+  pub texts : List Text
+  pub plain : AllByRecursion IsPlain texts
+  pub run : Run start rows
+  pub stated : AreRows exact start rows texts
+  pub fit : AllFit (lines_from start rows)
+  pub right : IsRight place
+  pub past : IsPastBlanks place.rest
+  pub here : IsBeforeLine text texts place ⊎ IsAtEnd text texts place
+
+-- ---- a line that is read
+
+-- After the line of a row is read, it is noted that the row may not come, where it may not.
+abbrev pub IsNamedRow : Bool → Place → Place → Type 0
+IsNamedRow may after noted = ((may ≡ true) × (noted ≡ after)) ⊎ ((may ≡ false) × Fails after noted)
+
+-- What is named of the line of a row, behind which the place is, and which may come or not.
+pub record IsRowNamed (may : Bool) (place : Place) (line column : ℕ) (reason : BuildReason) : Type 0 where
+  pub noted : Place
+  pub row : IsNamedRow may place noted
+  pub named : IsNamed noted line column reason
