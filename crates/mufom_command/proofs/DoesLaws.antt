@@ -9,7 +9,7 @@ use Rattle.mufom_command.specs.declared.outcome.Outcome.{Outcome}
 use Rattle.mufom_command.specs.declared.outcome.Outcome.TheVariants as outcome
 use Rattle.mufom_groups.specs.Work.{Work, gives, stops}
 use Rattle.mufom_command.specs.Stop.{Stop, words_refused, plan_refused, file_refused, past_limit, link_fact, keep_unknown, locate_fact, raw_too_long}
-use Rattle.mufom_command.specs.Stop.{text_refused}
+use Rattle.mufom_command.specs.Stop.{text_refused, listing_refused}
 use Rattle.mufom_command.specs.Commands.{Output, printed, made}
 use Rattle.mufom_command.specs.InputsRead.{ReadingStops}
 use Rattle.mufom_command.specs.Making.{IsMade, IsMadeAlone, IsPrinted}
@@ -89,6 +89,7 @@ module _ (c : Command) (work : List NamedFile → Work Stop Output) (old mid : M
     ended-answers (locate_fact maus f) is cause = (record { stop = locate_fact maus f; is = refl; of_inputs = is; cause = cause }, read-nothing)
     ended-answers (raw_too_long count) is cause = (record { stop = raw_too_long count; is = refl; of_inputs = tt; cause = cause }, read-nothing)
     ended-answers (text_refused r) is cause = (record { stop = text_refused r; is = refl; of_inputs = tt; cause = cause }, read-nothing)
+    ended-answers (listing_refused r) is cause = (record { stop = listing_refused r; is = refl; of_inputs = tt; cause = cause }, read-nothing)
     ended-answers (words_refused s) is cause = absurd is
     ended-answers (plan_refused r) is cause = absurd is
     ended-answers (file_refused n r) is cause = absurd is
@@ -100,6 +101,7 @@ module _ (c : Command) (work : List NamedFile → Work Stop Output) (old mid : M
     ended-count (locate_fact maus f) is = refl
     ended-count (raw_too_long count) is = refl
     ended-count (text_refused r) is = refl
+    ended-count (listing_refused r) is = refl
     ended-count (words_refused s) is = absurd is
     ended-count (plan_refused r) is = absurd is
     ended-count (file_refused n r) is = absurd is

@@ -6,11 +6,9 @@ use Rattle.mufom_module.specs.declared.module.Parts.{Parts}
 use Rattle.mufom_module.specs.Written.{written}
 use Rattle.mufom_make.specs.Generated.{made_modules, made_plan, summary}
 use Rattle.mufom_meaning.specs.declared.located.LocatedParts.{LocatedParts}
-use Rattle.mufom_meaning.specs.declared.located.Run.{Run}
 use Rattle.mufom_plan.specs.declared.plan.Plan.{Plan}
 use Rattle.mufom_text.specs.Show.{text_of}
 use Rattle.mufom_titxt.specs.declared.refusal.TxtRefusal.{TxtRefusal}
-use Rattle.mufom_titxt.specs.TextModules.{text_parts}
 use Rattle.mufom_titxt.specs.Texts.{txt_refusal}
 use Rattle.mufom_explain.specs.Lines.{file_line}
 use Rattle.mufom_words.specs.declared.command.Command.{Command}
@@ -21,12 +19,14 @@ use Rattle.mufom_words.specs.declared.stop.WordsStop.TheVariants as words_stop
 use Rattle.mufom_words.specs.Answer.{answer_of}
 use Rattle.mufom_words.specs.Options.{makes_file, reads_files, reads_plan}
 use Rattle.mufom_words.specs.Sound.{IsSound}
-use Rattle.mufom_groups.specs.Work.{Reached, gives, stops}
+use Rattle.mufom_groups.specs.Work.{Reached, Work, gives, stops}
 use Rattle.mufom_command.specs.declared.outcome.Outcome.{Outcome}
 use Rattle.mufom_command.specs.declared.outcome.Outcome.TheVariants as outcome
 use Rattle.mufom_command.specs.declared.outcome.Refusal.TheVariants as refusal
-use Rattle.mufom_command.specs.Stop.{Stop, text_refused}
-use Rattle.mufom_command.specs.Commands.{IsHeld, Output, form_of, helping, listing, located, made, making, printed, reading_text, runs_of_text, runs_unless, text_in}
+use Rattle.mufom_command.specs.Stop.{Stop, words_refused, plan_refused, file_refused, past_limit, link_fact, keep_unknown, locate_fact, raw_too_long}
+use Rattle.mufom_command.specs.Stop.{text_refused, listing_refused}
+use Rattle.mufom_command.specs.Commands.{IsHeld, Output, form_of, helping, listing, located, made, making, module_of_text, parts_of_listing}
+use Rattle.mufom_command.specs.Commands.{parts_of_txt, printed, runs_unless, text_in}
 use Rattle.mufom_command.specs.Commands.{work_of, writes_module}
 use Rattle.mufom_command.specs.Explain.{EndsBy, EndsFor}
 use Rattle.mufom_command.specs.ExplainText.{explain_text}
@@ -50,6 +50,33 @@ use Rattle.mufom_command.proofs.WorkLaws.{listing-begins, listing-gives, module-
 -- a command that reads files has one
 pub some-file : (c : Command) → IsSound c → reads_files c.verb ≡ true → 0 < length c.files
 some-file c sound of_files = let some = sound.files.some of_files in let within = sound.tree.within in omega (arith, some, within)
+
+-- what is wrong with a text
+abbrev pub IsOfText : Stop → Type 0
+IsOfText (text_refused r) = Unit {0}
+IsOfText (listing_refused r) = Unit {0}
+IsOfText _ = ⊥
+
+runs-of-text : (o : Option TxtRefusal) (text : List ℕ) (s : Stop) → runs_unless o text (stops s) → IsOfText s
+runs-of-text None text s ends = absurd ends
+runs-of-text (Some r) text s ends = subst IsOfText (sym ends) tt
+
+-- the ends of a TI-TXT text, and those of a listing
+pub txt-of-text : (maus : ℕ) (text : List ℕ) (s : Stop) → parts_of_txt maus text (stops s) → IsOfText s
+txt-of-text maus text s (inl ends) = runs-of-text (txt_refusal text (8 * maus)) text s ends
+txt-of-text maus text s (inr (runs, rows, never)) = absurd never
+
+pub listing-of-text : (text : List ℕ) (s : Stop) → parts_of_listing text (stops s) → IsOfText s
+listing-of-text text (listing_refused r) ends = tt
+listing-of-text text (text_refused r) ends = absurd ends
+listing-of-text text (link_fact f) ends = absurd ends
+listing-of-text text (keep_unknown name) ends = absurd ends
+listing-of-text text (locate_fact maus f) ends = absurd ends
+listing-of-text text (raw_too_long count) ends = absurd ends
+listing-of-text text (words_refused w) ends = absurd ends
+listing-of-text text (plan_refused r) ends = absurd ends
+listing-of-text text (file_refused n r) ends = absurd ends
+listing-of-text text (past_limit n) ends = absurd ends
 
 -- this was not told for lack of memory
 abbrev Told : Outcome → Outcome → Type 0
@@ -110,17 +137,21 @@ module _ (words : List (List ℕ)) (c : Command) (given : answer_of words ≡ Ok
     read-lists (inl is) = list-read verb.Show is refl refl refl (λ ms. flat_map (text_of (form_of c)) ms) (λ files r comes. comes)
     read-lists (inr is) = list-read verb.Check is refl refl refl check_text (λ files r comes. comes)
 
-    -- ---- `fromtxt`
+    -- ---- `fromtxt` and `build`
 
-    module _ (same : c.verb ≡ verb.FromTxt) (name : List ℕ) (one : c.files ≡ name ∷ []) where
+    -- a command that makes the module of a text
+    module _ (v : Verb) (same : c.verb ≡ v) (reads : reads_files v ≡ true) (plain : reads_plan v ≡ false) (makes : makes_file v ≡ true)
+        (parts_of : List ℕ → Work Stop Parts)
+        (is_text : (files : List NamedFile) (r : Reached Stop Output) → module_of_text parts_of files c r → work_of v files c r)
+        (name : List ℕ) (one : c.files ≡ name ∷ []) where
       text_files : reads_files c.verb ≡ true
-      text_files = ap reads_files same
+      text_files = ap reads_files same ∙ reads
 
       no_plan : c.plan ≡ None
-      no_plan = sound.options.no_plan (ap reads_plan same)
+      no_plan = sound.options.no_plan (ap reads_plan same ∙ plain)
 
-      as_text : (files : List NamedFile) (r : Reached Stop Output) → reading_text files c r → work_of c.verb files c r
-      as_text files r is = subst (λ (x : Verb). work_of x files c r) (sym same) is
+      as_text : (files : List NamedFile) (r : Reached Stop Output) → module_of_text parts_of files c r → work_of c.verb files c r
+      as_text files r is = subst (λ (x : Verb). work_of x files c r) (sym same) (is_text files r is)
 
       pub unread-text : (stop : Outcome) → TextStops name (call_between old mid before between) stop
           → OnSome mid.opened (GrowsBy old.opened mid.opened (name ∷ [])) → (details : List ℕ) → IsInputDetail c stop details → (result : Outcome)
@@ -136,61 +167,64 @@ module _ (words : List (List ℕ)) (c : Command) (given : answer_of words ≡ Ok
       module _ (text : List ℕ) (opened : GrowsBy old.opened mid.opened (name ∷ []))
           (read : IfSome old.files (λ fs. text_in fs (name ∷ []) (gives text))) where
         kept : IfSome old.files (λ fs. text_in fs c.files (gives text))
-        kept = is-read c name no_plan one old mid before between only text_files text opened read
+        kept = is-read c name no_plan one old mid before between only parts_of text_files text opened read
+
+        -- an end of the text has its cause over the files
+        caused : (s : Stop) → parts_of text (stops s) → OverFiles (reads_files c.verb) old.files (λ fs. work_of c.verb fs c (stops s))
+        caused s comes = over-map text_files (λ fs. text_in fs c.files (gives text)) (λ fs. work_of c.verb fs c (stops s)) old.files
+            (λ fs there. as_text fs (stops s) (inr (text, there, inl comes))) kept
 
         -- the text was refused
-        refused-ends : (details : List ℕ) (s : Stop) (o : Option TxtRefusal) → runs_unless o text (stops s) → runs_of_text c.maus text (stops s)
-            → IsInputDetail c (stop_outcome s) details
+        refused-ends : (details : List ℕ) (s : Stop) → IsOfText s → parts_of text (stops s) → IsInputDetail c (stop_outcome s) details
             → EndsFor c (λ files. work_of c.verb files c) (call_between old new before now) (stop_outcome s) details
-        refused-ends details s None ends comes is = absurd ends
-        refused-ends details s (Some r) ends comes is =
-            subst (λ (x : Stop). EndsFor c (λ files. work_of c.verb files c) (call_between old new before now) (stop_outcome x) details) (sym ends) (
-              record {
-                stop = text_refused r;
-                is = refl;
-                of_inputs = tt;
-                cause = over-map text_files (λ fs. text_in fs c.files (gives text)) (λ fs. work_of c.verb fs c (stops (text_refused r))) old.files
-                    (λ fs there. as_text fs (stops (text_refused r))
-                    (inr (text, there, inl (subst (λ (x : Stop). runs_of_text c.maus text (stops x)) ends comes)))) kept;
-              },
-              record {
-                there = some-file c sound text_files;
-                are = subst (λ (x : Stop). IsInputDetail c (stop_outcome x) details) ends is;
-              },
-            )
+        refused-ends details (text_refused r) of_text comes is =
+            (record { stop = text_refused r; is = refl; of_inputs = tt; cause = caused (text_refused r) comes }, record { there = some-file c sound text_files; are = is })
+        refused-ends details (listing_refused r) of_text comes is = (
+          record { stop = listing_refused r; is = refl; of_inputs = tt; cause = caused (listing_refused r) comes },
+          record { there = some-file c sound text_files; are = is },
+        )
+        refused-ends details (link_fact f) of_text comes is = absurd of_text
+        refused-ends details (keep_unknown kept) of_text comes is = absurd of_text
+        refused-ends details (locate_fact maus f) of_text comes is = absurd of_text
+        refused-ends details (raw_too_long count) of_text comes is = absurd of_text
+        refused-ends details (words_refused w) of_text comes is = absurd of_text
+        refused-ends details (plan_refused r) of_text comes is = absurd of_text
+        refused-ends details (file_refused n r) of_text comes is = absurd of_text
+        refused-ends details (past_limit n) of_text comes is = absurd of_text
 
-        text-refused : (answer : Outcome) (details : List ℕ) → IsInputDetail c answer details → EndsAt (runs_of_text c.maus text) answer
-            → answer ≢ outcome.NoMemory → EndsFor c (λ files. work_of c.verb files c) (call_between old new before now) answer details
-        text-refused answer details is (inl none) memory = absurd (memory none)
-        text-refused answer details is (inr (s, of_text, same, comes)) memory =
-            subst (λ (o : Outcome). EndsFor c (λ files. work_of c.verb files c) (call_between old new before now) o details) (sym same)
-            (refused-ends details s (txt_refusal text (8 * c.maus)) comes comes (subst (λ (o : Outcome). IsInputDetail c o details) same is))
+        text-refused : ((s : Stop) → parts_of text (stops s) → IsOfText s) → (answer : Outcome) (details : List ℕ) → IsInputDetail c answer details
+            → EndsAt (parts_of text) answer → answer ≢ outcome.NoMemory
+            → EndsFor c (λ files. work_of c.verb files c) (call_between old new before now) answer details
+        text-refused of_text answer details is (inl none) memory = absurd (memory none)
+        text-refused of_text answer details is (inr (s, of_modules, named, comes)) memory =
+            subst (λ (o : Outcome). EndsFor c (λ files. work_of c.verb files c) (call_between old new before now) o details) (sym named)
+            (refused-ends details s (of_text s comes) comes (subst (λ (o : Outcome). IsInputDetail c o details) named is))
 
-        pub refused-text : (answer : Outcome) → EndsAt (runs_of_text c.maus text) answer → (details : List ℕ) → IsInputDetail c answer details
+        pub refused-text : ((s : Stop) → parts_of text (stops s) → IsOfText s) → (answer : Outcome) → EndsAt (parts_of text) answer
+            → (details : List ℕ) → IsInputDetail c answer details
             → (result : Outcome) → IsPrinted (explain_text words answer details) (call_between mid new between now) result → Told answer result
             → Explains words (call_between old new before now) result
-        refused-text answer ends details is result put told =
+        refused-text of_text answer ends details is result put told =
             command-explains words c given old mid before between only new now prints answer
-            (text-ends c name no_plan one old mid before between only text_files text opened read answer ends).opens details
-            (λ memory. text-refused answer details is ends memory) result put told
+            (text-ends c name no_plan one old mid before between only parts_of text_files text opened read answer ends).opens details
+            (λ memory. text-refused of_text answer details is ends memory) result put told
 
         -- it has a module
-        pub read-text : (object : Parts) → (runs : List Run) × runs_of_text c.maus text (gives runs) × (object ≡ text_parts c.maus runs) → IsHeld object
+        pub read-text : (object : Parts) → parts_of text (gives object) → IsHeld object
             → (result : Outcome) → IsPrinted (explain_text words outcome.Done []) (call_between mid new between now) result
             → Explains words (call_between old new before now) result
-        read-text object (runs, rows, are) held result put = by c.out refl (sound.options.out (ap makes_file same)) where
+        read-text object is held result put = by c.out refl (sound.options.out (ap makes_file same ∙ makes)) where
           by : (o : Option (List ℕ)) → c.out ≡ o → IsSome o → Explains words (call_between old new before now) result
           by None none some = absurd cc
           by (Some file) named some =
-              let output : Output = made file (written (text_parts c.maus runs)) in
+              let output : Output = made file (written object) in
               done-explains
               (opens-read c (λ files. work_of c.verb files c) old mid before between only
-              (all-opened c name no_plan one old mid before between only text_files text opened read) mid between outcome.Done refl refl) output
+              (all-opened c name no_plan one old mid before between only parts_of text_files text opened read) mid between outcome.Done refl refl) output
               (record {
                 place = sym named;
                 cause = over-map text_files (λ fs. text_in fs c.files (gives text)) (λ fs. work_of c.verb fs c (gives output)) old.files
-                    (λ fs there. as_text fs (gives output)
-                    (text, there, (runs, rows, module-gives c file (text_parts c.maus runs) (subst IsHeld are held) named))) kept;
+                    (λ fs there. as_text fs (gives output) (text, there, (object, is, module-gives c file object held named))) kept;
               }) result put
 
 -- ---- commands that read nothing

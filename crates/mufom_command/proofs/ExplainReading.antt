@@ -20,7 +20,7 @@ use Rattle.mufom_command.specs.declared.outcome.Outcome.{Outcome}
 use Rattle.mufom_command.specs.declared.outcome.Outcome.TheVariants as outcome
 use Rattle.mufom_command.specs.declared.outcome.Refusal.TheVariants as refusal
 use Rattle.mufom_command.specs.Stop.{Stop, words_refused, plan_refused, file_refused, past_limit, link_fact, keep_unknown, locate_fact, raw_too_long}
-use Rattle.mufom_command.specs.Stop.{text_refused}
+use Rattle.mufom_command.specs.Stop.{text_refused, listing_refused}
 use Rattle.mufom_command.specs.Commands.{Output, modules_in, plan_by, plan_in, text_in, unless_past_limit, work_of}
 use Rattle.mufom_command.specs.Explain.{EndsBy, EndsFor}
 use Rattle.mufom_command.specs.ExplainText.{explain_text}
@@ -61,6 +61,7 @@ modules-end files c (keep_unknown name) ends = absurd ends
 modules-end files c (locate_fact maus f) ends = absurd ends
 modules-end files c (raw_too_long count) ends = absurd ends
 modules-end files c (text_refused r) ends = absurd ends
+modules-end files c (listing_refused r) ends = absurd ends
 
 pub inputs-end : (c : Command) (files : List NamedFile) (s : Stop) → inputs_in files c (stops s) → IsOfReading s
 inputs-end c files s (inl ends) = plan-ends files c.plan s ends
@@ -99,6 +100,7 @@ text-names plan name old new before now (outcome.Refused (refusal.Locate l maus)
 text-names plan name old new before now (outcome.Refused (refusal.Keep kept)) why = tt
 text-names plan name old new before now (outcome.Refused (refusal.Bin count)) why = tt
 text-names plan name old new before now (outcome.Refused (refusal.Text r)) why = tt
+text-names plan name old new before now (outcome.Refused (refusal.Build r)) why = tt
 text-names plan name old new before now (outcome.ReadFault input.Plan) why = absurd why
 text-names plan name old new before now (outcome.ReadFault (input.File n)) why = tt
 text-names plan name old new before now outcome.Done why = tt
@@ -124,6 +126,7 @@ module _ {A : Type 0} (reading : List NamedFile → Work Stop A) (ends : (files 
     stop-details (past_limit n) opens named of_inputs cause details is =
         record { there = file-there c n opens.count opens.exact opens.within; are = is }
     stop-details (text_refused r) opens named of_inputs cause details is = record { there = some; are = is }
+    stop-details (listing_refused r) opens named of_inputs cause details is = record { there = some; are = is }
     stop-details (link_fact f) opens named of_inputs cause details is =
         never-known old.files (link_fact f) (λ fs. lines_of_link fs c f (gives details)) (λ never. never) cause
     stop-details (keep_unknown name) opens named of_inputs cause details is =

@@ -21,7 +21,7 @@ use Rattle.mufom_explain.specs.Details.{link_details, locate_details, name_detai
 use Rattle.mufom_explain.specs.Lines.{file_line, plan_line}
 use Rattle.mufom_text.specs.Words.{Text}
 use Rattle.mufom_command.specs.Stop.{Stop, words_refused, plan_refused, file_refused, past_limit, link_fact, keep_unknown, locate_fact, raw_too_long}
-use Rattle.mufom_command.specs.Stop.{text_refused}
+use Rattle.mufom_command.specs.Stop.{text_refused, listing_refused}
 use Rattle.mufom_command.specs.Commands.{Output, kept_of, modules_in, plan_in, printed, work_by}
 use Rattle.mufom_command.specs.Contract.{run_by, run_of, work_with}
 use Rattle.mufom_command.specs.Explain.{HasLines, IsTextOn, explaining}
@@ -101,6 +101,7 @@ module _ (files : List NamedFile) (bytes : HoldBytes files) (c : Command) where
   details-single (file_refused n r) a b one other = file-line-single n a b one other
   details-single (past_limit n) a b one other = file-line-single n a b one other
   details-single (text_refused r) a b one other = file-line-single 0 a b one other
+  details-single (listing_refused r) a b one other = file-line-single 0 a b one other
   details-single (link_fact f) a b one other = value-same a b (link-single f (gives a) (gives b) one other)
   details-single (keep_unknown name) a b one other = value-same a b (name-single name (gives a) (gives b) one other)
   details-single (locate_fact maus f) a b one other = value-same a b (locate-single maus f (gives a) (gives b) one other)

@@ -233,6 +233,7 @@ module _ (reads_debug : Bool) where
     files_stop (outcome.Refused (refusal.Bin count)) split place why = absurd why
     files_stop (outcome.Refused (refusal.Keep kept)) split place why = absurd why
     files_stop (outcome.Refused (refusal.Text r)) split place why = absurd why
+    files_stop (outcome.Refused (refusal.Build r)) split place why = absurd why
     files_stop (outcome.Refused (refusal.Read i r)) split place why =
         at_file (λ limit bytes. IsRefusedWithin reads_debug limit bytes r.offset r.reason) i old.files split place why.0 so_far.files
         (subst (λ (o : Option (List NamedFile)). FileHas name o (λ bytes. IsRefusedWithin reads_debug room bytes r.offset r.reason)) files_same why.1)
@@ -260,6 +261,7 @@ module _ (reads_debug : Bool) where
     opened_count (outcome.Refused (refusal.Bin count)) why = absurd why
     opened_count (outcome.Refused (refusal.Keep kept)) why = absurd why
     opened_count (outcome.Refused (refusal.Text r)) why = absurd why
+    opened_count (outcome.Refused (refusal.Build r)) why = absurd why
     opened_count (outcome.Refused (refusal.Read i r)) why = let is = why.0 in omega (arith, is)
     opened_count (outcome.Refused (refusal.InputLimit i)) why = let is = why.0 in omega (arith, is)
     opened_count (outcome.Refused (refusal.TooManyFiles count)) why = absurd why

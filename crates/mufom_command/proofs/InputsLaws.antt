@@ -82,6 +82,7 @@ module _ (c : Command) (old mid : Meaning) (before between : Faults) (only : Onl
   plan-stops (outcome.Refused (refusal.Bin count)) why = absurd why
   plan-stops (outcome.Refused (refusal.Keep kept)) why = absurd why
   plan-stops (outcome.Refused (refusal.Text r)) why = absurd why
+  plan-stops (outcome.Refused (refusal.Build r)) why = absurd why
   plan-stops (outcome.ReadFault (input.File n)) why = absurd why
   plan-stops (outcome.Refused (refusal.Read n r)) why = absurd why
   plan-stops (outcome.Refused (refusal.InputLimit n)) why = absurd why
@@ -105,6 +106,7 @@ module _ (c : Command) (old mid : Meaning) (before between : Faults) (only : Onl
   plan-count (outcome.Refused (refusal.Bin count)) why = absurd why
   plan-count (outcome.Refused (refusal.Keep kept)) why = absurd why
   plan-count (outcome.Refused (refusal.Text r)) why = absurd why
+  plan-count (outcome.Refused (refusal.Build r)) why = absurd why
   plan-count (outcome.Refused (refusal.Read n r)) why = absurd why
   plan-count (outcome.Refused (refusal.InputLimit n)) why = absurd why
   plan-count (outcome.Refused (refusal.TooManyFiles n)) why = absurd why
@@ -140,6 +142,7 @@ module _ (c : Command) (old mid : Meaning) (before between : Faults) (only : Onl
   plan-named (outcome.Refused (refusal.Bin count)) why = tt
   plan-named (outcome.Refused (refusal.Keep kept)) why = tt
   plan-named (outcome.Refused (refusal.Text r)) why = tt
+  plan-named (outcome.Refused (refusal.Build r)) why = tt
   plan-named (outcome.Refused (refusal.Read n r)) why = tt
   plan-named (outcome.Refused (refusal.InputLimit n)) why = tt
   plan-named (outcome.Refused (refusal.TooManyFiles n)) why = tt
@@ -159,6 +162,7 @@ module _ (c : Command) (old mid : Meaning) (before between : Faults) (only : Onl
   files-named new now (outcome.Refused (refusal.Bin count)) why = tt
   files-named new now (outcome.Refused (refusal.Keep kept)) why = tt
   files-named new now (outcome.Refused (refusal.Text r)) why = tt
+  files-named new now (outcome.Refused (refusal.Build r)) why = tt
   files-named new now (outcome.Refused (refusal.Read n r)) why = tt
   files-named new now (outcome.Refused (refusal.InputLimit n)) why = tt
   files-named new now (outcome.Refused (refusal.TooManyFiles n)) why = tt
@@ -216,6 +220,7 @@ module _ (c : Command) (old mid : Meaning) (before between : Faults) (only : Onl
     files-stops (outcome.Refused (refusal.Bin count)) why opens = absurd why
     files-stops (outcome.Refused (refusal.Keep kept)) why opens = absurd why
     files-stops (outcome.Refused (refusal.Text r)) why opens = absurd why
+    files-stops (outcome.Refused (refusal.Build r)) why opens = absurd why
 
   files-count : (stop : Outcome) (count : ℕ) → IsFileCount stop count → IsOpenedCount c stop (length (option_to_list c.plan) + count)
   files-count (outcome.Refused (refusal.Read n r)) count is = omega (arith, is)
@@ -225,6 +230,7 @@ module _ (c : Command) (old mid : Meaning) (before between : Faults) (only : Onl
   files-count (outcome.Refused (refusal.Bin n)) count is = absurd is
   files-count (outcome.Refused (refusal.Keep kept)) count is = absurd is
   files-count (outcome.Refused (refusal.Text r)) count is = absurd is
+  files-count (outcome.Refused (refusal.Build r)) count is = absurd is
   files-count (outcome.Refused (refusal.Plan r)) count is = absurd is
   files-count (outcome.Refused (refusal.TooManyFiles n)) count is = absurd is
   files-count (outcome.Refused (refusal.TooDeep n)) count is = absurd is

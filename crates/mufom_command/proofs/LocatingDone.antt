@@ -104,6 +104,7 @@ module _ (files : List NamedFile) (c : Command) (plan : Plan) (flat : List Parts
   work-exact verb.Version never may = absurd never
   work-exact verb.Explain never may = absurd never
   work-exact verb.FromTxt never may = absurd never
+  work-exact verb.Build never may = absurd never
   work-exact verb.Locate is may = exactly (λ ms plan kept. absolute_file) (λ kept r keeps there s ends. module-never c.out (absolute_of r) s ends)
   work-exact verb.Txt is may = exactly (λ ms plan kept. txt_file) (λ kept r keeps there s ends. writes-never c.out (txt_text r.runs) s ends)
   work-exact verb.Dump is may = exactly (λ ms plan kept. printed_image) (λ kept r keeps there s ends. ends)

@@ -88,6 +88,7 @@ module _ (name bytes : List ℕ) where
   no-plan old new before now has (outcome.Refused (refusal.Bin count)) is = absurd is
   no-plan old new before now has (outcome.Refused (refusal.Keep kept)) is = absurd is
   no-plan old new before now has (outcome.Refused (refusal.Text r)) is = absurd is
+  no-plan old new before now has (outcome.Refused (refusal.Build r)) is = absurd is
   no-plan old new before now has (outcome.Refused (refusal.InputLimit n)) is = absurd is
   no-plan old new before now has (outcome.Refused (refusal.TooManyFiles n)) is = absurd is
   no-plan old new before now has (outcome.Refused (refusal.TooDeep n)) is = absurd is

@@ -41,7 +41,16 @@ use Rattle.mufom_groups.proofs.Works.{sure-single, stop_at-single, one_with-sing
 use Rattle.mufom_words.specs.Explain.{explained}
 use Rattle.mufom_words.specs.Options.{explains, reads_files}
 use Rattle.mufom_command.specs.Stop.{Stop, words_refused, plan_refused, file_refused, past_limit, link_fact, keep_unknown, locate_fact, raw_too_long}
-use Rattle.mufom_command.specs.Stop.{text_refused}
+use Rattle.mufom_command.specs.Stop.{text_refused, listing_refused}
+use Rattle.mufom_build.specs.declared.refusal.BuildRefusal.TheVariants as build
+use Rattle.mufom_build.proofs.Excluded.{built_not_refused, defect_not_built, defect_not_refused, one_defect}
+use Rattle.mufom_build.proofs.OneModule.{one_listing}
+use Rattle.mufom_build.proofs.Shapes.{loose_lines}
+use Rattle.mufom_build.specs.Lines.{Build, listing_lines}
+use Rattle.mufom_build.specs.Refusals.{HasDefect, IsRefusedAt}
+use Rattle.mufom_build_text.specs.declared.refusal.BuildReason.{BuildReason}
+use Rattle.mufom_module.specs.declared.module.Defect.{Defect}
+use Rattle.mufom_build.proofs.OneRefusal.{one_refusal}
 use Rattle.mufom_command.specs.Inputs.{HaveOneVerdict, Verdict, accepted, refused, past_limit as past, ComeTo}
 use Rattle.mufom_command.specs.Text.{Text, check_text, hit_text}
 use Rattle.mufom_numbers.specs.declared.limits.TheConstants.{MOST_FILE_BYTES}
@@ -56,7 +65,7 @@ use Rattle.mufom_titxt.specs.Written.{txt_text}
 use Rattle.mufom_command.specs.Commands.{Kept, Output, all_of, printed, made, form_of, prints, writes, writes_module, file_in, kept_of, kept_unless, plan_by}
 use Rattle.mufom_command.specs.Commands.{plan_in, modules_in, maus_of, located, located_unless, linked_file, locating, locating_kept, absolute_file}
 use Rattle.mufom_command.specs.Commands.{map_with, mapped_kept, printed_hit, printed_image, rest_of, rest_of_module}
-use Rattle.mufom_command.specs.Commands.{printed_map, raw_file, reading_text, runs_of_text, runs_unless, text_in, txt_file, unless_past_limit}
+use Rattle.mufom_command.specs.Commands.{module_of_text, parts_of_listing, parts_of_txt, printed_map, raw_file, runs_of_text, runs_unless, text_in, txt_file, unless_past_limit}
 use Rattle.mufom_command.specs.Commands.{unless_too_long, listing, linking, linking_of, work_of, work_by}
 use Rattle.mufom_command.specs.Contract.{Answers, AnswersBy, AnswersWith, run_by, run_of, work_with}
 use Rattle.mufom_command.specs.Explain.{ExplainsTo, explaining}
@@ -89,6 +98,7 @@ by_verdict files c (stops (locate_fact maus f)) is = absurd is
 by_verdict files c (stops (keep_unknown name)) is = absurd is
 by_verdict files c (stops (raw_too_long count)) is = absurd is
 by_verdict files c (stops (text_refused r)) is = absurd is
+by_verdict files c (stops (listing_refused r)) is = absurd is
 
 -- files come to one verdict
 pub one-verdict : HaveOneVerdict
@@ -193,12 +203,58 @@ runs_of_text-single maus text = by (txt_refusal text (8 * maus)) where
   by None = one_with-single (AreRowsOf (txt_cells text)) (λ runs other is_one is_other. rows_are_single (txt_cells text) runs other is_one is_other)
   by (Some r) = stop_at-single (text_refused r)
 
-reading_text-single : (files : List NamedFile) (c : Command) → IsSingle (reading_text files c)
-reading_text-single files c =
-    then-single (text_in files c.files) (λ text. runs_of_text c.maus text >>= λ runs. writes_module c.out (text_parts c.maus runs))
-    (text_in-single files c.files) λ text.
-    then-single (runs_of_text c.maus text) (λ runs. writes_module c.out (text_parts c.maus runs)) (runs_of_text-single c.maus text) λ runs.
-    writes_module-single c.out (text_parts c.maus runs)
+parts_of_txt-single : (maus : ℕ) (text : List ℕ) → IsSingle (parts_of_txt maus text)
+parts_of_txt-single maus text = then-single (runs_of_text maus text) (λ runs. sure (text_parts maus runs)) (runs_of_text-single maus text) λ runs.
+    sure-single (text_parts maus runs)
+
+-- What a listing comes to: the parts of its module, its first error, or their defect.
+abbrev ByListing : List ℕ → Reached Stop Parts → Type 0
+ByListing text x = ((m : Parts) × (gives m ≡ x) × Build text m)
+    ⊎ (((row : ℕ) × (column : ℕ) × (reason : BuildReason) × (stops (listing_refused (build.At row column reason)) ≡ x) × IsRefusedAt text row column reason)
+    ⊎ ((defect : Defect) × (stops (listing_refused (build.Module defect)) ≡ x) × HasDefect text defect))
+
+by_listing : (text : List ℕ) (x : Reached Stop Parts) → parts_of_listing text x → ByListing text x
+by_listing text (gives m) is = inl (m, refl, is)
+by_listing text (stops (listing_refused (build.At row column reason))) is = inr (inl (row, column, reason, refl, is))
+by_listing text (stops (listing_refused (build.Module defect))) is = inr (inr (defect, refl, is))
+by_listing text (stops (listing_refused build.NoMemory)) is = absurd is
+by_listing text (stops (words_refused s)) is = absurd is
+by_listing text (stops (plan_refused r)) is = absurd is
+by_listing text (stops (file_refused n r)) is = absurd is
+by_listing text (stops (past_limit n)) is = absurd is
+by_listing text (stops (link_fact f)) is = absurd is
+by_listing text (stops (keep_unknown name)) is = absurd is
+by_listing text (stops (locate_fact maus f)) is = absurd is
+by_listing text (stops (raw_too_long count)) is = absurd is
+by_listing text (stops (text_refused r)) is = absurd is
+
+one-build : (text : List ℕ) (m n : Parts) → Build text m → Build text n → m ≡ n
+one-build text m n one other =
+    one_listing text m n (loose_lines (listing_lines m) text one.listed) (loose_lines (listing_lines n) text other.listed)
+
+parts_of_listing-single : (text : List ℕ) → IsSingle (parts_of_listing text)
+parts_of_listing-single text x y is_x is_y = both (by_listing text x is_x) (by_listing text y is_y) where
+  both : ByListing text x → ByListing text y → x ≡ y
+  both (inl (m, e, p)) (inl (n, f, q)) = sym e ∙ (ap gives (one-build text m n p q) ∙ f)
+  both (inl (m, e, p)) (inr (inl (row, column, reason, f, q))) = absurd (built_not_refused text m row column reason p q)
+  both (inl (m, e, p)) (inr (inr (defect, f, q))) = absurd (defect_not_built text m defect p q)
+  both (inr (inl (row, column, reason, e, p))) (inl (m, f, q)) = absurd (built_not_refused text m row column reason q p)
+  both (inr (inl (row, column, reason, e, p))) (inr (inl (other_row, other, kind, f, q))) =
+      let same = one_refusal text row column other_row other reason kind p q in
+      let rows = same.0 in let columns = same.1 in let reasons = same.2 in
+      sym e ∙ ((λ i. stops (listing_refused (build.At (rows i) (columns i) (reasons i)))) ∙ f)
+  both (inr (inl (row, column, reason, e, p))) (inr (inr (defect, f, q))) = absurd (defect_not_refused text defect row column reason q p)
+  both (inr (inr (defect, e, p))) (inl (m, f, q)) = absurd (defect_not_built text m defect q p)
+  both (inr (inr (defect, e, p))) (inr (inl (row, column, reason, f, q))) = absurd (defect_not_refused text defect row column reason p q)
+  both (inr (inr (defect, e, p))) (inr (inr (other, f, q))) =
+      sym e ∙ (ap (λ (d : Defect). stops (listing_refused (build.Module d))) (one_defect text defect other p q) ∙ f)
+
+module_of_text-single : (parts_of : List ℕ → Work Stop Parts) → ((text : List ℕ) → IsSingle (parts_of text)) → (files : List NamedFile) (c : Command)
+    → IsSingle (module_of_text parts_of files c)
+module_of_text-single parts_of single files c =
+    then-single (text_in files c.files) (λ text. parts_of text >>= λ parts. writes_module c.out parts) (text_in-single files c.files) λ text.
+    then-single (parts_of text) (λ parts. writes_module c.out parts) (single text) λ parts.
+    writes_module-single c.out parts
 
 printed_map-single : (c : Command) (ms : List Parts) (plan : Plan) (kept : Kept) (r : LocatedParts) → IsSingle (printed_map ms plan kept c r)
 printed_map-single c ms plan kept r =
@@ -240,7 +296,8 @@ module _ (files : List NamedFile) (bytes : HoldBytes files) (c : Command) where
       (λ plan flat. locating-single c plan flat printed_hit (λ r. sure-single (printed (hit_text r.maus (hit_at r.debug c.at)))))
   work_of-single verb.Bin = linking-single (locating raw_file) (λ plan flat. locating-single c plan flat raw_file (raw_file-single c))
   work_of-single verb.Txt = linking-single (locating txt_file) (λ plan flat. locating-single c plan flat txt_file (λ r. writes-single c.out (txt_text r.runs)))
-  work_of-single verb.FromTxt = reading_text-single files c
+  work_of-single verb.FromTxt = module_of_text-single (parts_of_txt c.maus) (parts_of_txt-single c.maus) files c
+  work_of-single verb.Build = module_of_text-single parts_of_listing parts_of_listing-single files c
   work_of-single verb.Help = sure-single (printed (unwrap_or c.help []))
   work_of-single verb.Version = sure-single (printed (unwrap_or c.help []))
   work_of-single verb.Explain = nowhere-single

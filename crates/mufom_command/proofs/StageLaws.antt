@@ -147,6 +147,7 @@ module _ (c : Command) (plan : Plan) (ms leaves : List Parts) (means : MeansTheS
   put_out-alike verb.Bin = of_location raw_file
   put_out-alike verb.Txt = of_location txt_file
   put_out-alike verb.FromTxt = same-work nowhere
+  put_out-alike verb.Build = same-work nowhere
   put_out-alike verb.Help = same-work nowhere
   put_out-alike verb.Version = same-work nowhere
   put_out-alike verb.Explain = same-work nowhere
@@ -197,6 +198,7 @@ runs-of-stages files c plan flat leaves bytes is_linking leads came = by_verb c.
   by_verb verb.Bin is_one = by_linking (locating raw_file) (alike verb.Bin)
   by_verb verb.Txt is_one = by_linking (locating txt_file) (alike verb.Txt)
   by_verb verb.FromTxt never = absurd never
+  by_verb verb.Build never = absurd never
   by_verb verb.Help never = absurd never
   by_verb verb.Version never = absurd never
   by_verb verb.Explain never = absurd never

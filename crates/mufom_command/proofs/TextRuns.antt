@@ -1,4 +1,4 @@
--- What `fromtxt` has done: it read a text or was stopped, and it made the file of a module or was ended by the text.
+-- What `fromtxt` and `build` have done: they read a text or were stopped, and made the file of a module or were ended by the text.
 use Rattle.std.proofs.Common.{◌≡◌, ◌⊎◌, ℕ, ◌+◌, ◌*◌, ◌<◌, ◌≤◌, Bool, true, false, nat_lt, List, [], ◌∷◌, ◌++◌, length, take, not, Option, Some, None}
 use Rattle.std.proofs.Common.{IfSome, IsSome, OnSome, option_to_list, refl, sym, ap, subst, ◌∙◌, inl, inr, arith}
 use Rattle.std.proofs.lemmas.Bool.{lt-ltb, ltb-true}
@@ -24,7 +24,7 @@ use Rattle.mufom_command.specs.declared.outcome.Refusal.TheVariants as refusal
 use Rattle.mufom_command.specs.Stop.{Stop, past_limit, text_refused}
 use Rattle.mufom_command.specs.Inputs.{ComeTo, accepted}
 use Rattle.mufom_command.specs.FilesRead.{FileHas}
-use Rattle.mufom_command.specs.Commands.{IsHeld, Output, made, plan_in, reading_text, runs_of_text, runs_unless, text_in, unless_past_limit}
+use Rattle.mufom_command.specs.Commands.{IsHeld, Output, made, module_of_text, parts_of_txt, plan_in, runs_of_text, runs_unless, text_in, unless_past_limit}
 use Rattle.mufom_command.specs.Commands.{writes_module}
 use Rattle.mufom_command.specs.InputsRead.{IsEnoughOf, ReadingStops, TextStops}
 use Rattle.mufom_command.specs.Making.{IsMadeAlone}
@@ -85,6 +85,11 @@ module _ (maus : ℕ) (text : List ℕ) where
   pub text-refusal : (r : TxtRefusal) → txt_refusal text (8 * maus) ≡ Some r → EndsAt (runs_of_text maus text) (outcome.Refused (refusal.Text r))
   text-refusal r is = inr (text_refused r, tt, refl, subst (λ (o : Option TxtRefusal). runs_unless o text (stops (text_refused r))) (sym is) refl)
 
+-- an end of the runs of a text is one of its module
+pub parts-end : (maus : ℕ) (text : List ℕ) (o : Outcome) → EndsAt (runs_of_text maus text) o → EndsAt (parts_of_txt maus text) o
+parts-end maus text o (inl none) = inl none
+parts-end maus text o (inr (s, of_text, is, ends)) = inr (s, of_text, is, inl ends)
+
 -- ---- the command
 
 to-all : {A : Type 0} (P : A → Type 0) (o : Option A) → ((a : A) → P a) → IfSome o P
@@ -139,6 +144,7 @@ module _ (c : Command) (name : List ℕ) (no_plan : c.plan ≡ None) (one : c.fi
   reading-stops (outcome.Refused (refusal.Bin count)) why = absurd why
   reading-stops (outcome.Refused (refusal.Keep kept)) why = absurd why
   reading-stops (outcome.Refused (refusal.Text r)) why = absurd why
+  reading-stops (outcome.Refused (refusal.Build r)) why = absurd why
   reading-stops outcome.Done why = absurd why
   reading-stops (outcome.Usage f) why = absurd why
   reading-stops outcome.WriteFault why = absurd why
@@ -157,6 +163,7 @@ module _ (c : Command) (name : List ℕ) (no_plan : c.plan ≡ None) (one : c.fi
   text-count (outcome.Refused (refusal.Bin count)) why = absurd why
   text-count (outcome.Refused (refusal.Keep kept)) why = absurd why
   text-count (outcome.Refused (refusal.Text r)) why = absurd why
+  text-count (outcome.Refused (refusal.Build r)) why = absurd why
   text-count outcome.Done why = absurd why
   text-count (outcome.Usage f) why = absurd why
   text-count outcome.WriteFault why = absurd why
@@ -170,48 +177,41 @@ module _ (c : Command) (name : List ℕ) (no_plan : c.plan ≡ None) (one : c.fi
     opened = subst (λ (l : List (List ℕ)). OnSome mid.opened (GrowsBy old.opened mid.opened (take 1 l))) (sym one-input) opened;
   }
 
-  pub unread-does : reads_files c.verb ≡ true → (stop : Outcome) → TextStops name call stop → OnSome mid.opened (GrowsBy old.opened mid.opened (name ∷ []))
-      → Does c (λ files. reading_text files c) call stop
-  unread-does of_files stop why opened =
-      stopped-does c (λ files. reading_text files c) old mid before between only of_files (λ fs. text_in fs c.files) (λ fs s ends. inl ends) stop
-      (reading-stops stop why) (text-opens stop why opened)
+  module _ (parts_of : List ℕ → Work Stop Parts) (of_files : reads_files c.verb ≡ true) where
+    pub unread-does : (stop : Outcome) → TextStops name call stop → OnSome mid.opened (GrowsBy old.opened mid.opened (name ∷ []))
+        → Does c (λ files. module_of_text parts_of files c) call stop
+    unread-does stop why opened =
+        stopped-does c (λ files. module_of_text parts_of files c) old mid before between only of_files (λ fs. text_in fs c.files) (λ fs s ends. inl ends)
+        stop (reading-stops stop why) (text-opens stop why opened)
 
-  -- ---- it was read
+    -- ---- it was read
 
-  module _ (of_files : reads_files c.verb ≡ true) (text : List ℕ) (opened : GrowsBy old.opened mid.opened (name ∷ []))
-      (read : IfSome old.files (λ fs. text_in fs (name ∷ []) (gives text))) where
-    pub all-opened : GrowsBy old.opened mid.opened (inputs_of c)
-    all-opened = subst (λ (l : List (List ℕ)). GrowsBy old.opened mid.opened l) (sym one-input) opened
+    module _ (text : List ℕ) (opened : GrowsBy old.opened mid.opened (name ∷ []))
+        (read : IfSome old.files (λ fs. text_in fs (name ∷ []) (gives text))) where
+      pub all-opened : GrowsBy old.opened mid.opened (inputs_of c)
+      all-opened = subst (λ (l : List (List ℕ)). GrowsBy old.opened mid.opened l) (sym one-input) opened
 
-    pub is-read : IfSome old.files (λ fs. text_in fs c.files (gives text))
-    is-read = subst (λ (l : List (List ℕ)). IfSome old.files (λ fs. text_in fs l (gives text))) (sym one) read
+      pub is-read : IfSome old.files (λ fs. text_in fs c.files (gives text))
+      is-read = subst (λ (l : List (List ℕ)). IfSome old.files (λ fs. text_in fs l (gives text))) (sym one) read
 
-    pub text-ends : (o : Outcome) → EndsAt (runs_of_text c.maus text) o → Does c (λ files. reading_text files c) call o
-    text-ends o (inl is) =
-        subst (λ (x : Outcome). Does c (λ files. reading_text files c) call x) (sym is)
-        (lacking-does c (λ files. reading_text files c) old mid before between only all-opened)
-    text-ends o (inr (s, of_text, is, ends)) =
-        subst (λ (x : Outcome). Does c (λ files. reading_text files c) call x) (sym is)
-        (ended-does c (λ files. reading_text files c) old mid before between only all-opened s of_text
-        (over-map of_files (λ fs. text_in fs c.files (gives text)) (λ fs. reading_text fs c (stops s)) old.files
-        (λ fs there. inr (text, there, inl ends)) is-read))
+      pub text-ends : (o : Outcome) → EndsAt (parts_of text) o → Does c (λ files. module_of_text parts_of files c) call o
+      text-ends o (inl is) =
+          subst (λ (x : Outcome). Does c (λ files. module_of_text parts_of files c) call x) (sym is)
+          (lacking-does c (λ files. module_of_text parts_of files c) old mid before between only all-opened)
+      text-ends o (inr (s, of_text, is, ends)) =
+          subst (λ (x : Outcome). Does c (λ files. module_of_text parts_of files c) call x) (sym is)
+          (ended-does c (λ files. module_of_text parts_of files c) old mid before between only all-opened s of_text
+          (over-map of_files (λ fs. text_in fs c.files (gives text)) (λ fs. module_of_text parts_of fs c (stops s)) old.files
+          (λ fs there. inr (text, there, inl ends)) is-read))
 
-    -- the file of its module was made
-    pub text-makes : (new : Meaning) (now : Faults) (object : Parts) → (runs : List Run) × runs_of_text c.maus text (gives runs)
-        × (object ≡ text_parts c.maus runs) → IsHeld object → IsSome c.out → (result : Outcome)
-        → ((file : List ℕ) → c.out ≡ Some file → IsMadeAlone file (written object) (call_between mid new between now) result)
-        → Does c (λ files. reading_text files c) (call_between old new before now) result
-    text-makes new now object (runs, rows, same) held some result makes =
-        made-does c (λ files. reading_text files c) old mid before between only all-opened new now (written object)
-        (λ file named. over-map of_files (λ fs. text_in fs c.files (gives text)) (λ fs. reading_text fs c (gives (made file (written object)))) old.files
-        (λ fs there. (
-          text,
-          there,
-          (
-            runs,
-            rows,
-            subst (λ (m : Parts). writes_module c.out (text_parts c.maus runs) (gives (made file (written m)))) (sym same)
-                (module-gives c file (text_parts c.maus runs) (subst IsHeld same held) named),
-          ),
-        )) is-read)
-        some result makes
+      -- the file of its module was made
+      pub text-makes : (new : Meaning) (now : Faults) (object : Parts) → parts_of text (gives object) → IsHeld object → IsSome c.out
+          → (result : Outcome)
+          → ((file : List ℕ) → c.out ≡ Some file → IsMadeAlone file (written object) (call_between mid new between now) result)
+          → Does c (λ files. module_of_text parts_of files c) (call_between old new before now) result
+      text-makes new now object is held some result makes =
+          made-does c (λ files. module_of_text parts_of files c) old mid before between only all-opened new now (written object)
+          (λ file named. over-map of_files (λ fs. text_in fs c.files (gives text))
+          (λ fs. module_of_text parts_of fs c (gives (made file (written object)))) old.files
+          (λ fs there. (text, there, (object, is, module-gives c file object held named))) is-read)
+          some result makes

@@ -45,7 +45,7 @@ use Rattle.mufom_command.specs.Run.{file_name, stop_outcome}
 use Rattle.mufom_command.specs.RunLaws.{IsLocating, MayPutOut}
 use Rattle.mufom_command.specs.RunParts.{AreLinkedFlat, AreReadFrom, EndsOver, IsKeptFlat, IsLocatedOutcome}
 use Rattle.mufom_command.specs.Stop.{Stop, words_refused, plan_refused, file_refused, past_limit, link_fact, keep_unknown, locate_fact, raw_too_long}
-use Rattle.mufom_command.specs.Stop.{text_refused}
+use Rattle.mufom_command.specs.Stop.{text_refused, listing_refused}
 use Rattle.mufom_command.specs.Text.{hit_text}
 use Rattle.mufom_command.specs.WorkEnds.{EndsAt, IsOfModules, location_of}
 use Rattle.mufom_command.proofs.EndLaws.{is-located}
@@ -69,6 +69,7 @@ links-read verb.Txt is = refl
 links-read verb.Show is = refl
 links-read verb.Check is = refl
 links-read verb.FromTxt is = refl
+links-read verb.Build is = refl
 links-read verb.Make (inl same) = absurd cc
 links-read verb.Make (inr never) = absurd never
 links-read verb.Help (inl same) = absurd cc
@@ -90,6 +91,7 @@ unnamed-by verb.Show is = refl
 unnamed-by verb.Check is = refl
 unnamed-by verb.Make is = refl
 unnamed-by verb.FromTxt is = refl
+unnamed-by verb.Build is = refl
 unnamed-by verb.Help is = refl
 unnamed-by verb.Version is = refl
 unnamed-by verb.Explain is = refl
@@ -210,6 +212,7 @@ module _ (files : Option (List NamedFile)) (c : Command) (plan : Plan) (ms : Lis
     by (locate_fact maus f) of_modules names ends = absurd cc
     by (raw_too_long count) of_modules names ends = absurd cc
     by (text_refused r) of_modules names ends = absurd cc
+    by (listing_refused r) of_modules names ends = absurd cc
     by (words_refused w) of_modules names ends = absurd of_modules
     by (plan_refused r) of_modules names ends = absurd of_modules
     by (file_refused n r) of_modules names ends = absurd of_modules
@@ -230,6 +233,7 @@ may-other verb.Check c r other = tt
 may-other verb.Link c r other = tt
 may-other verb.Make c r other = tt
 may-other verb.FromTxt c r other = tt
+may-other verb.Build c r other = tt
 may-other verb.Help c r other = tt
 may-other verb.Version c r other = tt
 may-other verb.Explain c r other = tt
@@ -402,6 +406,7 @@ module _ (files : Option (List NamedFile)) (c : Command) (plan : Plan) (ms : Lis
     comes verb.Link never out none may held = absurd never
     comes verb.Make never out none may held = absurd never
     comes verb.FromTxt never out none may held = absurd never
+    comes verb.Build never out none may held = absurd never
     comes verb.Help never out none may held = absurd never
     comes verb.Version never out none may held = absurd never
     comes verb.Explain never out none may held = absurd never
@@ -450,6 +455,7 @@ module _ (files : Option (List NamedFile)) (c : Command) (plan : Plan) (ms : Lis
     located-over (outcome.Refused (refusal.Locate e maus)) never = absurd never
     located-over (outcome.Refused (refusal.Keep name)) never = absurd never
     located-over (outcome.Refused (refusal.Text e)) never = absurd never
+    located-over (outcome.Refused (refusal.Build e)) never = absurd never
     located-over (outcome.Usage f) never = absurd never
     located-over (outcome.ReadFault at) never = absurd never
     located-over outcome.WriteFault never = absurd never

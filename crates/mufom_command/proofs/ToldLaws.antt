@@ -13,7 +13,7 @@ use Rattle.mufom_command.specs.Making.{IsPrinted}
 use Rattle.mufom_command.specs.Run.{IsOpenedCount, OpensBy, OpensInputs, PutsOutNothing, inputs_of, stop_outcome}
 use Rattle.mufom_command.specs.RunParts.{EndsOver, Explains, Tells}
 use Rattle.mufom_command.specs.Stop.{Stop, words_refused, plan_refused, file_refused, past_limit, link_fact, keep_unknown, locate_fact, raw_too_long}
-use Rattle.mufom_command.specs.Stop.{text_refused}
+use Rattle.mufom_command.specs.Stop.{text_refused, listing_refused}
 use Rattle.mufom_command.specs.WorkEnds.{IsOfModules}
 use Rattle.mufom_command.proofs.DoesLaws.{opens-read}
 use Rattle.mufom_command.proofs.ExplainLaws.{told-explains}
@@ -66,6 +66,7 @@ ended-count c (keep_unknown name) is = refl
 ended-count c (locate_fact maus f) is = refl
 ended-count c (raw_too_long count) is = refl
 ended-count c (text_refused r) is = refl
+ended-count c (listing_refused r) is = refl
 ended-count c (words_refused s) is = absurd is
 ended-count c (plan_refused r) is = absurd is
 ended-count c (file_refused n r) is = absurd is

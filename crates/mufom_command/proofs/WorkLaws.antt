@@ -186,6 +186,7 @@ locating-begins verb.Addr is c = linking-begins (locating printed_hit) c
 locating-begins verb.Bin is c = linking-begins (locating raw_file) c
 locating-begins verb.Txt is c = linking-begins (locating txt_file) c
 locating-begins verb.FromTxt never c = absurd never
+locating-begins verb.Build never c = absurd never
 
 -- and where the locating does
 pub verb-stops : (v : Verb) → IsLocating v → (c : Command) (plan : Plan) (ms : List Parts) (files : List NamedFile)
@@ -205,3 +206,4 @@ verb-stops verb.Addr is c = locating-stops printed_hit c
 verb-stops verb.Bin is c = locating-stops raw_file c
 verb-stops verb.Txt is c = locating-stops txt_file c
 verb-stops verb.FromTxt never c = absurd never
+verb-stops verb.Build never c = absurd never

@@ -34,7 +34,7 @@ use Rattle.mufom_plan.specs.Names.{has_name}
 use Rattle.mufom_prune.specs.Kept.{IsKept}
 use Rattle.mufom_prune.specs.Pruned.{Remains, remains, without_others}
 use Rattle.mufom_command.specs.Stop.{Stop, words_refused, plan_refused, file_refused, past_limit, link_fact, keep_unknown, locate_fact, raw_too_long}
-use Rattle.mufom_command.specs.Stop.{text_refused}
+use Rattle.mufom_command.specs.Stop.{text_refused, listing_refused}
 use Rattle.mufom_command.specs.FlatFiles.{AreFlatFiles}
 use Rattle.mufom_command.specs.Inputs.{ComeTo, accepted, refused, past_limit as past}
 use Rattle.mufom_write.specs.Raw.{raw_image}
@@ -45,6 +45,9 @@ use Rattle.mufom_map.specs.Mapped.{Mapped, mapped_by}
 use Rattle.mufom_map.specs.MapText.{map_text}
 use Rattle.mufom_meaning.specs.declared.located.Run.{Run}
 use Rattle.mufom_titxt.specs.declared.refusal.TxtRefusal.{TxtRefusal}
+use Rattle.mufom_build.specs.declared.refusal.BuildRefusal.TheVariants as build
+use Rattle.mufom_build.specs.Lines.{Build}
+use Rattle.mufom_build.specs.Refusals.{IsRefusedAt, HasDefect}
 use Rattle.mufom_titxt.specs.TextModules.{text_parts}
 use Rattle.mufom_titxt.specs.Texts.{txt_cells, txt_refusal}
 use Rattle.mufom_titxt.specs.Written.{txt_text}
@@ -273,12 +276,33 @@ runs_unless (Some r) text = stop_at (text_refused r)
 abbrev pub runs_of_text : ℕ → List ℕ → Work Stop (List Run)
 runs_of_text maus text = runs_unless (txt_refusal text (8 * maus)) text
 
--- The text is read, and the file of the module of its rows is made.
-abbrev pub reading_text : List NamedFile → Command → Work Stop Output
-reading_text files c = do
+-- the parts of the module of the rows of a text
+abbrev pub parts_of_txt : ℕ → List ℕ → Work Stop Parts
+parts_of_txt maus text = do
+  runs ← runs_of_text maus text
+  sure (text_parts maus runs)
+
+-- the parts of the module that is built from a listing, or what is wrong with the listing
+abbrev pub parts_of_listing : List ℕ → Work Stop Parts
+parts_of_listing text (gives m) = Build text m
+parts_of_listing text (stops (listing_refused (build.At row column reason))) = IsRefusedAt text row column reason
+parts_of_listing text (stops (listing_refused (build.Module defect))) = HasDefect text defect
+parts_of_listing text (stops _) = ⊥
+
+-- A text is read, and the file of the module that it gives is made.
+abbrev pub module_of_text : (List ℕ → Work Stop Parts) → List NamedFile → Command → Work Stop Output
+module_of_text parts_of files c = do
   text ← text_in files c.files
-  runs ← runs_of_text c.maus text
-  writes_module c.out (text_parts c.maus runs)
+  parts ← parts_of text
+  writes_module c.out parts
+
+-- The text is that of an image.
+abbrev pub reading_text : List NamedFile → Command → Work Stop Output
+reading_text files c = module_of_text (parts_of_txt c.maus) files c
+
+-- The text is the listing of a module.
+abbrev pub reading_listing : List NamedFile → Command → Work Stop Output
+reading_listing files c = module_of_text parts_of_listing files c
 
 -- The generated modules are located, and the summary of their location is printed. No file is read.
 abbrev pub making : List NamedFile → Command → Work Stop Output
@@ -310,6 +334,7 @@ work_of verb.Addr = linking (locating printed_hit)
 work_of verb.Bin = linking (locating raw_file)
 work_of verb.Txt = linking (locating txt_file)
 work_of verb.FromTxt = reading_text
+work_of verb.Build = reading_listing
 work_of verb.Help = helping
 work_of verb.Version = helping
 -- What `explain` comes to depends on the arguments after its name, which a command does not carry (`run_of`).

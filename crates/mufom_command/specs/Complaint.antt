@@ -25,6 +25,12 @@ use Rattle.mufom_command.specs.declared.outcome.Refusal.{Refusal}
 use Rattle.mufom_command.specs.declared.outcome.Refusal.TheVariants as refusal
 use Rattle.mufom_titxt.specs.declared.refusal.TxtReason.{TxtReason}
 use Rattle.mufom_titxt.specs.declared.refusal.TxtReason.TheVariants as txt
+use Rattle.mufom_build_text.specs.declared.refusal.BuildReason.{BuildReason}
+use Rattle.mufom_build_text.specs.declared.refusal.BuildReason.TheVariants as reasons
+use Rattle.mufom_build.specs.declared.refusal.BuildRefusal.{BuildRefusal}
+use Rattle.mufom_build.specs.declared.refusal.BuildRefusal.TheVariants as build
+use Rattle.mufom_module.specs.declared.module.Defect.{Defect}
+use Rattle.mufom_module.specs.declared.module.Defect.TheVariants as defects
 use Rattle.mufom_words.specs.declared.stop.UsageFault.{UsageFault}
 use Rattle.mufom_words.specs.declared.stop.UsageFault.TheVariants as usage
 use Rattle.mufom_text.specs.Image.{address}
@@ -159,6 +165,38 @@ txt_reason_text (txt.Twice address) = codes "Twice " ++ decimal address
 txt_reason_text txt.AfterEnd = codes "AfterEnd"
 txt_reason_text txt.NoEnd = codes "NoEnd"
 
+-- what is wrong with a line of a listing
+abbrev pub build_reason_text : BuildReason → Text
+build_reason_text reasons.BadText = codes "BadText"
+build_reason_text reasons.TooGreat = codes "TooGreat"
+build_reason_text reasons.Position = codes "Position"
+build_reason_text reasons.Count = codes "Count"
+build_reason_text reasons.TooLong = codes "TooLong"
+build_reason_text reasons.Deep = codes "Deep"
+
+-- the name of a defect of the module that a listing gives
+abbrev pub defect_text : Defect → Text
+defect_text defects.Depth = codes "Depth"
+defect_text defects.LongId = codes "LongId"
+defect_text defects.BadMaus = codes "BadMaus"
+defect_text defects.BadAlign = codes "BadAlign"
+defect_text defects.MissingBase = codes "MissingBase"
+defect_text defects.Position = codes "Position"
+defect_text defects.MisplacedP = codes "MisplacedP"
+defect_text defects.NoSection = codes "NoSection"
+defect_text defects.LongRun = codes "LongRun"
+defect_text defects.FieldSize = codes "FieldSize"
+defect_text defects.Attribute = codes "Attribute"
+defect_text defects.Nesting = codes "Nesting"
+defect_text defects.Weight = codes "Weight"
+
+-- what is wrong with a listing, and where
+abbrev pub build_text : BuildRefusal → Text
+build_text (build.At row column reason) =
+    codes " line " ++ decimal row ++ codes " column " ++ decimal column ++ codes ": " ++ build_reason_text reason
+build_text (build.Module defect) = codes ": " ++ defect_text defect
+build_text build.NoMemory = []
+
 abbrev pub refusal_text : Refusal → Text
 refusal_text (refusal.Read n r) = codes "file " ++ decimal n ++ codes " at " ++ decimal r.offset ++ codes ": " ++ reason_text r.reason
 refusal_text (refusal.InputLimit n) = codes "file " ++ decimal n ++ codes ": InputLimit"
@@ -170,6 +208,7 @@ refusal_text (refusal.Locate l maus) = codes "locate: " ++ locate_text maus l
 refusal_text (refusal.Keep name) = codes "keep: Unknown " ++ quoted name
 refusal_text (refusal.Bin count) = codes "bin: TooLong " ++ decimal count
 refusal_text (refusal.Text r) = codes "text line " ++ decimal r.line ++ codes ": " ++ txt_reason_text r.reason
+refusal_text (refusal.Build r) = codes "listing" ++ build_text r
 
 abbrev pub input_text : Input → Text
 input_text input.Plan = codes "plan"

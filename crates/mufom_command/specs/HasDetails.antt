@@ -20,7 +20,7 @@ use Rattle.mufom_command.specs.declared.outcome.Outcome.{Outcome}
 use Rattle.mufom_command.specs.declared.outcome.Outcome.TheVariants as outcome
 use Rattle.mufom_command.specs.declared.outcome.Refusal.TheVariants as refusal
 use Rattle.mufom_command.specs.Stop.{Stop, words_refused, plan_refused, file_refused, past_limit, link_fact, keep_unknown, locate_fact, raw_too_long}
-use Rattle.mufom_command.specs.Stop.{text_refused}
+use Rattle.mufom_command.specs.Stop.{text_refused, listing_refused}
 use Rattle.mufom_command.specs.Commands.{Kept, kept_of, kept_origins, modules_in, plan_in}
 use Rattle.mufom_command.specs.FlatFiles.{AreFlatFiles}
 use Rattle.mufom_command.specs.LocateRefusals.{locate_refusal}
@@ -102,6 +102,7 @@ HasDetails files c (plan_refused r) details = HasPlanLine c details
 HasDetails files c (file_refused n r) details = HasFileLine c n details
 HasDetails files c (past_limit n) details = HasFileLine c n details
 HasDetails files c (text_refused r) details = HasFileLine c 0 details
+HasDetails files c (listing_refused r) details = HasFileLine c 0 details
 HasDetails files c (link_fact f) details = IfSome files (λ fs. lines_of_link fs c f (gives details))
 HasDetails files c (keep_unknown name) details = IfSome files (λ fs. lines_of_name fs c name (gives details))
 HasDetails files c (locate_fact maus f) details = IfSome files (λ fs. lines_of_locate fs c maus f (gives details))
@@ -116,4 +117,5 @@ IsInputDetail c (outcome.Refused (refusal.Plan r)) details = (name : List ℕ) �
 IsInputDetail c (outcome.Refused (refusal.Read n r)) details = details ≡ file_line c.files n
 IsInputDetail c (outcome.Refused (refusal.InputLimit n)) details = details ≡ file_line c.files n
 IsInputDetail c (outcome.Refused (refusal.Text r)) details = details ≡ file_line c.files 0
+IsInputDetail c (outcome.Refused (refusal.Build r)) details = details ≡ file_line c.files 0
 IsInputDetail c _ details = details ≡ []

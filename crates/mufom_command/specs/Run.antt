@@ -23,7 +23,7 @@ use Rattle.mufom_groups.specs.Refusals.{link_refusal}
 use Rattle.mufom_groups.specs.Work.{Reached, gives, stops, Work}
 use Rattle.mufom_command.specs.LocateRefusals.{locate_refusal}
 use Rattle.mufom_command.specs.Stop.{Stop, words_refused, plan_refused, file_refused, past_limit, link_fact, keep_unknown, locate_fact, raw_too_long}
-use Rattle.mufom_command.specs.Stop.{text_refused}
+use Rattle.mufom_command.specs.Stop.{text_refused, listing_refused}
 use Rattle.mufom_command.specs.Commands.{Output, printed, made, plan_in}
 
 -- What was outside before a call and after it, and how often calls of the outside had failed.
@@ -56,6 +56,7 @@ stop_outcome (keep_unknown name) = outcome.Refused (refusal.Keep name)
 stop_outcome (locate_fact maus f) = outcome.Refused (refusal.Locate (locate_refusal f) maus)
 stop_outcome (raw_too_long count) = outcome.Refused (refusal.Bin count)
 stop_outcome (text_refused r) = outcome.Refused (refusal.Text r)
+stop_outcome (listing_refused r) = outcome.Refused (refusal.Build r)
 
 abbrev pub outcome_of : Reached Stop Output → Outcome
 outcome_of (gives output) = outcome.Done

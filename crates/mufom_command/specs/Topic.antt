@@ -15,11 +15,13 @@ use Rattle.mufom_image.specs.declared.refusal.LocateRefusal.{LocateRefusal}
 use Rattle.mufom_image.specs.declared.refusal.LocateRefusal.TheVariants as locate
 use Rattle.mufom_titxt.specs.declared.refusal.TxtReason.{TxtReason}
 use Rattle.mufom_titxt.specs.declared.refusal.TxtReason.TheVariants as txt
+use Rattle.mufom_build.specs.declared.refusal.BuildRefusal.{BuildRefusal}
+use Rattle.mufom_build.specs.declared.refusal.BuildRefusal.TheVariants as build
 use Rattle.mufom_command.specs.declared.outcome.Outcome.{Outcome}
 use Rattle.mufom_command.specs.declared.outcome.Outcome.TheVariants as outcome
 use Rattle.mufom_command.specs.declared.outcome.Refusal.{Refusal}
 use Rattle.mufom_command.specs.declared.outcome.Refusal.TheVariants as refusal
-use Rattle.mufom_command.specs.Complaint.{reason_text}
+use Rattle.mufom_command.specs.Complaint.{build_reason_text, defect_text, reason_text}
 use Rattle.mufom_text.specs.Words.{Text}
 
 -- ---- the name of an error: the first word of its line that begins with a capital letter
@@ -63,6 +65,11 @@ txt_name (txt.Twice address) = codes "Twice"
 txt_name txt.AfterEnd = codes "AfterEnd"
 txt_name txt.NoEnd = codes "NoEnd"
 
+abbrev pub build_name : BuildRefusal → Text
+build_name (build.At row column reason) = build_reason_text reason
+build_name (build.Module defect) = defect_text defect
+build_name build.NoMemory = []
+
 abbrev pub refusal_name : Refusal → Text
 refusal_name (refusal.Read n r) = reason_text r.reason
 refusal_name (refusal.InputLimit n) = codes "InputLimit"
@@ -74,6 +81,7 @@ refusal_name (refusal.Locate l maus) = locate_name l
 refusal_name (refusal.Keep name) = codes "Unknown"
 refusal_name (refusal.Bin count) = codes "TooLong"
 refusal_name (refusal.Text r) = txt_name r.reason
+refusal_name (refusal.Build r) = build_name r
 
 -- ---- the command that arguments name
 

@@ -28,7 +28,7 @@ use Rattle.mufom_command.specs.InputsRead.{inputs_in}
 use Rattle.mufom_command.specs.declared.outcome.Outcome.{Outcome}
 use Rattle.mufom_command.specs.declared.outcome.Outcome.TheVariants as outcome
 use Rattle.mufom_command.specs.declared.outcome.Refusal.TheVariants as refusal
-use Rattle.mufom_command.specs.Stop.{Stop, link_fact, keep_unknown, locate_fact, raw_too_long, text_refused}
+use Rattle.mufom_command.specs.Stop.{Stop, link_fact, keep_unknown, locate_fact, raw_too_long, text_refused, listing_refused}
 use Rattle.mufom_command.specs.Run.{stop_outcome}
 
 abbrev pub outcome_of_link : LinkRefusal → Outcome
@@ -86,6 +86,7 @@ IsOfModules (keep_unknown name) = Unit {0}
 IsOfModules (locate_fact maus f) = f ≢ placement place_refusal.NoMemory
 IsOfModules (raw_too_long count) = Unit {0}
 IsOfModules (text_refused r) = Unit {0}
+IsOfModules (listing_refused r) = Unit {0}
 IsOfModules _ = ⊥
 
 -- the outcome is out of memory, or that of such a fact that ends the work

@@ -19,7 +19,7 @@ use crate::maps::map;
 use crate::outcome::{Outcome, outcome_of_stop};
 use crate::query::addr;
 use crate::show::{check, show};
-use crate::texts::fromtxt;
+use crate::texts::{build, fromtxt};
 use mufom_host::Host;
 use mufom_words::{Command, Verb, read_words};
 use std::alloc::Global;
@@ -51,6 +51,7 @@ fn run_command<H: Host>(alloc: Global, words: &[String], command: &Command, host
         Verb::Bin => bin(alloc, command, host),
         Verb::Txt => txt(alloc, command, host),
         Verb::FromTxt => fromtxt(alloc, command, host),
+        Verb::Build => build(alloc, command, host),
         Verb::Help | Verb::Version => help(command, host),
         Verb::Explain => explain(alloc, explained(words), host),
     }
@@ -70,7 +71,7 @@ fn answer<H: Host>(alloc: Global, words: &[String], host: &mut H) -> Outcome
 
 /// Runs the command that the arguments name: `show FILE`, `check FILE ...`, `link -o OUT FILES`,
 /// `locate -o OUT FILES`, `dump FILES`, `map FILES`, `make COUNT`, `addr --at ADDRESS FILES`, `bin -o OUT FILES`,
-/// `txt -o OUT FILES`, `fromtxt -o OUT FILE`, `help` or `version`, each with its options; or `explain` before
+/// `txt -o OUT FILES`, `fromtxt -o OUT FILE`, `build -o OUT FILE`, `help` or `version`, each with its options; or `explain` before
 /// any of these.
 ///
 /// `words` are the command line's arguments without the program's name, fewer than 2^32. If a plan is

@@ -3,14 +3,15 @@
 ghost use Rattle.std.specs.Prelude.{◌≡◌, ◌++◌, IfOk, OnOk};
 ghost use Rattle.std.specs.String.{string_bytes};
 ghost use Rattle.mufom_text.specs.Show.{order_letter};
-ghost use Rattle.mufom_command.specs.Complaint.{complaint, field_text, plan_text, reason_text, txt_reason_text};
+ghost use Rattle.mufom_command.specs.Complaint.{build_reason_text, complaint, defect_text, field_text, plan_text, reason_text, txt_reason_text};
 
 use crate::locate_text::{push_locate, push_region};
 use crate::outcome::{Input, Outcome, Refusal};
+use mufom_build::{BuildReason, BuildRefusal};
 use mufom_image::LocateRefusal;
 use mufom_link::LinkRefusal;
 use mufom_meaning::Descriptor;
-use mufom_module::Order;
+use mufom_module::{Defect, Order};
 use mufom_numbers::{Bytes, NoMemory, Reason};
 use mufom_plan::{PlanField, PlanRefusal};
 use mufom_read::ReadRefusal;
@@ -259,6 +260,62 @@ fn text_line(alloc: Global, refusal: TxtRefusal) -> Result<Vec<u8>, NoMemory>
     Ok(line)
 }
 
+/// The name of an error in a line of a listing, as error lines print it.
+pub(crate) fn build_reason_name(reason: BuildReason) -> &'static str
+    ensures { result.now ≡ build_reason_text reason }
+{
+    match reason {
+        BuildReason::BadText => "BadText",
+        BuildReason::TooGreat => "TooGreat",
+        BuildReason::Position => "Position",
+        BuildReason::Count => "Count",
+        BuildReason::TooLong => "TooLong",
+        BuildReason::Deep => "Deep",
+    }
+}
+
+/// The name of a defect of the module of a listing, as error lines print it.
+pub(crate) fn defect_name(defect: Defect) -> &'static str
+    ensures { result.now ≡ defect_text defect }
+{
+    match defect {
+        Defect::Depth => "Depth",
+        Defect::LongId => "LongId",
+        Defect::BadMaus => "BadMaus",
+        Defect::BadAlign => "BadAlign",
+        Defect::MissingBase => "MissingBase",
+        Defect::Position => "Position",
+        Defect::MisplacedP => "MisplacedP",
+        Defect::NoSection => "NoSection",
+        Defect::LongRun => "LongRun",
+        Defect::FieldSize => "FieldSize",
+        Defect::Attribute => "Attribute",
+        Defect::Nesting => "Nesting",
+        Defect::Weight => "Weight",
+    }
+}
+
+// The error line of a text that is not the listing of a module.
+fn listing_line(alloc: Global, refusal: BuildRefusal) -> Result<String, NoMemory>
+    ensures { IfOk result (λ text. string_bytes text ≡ complaint (Outcome.Refused (Refusal.Build refusal))) }
+{
+    match refusal {
+        BuildRefusal::At {
+            line,
+            column,
+            reason,
+        } => {
+            let reason = build_reason_name(reason);
+            Ok(format!(in alloc; "refused: listing line {line} column {column}: {reason}\n")?)
+        }
+        BuildRefusal::Module(defect) => {
+            let defect = defect_name(defect);
+            Ok(format!(in alloc; "refused: listing: {defect}\n")?)
+        }
+        BuildRefusal::NoMemory => Ok(format!(in alloc; "refused: listing\n")?),
+    }
+}
+
 /// The line of an error that the texts call `refused:`.
 pub(crate) fn refusal_line(alloc: Global, refusal: &Refusal) -> Result<Vec<u8>, NoMemory>
     ensures { IfOk result (λ text. text.items ≡ complaint (Outcome.Refused refusal.now)) }
@@ -274,6 +331,7 @@ pub(crate) fn refusal_line(alloc: Global, refusal: &Refusal) -> Result<Vec<u8>, 
         Refusal::Keep(name) => keep_line(alloc, name),
         Refusal::Bin(count) => Ok(raw_line(alloc, *count)?.into_bytes()),
         Refusal::Text(refusal) => text_line(alloc, *refusal),
+        Refusal::Build(refusal) => Ok(listing_line(alloc, *refusal)?.into_bytes()),
     }
 }
 

@@ -17,7 +17,7 @@ use crate::explanation::{Details, print_done, print_explanation};
 use crate::inputs::read_inputs;
 use crate::making::generated;
 use crate::outcome::{Input, Outcome, Refusal, outcome_of_stop};
-use crate::texts::{module_of, only_file, read_text};
+use crate::texts::{built_from, module_of, only_file, read_text};
 use mufom_host::Host;
 use mufom_words::{Command, Verb, read_words};
 use std::alloc::Global;
@@ -53,6 +53,7 @@ pub(crate) fn input_details<'a>(command: &'a Command, answer: &Outcome) -> Detai
         Outcome::Refused(Refusal::Read(file, _)) => file_details(command, *file),
         Outcome::Refused(Refusal::InputLimit(file)) => file_details(command, *file),
         Outcome::Refused(Refusal::Text(_)) => file_details(command, 0),
+        Outcome::Refused(Refusal::Build(_)) => file_details(command, 0),
         _ => Details::Nothing,
     }
 }
@@ -109,6 +110,37 @@ fn explain_text<H: Host>(
     }
 }
 
+// Explains `build`.
+fn explain_build<H: Host>(
+    alloc: Global,
+    words: &[String],
+    command: &Command,
+    host: &mut H,
+) -> Outcome
+    requires sound { IsSound command.now }
+    requires given { answer_of (map (λ word. string_bytes word) words.now) ≡ Ok command.now }
+    requires verb { command.now.verb ≡ Verb.Build }
+    ensures { Explains (map (λ word. string_bytes word) words.now) (call_of H.meaning H.faults host.old host.new) result }
+{
+    let text = match read_text(alloc, only_file(command), host) {
+        Ok(text) => text,
+        Err(answer) => {
+            let details = input_details(command, &answer);
+            return print_explanation(alloc, words, &answer, &details, host);
+        }
+    };
+    match built_from(alloc, text.as_slice()) {
+        Ok(object) => {
+            let _ = object.parts();
+            print_done(alloc, words, host)
+        }
+        Err(answer) => {
+            let details = input_details(command, &answer);
+            print_explanation(alloc, words, &answer, &details, host)
+        }
+    }
+}
+
 // Explains `make`, which is never refused.
 fn explain_make<H: Host>(
     alloc: Global,
@@ -144,6 +176,7 @@ fn explain_command<H: Host>(
         Verb::Link | Verb::Locate | Verb::Dump | Verb::Map | Verb::Addr | Verb::Bin | Verb::Txt =>
             explain_modules(alloc, words, command, host),
         Verb::FromTxt => explain_text(alloc, words, command, host),
+        Verb::Build => explain_build(alloc, words, command, host),
         Verb::Make => explain_make(alloc, words, command, host),
         Verb::Help | Verb::Version => print_done(alloc, words, host),
         Verb::Explain => unreachable!(),

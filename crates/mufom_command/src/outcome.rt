@@ -4,6 +4,7 @@ ghost use Rattle.std.specs.Prelude.{◌≡◌};
 ghost use Rattle.mufom_command.specs.Complaint.{status_of};
 ghost use Rattle.mufom_command.specs.Run.{stop_answer};
 
+use mufom_build::BuildRefusal;
 use mufom_image::LocateRefusal;
 use mufom_link::LinkRefusal;
 use mufom_numbers::Bytes;
@@ -44,6 +45,8 @@ pub enum Refusal {
     Bin(u128),
     /// The file is not a valid TI-TXT text.
     Text(TxtRefusal),
+    /// The file is not the listing of a module.
+    Build(BuildRefusal),
 }
 
 /// How a run ended.

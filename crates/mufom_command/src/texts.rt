@@ -1,14 +1,13 @@
-//! The command that makes a module of a TI-TXT text: `fromtxt`.
+//! The commands that make a module of a text: `fromtxt` of a TI-TXT text, and `build` of a listing.
 
-ghost use Rattle.std.specs.Prelude.{◌≡◌, ◌≤◌, ◌∷◌, [], ◌*◌, ℕ, List as list, length, None, IfErr, IfOk, IfSome, IsSome, OnSome, true};
+ghost use Rattle.std.specs.Prelude.{◌≡◌, ◌≤◌, ◌∷◌, [], ◌*◌, length, None, IfErr, IfOk, IfSome, IsSome, OnSome, true};
 ghost use Rattle.mufom_host.specs.World.{GrowsBy, OnlyOpens};
 ghost use Rattle.mufom_numbers.specs.declared.limits.TheConstants.{MOST_FILE_BYTES as most};
-ghost use Rattle.mufom_meaning.specs.declared.located.Run.{Run as row};
-ghost use Rattle.mufom_titxt.specs.TextModules.{text_parts, HaveModule};
+ghost use Rattle.mufom_titxt.specs.TextModules.{HaveModule};
 ghost use Rattle.mufom_words.specs.Options.{reads_files, takes_one_file};
 ghost use Rattle.mufom_words.specs.Sound.{IsSound};
 ghost use Rattle.mufom_groups.specs.Work.{gives};
-ghost use Rattle.mufom_command.specs.Commands.{reading_text, runs_of_text, text_in};
+ghost use Rattle.mufom_command.specs.Commands.{parts_of_listing, parts_of_txt, reading_listing, reading_text, runs_of_text, text_in};
 ghost use Rattle.mufom_command.specs.InputsRead.{TextStops};
 ghost use Rattle.mufom_command.specs.Run.{call_of};
 ghost use Rattle.mufom_command.specs.RunParts.{Does};
@@ -17,6 +16,7 @@ ghost use Rattle.mufom_command.specs.WorkEnds.{EndsAt};
 use crate::linking::make_output;
 use crate::outcome::{Input, Outcome, Refusal};
 use crate::whole_file::read_whole;
+use mufom_build::BuildRefusal;
 use mufom_host::Host;
 use mufom_meaning::Run;
 use mufom_module::Module;
@@ -77,8 +77,8 @@ pub(crate) fn module_of(alloc: Global, text: &[u8], maus: u8) -> Result<Module, 
     requires low { 1 ≤ maus }
     requires high { maus ≤ 8 }
     requires short { length text.now ≤ most }
-    ensures ok { IfOk result (λ object. (runs : list row) × runs_of_text maus text.now (gives runs) × (object ≡ text_parts maus runs)) }
-    ensures stops { IfErr result (EndsAt (runs_of_text maus text.now)) }
+    ensures ok { IfOk result (λ object. parts_of_txt maus text.now (gives object)) }
+    ensures stops { IfErr result (EndsAt (parts_of_txt maus text.now)) }
 {
     let runs = match runs_of(alloc, text, maus) {
         Ok(runs) => runs,
@@ -90,7 +90,33 @@ pub(crate) fn module_of(alloc: Global, text: &[u8], maus: u8) -> Result<Module, 
     }
 }
 
-/// Reads the text that the command names, and makes a file of its module.
+/// The module that is built from a listing, or the outcome of the run.
+pub(crate) fn built_from(alloc: Global, text: &[u8]) -> Result<Module, Outcome>
+    requires { length text.now ≤ most }
+    ensures ok { IfOk result (λ object. parts_of_listing text.now (gives object)) }
+    ensures stops { IfErr result (EndsAt (parts_of_listing text.now)) }
+{
+    match mufom_build::build(alloc, text) {
+        Ok(object) => Ok(object),
+        Err(BuildRefusal::NoMemory) => Err(Outcome::NoMemory),
+        Err(BuildRefusal::Module(defect)) => Err(Outcome::Refused(Refusal::Build(
+            BuildRefusal::Module(defect),
+        ))),
+        Err(
+            BuildRefusal::At {
+                line,
+                column,
+                reason,
+            },
+        ) => Err(Outcome::Refused(Refusal::Build(BuildRefusal::At {
+            line,
+            column,
+            reason,
+        }))),
+    }
+}
+
+/// Reads the TI-TXT text that the command names, and makes a file of its module.
 pub(crate) fn fromtxt<H: Host>(alloc: Global, command: &Command, host: &mut H) -> Outcome
     requires sound { IsSound command.now }
     requires of_files { reads_files command.now.verb ≡ true }
@@ -104,6 +130,25 @@ pub(crate) fn fromtxt<H: Host>(alloc: Global, command: &Command, host: &mut H) -
         Err(stop) => return stop,
     };
     match module_of(alloc, text.as_slice(), command.maus) {
+        Ok(object) => make_output(command, &object, host),
+        Err(stop) => stop,
+    }
+}
+
+/// Reads the listing that the command names, and makes a file of the module that is built from it.
+pub(crate) fn build<H: Host>(alloc: Global, command: &Command, host: &mut H) -> Outcome
+    requires sound { IsSound command.now }
+    requires of_files { reads_files command.now.verb ≡ true }
+    requires one { takes_one_file command.now.verb ≡ true }
+    requires no_plan { command.now.plan ≡ None }
+    requires file { IsSome command.now.out }
+    ensures { Does command.now (λ files. reading_listing files command.now) (call_of H.meaning H.faults host.old host.new) result }
+{
+    let text = match read_text(alloc, only_file(command), host) {
+        Ok(text) => text,
+        Err(stop) => return stop,
+    };
+    match built_from(alloc, text.as_slice()) {
         Ok(object) => make_output(command, &object, host),
         Err(stop) => stop,
     }

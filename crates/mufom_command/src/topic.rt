@@ -2,12 +2,13 @@
 
 ghost use Rattle.std.specs.Prelude.{◌≡◌, map, option_map};
 ghost use Rattle.std.specs.String.{string_bytes};
-ghost use Rattle.mufom_command.specs.Topic.{command_name as named, link_name as link_text, locate_name as locate_text, place_name as place_text};
+ghost use Rattle.mufom_command.specs.Topic.{build_name as build_text, command_name as named, link_name as link_text, locate_name as locate_text, place_name as place_text};
 ghost use Rattle.mufom_command.specs.Topic.{plan_name as plan_text, refusal_name as refusal_text, topic_of as topic, txt_name as txt_text};
 ghost use Rattle.mufom_command.specs.Topic.{usage_topic as usage};
 
-use crate::error_lines::reason_name;
+use crate::error_lines::{build_reason_name, defect_name, reason_name};
 use crate::outcome::{Outcome, Refusal};
+use mufom_build::BuildRefusal;
 use mufom_help::commands::command_topic;
 use mufom_help::{command_list, topic_text};
 use mufom_image::LocateRefusal;
@@ -85,6 +86,17 @@ fn txt_name(reason: TxtReason) -> &'static str
     }
 }
 
+// The name of an error in a listing.
+fn build_name(refusal: BuildRefusal) -> &'static str
+    ensures { result.now ≡ build_text refusal }
+{
+    match refusal {
+        BuildRefusal::At { reason, .. } => build_reason_name(reason),
+        BuildRefusal::Module(defect) => defect_name(defect),
+        BuildRefusal::NoMemory => "",
+    }
+}
+
 // The name of an error: the first word of its line that begins with a capital letter.
 fn refusal_name(refusal: &Refusal) -> &'static str
     ensures { result.now ≡ refusal_text refusal.now }
@@ -100,6 +112,7 @@ fn refusal_name(refusal: &Refusal) -> &'static str
         Refusal::Keep(_) => "Unknown",
         Refusal::Bin(_) => "TooLong",
         Refusal::Text(refusal) => txt_name(refusal.reason),
+        Refusal::Build(refusal) => build_name(*refusal),
     }
 }
 

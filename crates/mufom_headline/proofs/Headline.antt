@@ -275,6 +275,7 @@ the-headline words files call result c plan flat is calm named locates accepts =
   by verb.Version same never = absurd never
   by verb.Explain same never = absurd never
   by verb.FromTxt same never = absurd never
+  by verb.Build same never = absurd never
   by verb.Locate same is_one =
       by-location verb.Locate same absolute_file refl refl
       (without-limit verb.Locate c (λ kept. absolute_file) (λ (is : verb.Locate ≡ verb.Bin). cc) (λ r. tt)

@@ -151,6 +151,7 @@ staged-runs-are-flat files c plan flat leaves bytes is_linking accepts came = by
   by_verb verb.Bin is_one = by_linking (locating raw_file) (alike verb.Bin)
   by_verb verb.Txt is_one = by_linking (locating txt_file) (alike verb.Txt)
   by_verb verb.FromTxt never = absurd never
+  by_verb verb.Build never = absurd never
   by_verb verb.Help never = absurd never
   by_verb verb.Version never = absurd never
   by_verb verb.Explain never = absurd never

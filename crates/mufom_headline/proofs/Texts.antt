@@ -75,7 +75,8 @@ module _ (text : List ℕ) (maus : ℕ) (runs : List Run) (low : 1 ≤ maus) (hi
         (module-gives c out (text_parts maus runs) (text-held maus runs low high has-module has-text) does.puts_out)
 
     module-file : work_of c.verb files c (gives (made out bytes))
-    module-file = subst (λ (v : Verb). work_of v files c (gives (made out bytes))) (sym does.does) (text, is-read, (runs, has-rows, puts-out))
+    module-file = subst (λ (v : Verb). work_of v files c (gives (made out bytes))) (sym does.does)
+        (text, is-read, (text_parts c.maus runs, (runs, has-rows, refl), puts-out))
 
   -- ---- `txt`
 

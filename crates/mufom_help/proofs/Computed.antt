@@ -2,8 +2,8 @@
 use Rattle.std.specs.Prelude.{◌≡◌, true, ◌++◌, ◌&&◌, List, take, drop}
 use Rattle.std.proofs.Common.{refl, ap, ◌∙◌}
 use Rattle.std.proofs.lemmas.List.Folds.{list_all-append}
-use Rattle.mufom_help.specs.Topics.{Topic, commands, records, structure, inputs, texts, linking, locating}
-use Rattle.mufom_help.specs.Topics.{input_errors, link_errors, module_errors, read_errors, errors, topics}
+use Rattle.mufom_help.specs.Topics.{Topic, commands, records, structure, inputs, texts, listings, linking, locating}
+use Rattle.mufom_help.specs.Topics.{content_errors, input_errors, link_errors, module_errors, read_errors, errors, topics}
 use Rattle.mufom_help.specs.Pages.{are_pages, is_page, fits_a_screen, have_own_names, piece_lengths, are_ended}
 use Rattle.mufom_help.specs.declared.commands.TheConstants.{LIST}
 
@@ -51,6 +51,10 @@ texts-pages : are_pages texts ≡ true
 unfolding piece_lengths are_ended
 texts-pages = refl
 
+listings-pages : are_pages listings ≡ true
+unfolding piece_lengths are_ended
+listings-pages = refl
+
 linking-pages : are_pages linking ≡ true
 unfolding piece_lengths are_ended
 linking-pages = refl
@@ -62,8 +66,11 @@ locating-pages = refl
 link-pages : are_pages link_errors ≡ true
 link-pages = joined-pages linking locating linking-pages locating-pages
 
+content-pages : are_pages content_errors ≡ true
+content-pages = joined-pages texts listings texts-pages listings-pages
+
 input-pages : are_pages input_errors ≡ true
-input-pages = joined-pages inputs texts inputs-pages texts-pages
+input-pages = joined-pages inputs content_errors inputs-pages content-pages
 
 module-pages : are_pages module_errors ≡ true
 module-pages = joined-pages records structure records-pages structure-pages

@@ -12,6 +12,7 @@ use Rattle.mufom_help.specs.declared.commands.TheConstants.{
   BIN,
   TXT,
   FROM_TXT,
+  BUILD,
   ADDR,
   MAKE,
   EXPLAIN,
@@ -65,6 +66,21 @@ use Rattle.mufom_help.specs.declared.inputs.TheConstants.{
   BEYOND,
 }
 use Rattle.mufom_help.specs.declared.texts.TheConstants.{BAD_LINE, NO_ADDRESS, TWICE, NO_END}
+use Rattle.mufom_help.specs.declared.listings.TheConstants.{
+  BAD_TEXT,
+  TOO_GREAT,
+  POSITION,
+  COUNT,
+  DEEP,
+  LONG_ID,
+  BAD_MAUS,
+  BAD_ALIGN,
+  MISPLACED_P,
+  FIELD_SIZE,
+  ATTRIBUTE,
+  NESTING,
+  WEIGHT,
+}
 use Rattle.mufom_help.specs.declared.linking.TheConstants.{MISMATCH, DUPLICATE, DUPLICATE_START, UNKNOWN}
 use Rattle.mufom_help.specs.declared.locating.TheConstants.{
   UNPLACED,
@@ -99,6 +115,7 @@ commands =
     (codes "bin", BIN.now) ∷
     (codes "txt", TXT.now) ∷
     (codes "fromtxt", FROM_TXT.now) ∷
+    (codes "build", BUILD.now) ∷
     (codes "addr", ADDR.now) ∷
     (codes "make", MAKE.now) ∷
     (codes "explain", EXPLAIN.now) ∷
@@ -170,6 +187,24 @@ texts =
     (codes "NoEnd", NO_END.now) ∷
     []
 
+-- errors in a listing
+abbrev pub listings : List Topic
+listings =
+    (codes "BadText", BAD_TEXT.now) ∷
+    (codes "TooGreat", TOO_GREAT.now) ∷
+    (codes "Position", POSITION.now) ∷
+    (codes "Count", COUNT.now) ∷
+    (codes "Deep", DEEP.now) ∷
+    (codes "LongId", LONG_ID.now) ∷
+    (codes "BadMaus", BAD_MAUS.now) ∷
+    (codes "BadAlign", BAD_ALIGN.now) ∷
+    (codes "MisplacedP", MISPLACED_P.now) ∷
+    (codes "FieldSize", FIELD_SIZE.now) ∷
+    (codes "Attribute", ATTRIBUTE.now) ∷
+    (codes "Nesting", NESTING.now) ∷
+    (codes "Weight", WEIGHT.now) ∷
+    []
+
 -- errors in linking, and in choosing what is kept
 abbrev pub linking : List Topic
 linking =
@@ -199,9 +234,13 @@ locating =
 abbrev pub module_errors : List Topic
 module_errors = records ++ structure
 
+-- errors in texts: a TI-TXT text, or a listing
+abbrev pub content_errors : List Topic
+content_errors = texts ++ listings
+
 -- errors in what is no module: the list of input files, the plan and texts
 abbrev pub input_errors : List Topic
-input_errors = inputs ++ texts
+input_errors = inputs ++ content_errors
 
 -- errors in linking and locating
 abbrev pub link_errors : List Topic

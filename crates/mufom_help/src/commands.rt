@@ -21,8 +21,9 @@ To print the image, what is at which address, or the source line at one:
 To write the image as raw bytes or as TI-TXT:
   bin [--no-debug] [--plan PLAN] [--keep NAME] [--fill BYTE] -o OUT FILES
   txt [--no-debug] [--plan PLAN] [--keep NAME] -o OUT FILES
-To make modules, from a TI-TXT file or for a self-test:
+To make modules, from a TI-TXT file or a listing, or for a self-test:
   fromtxt [--maus N] -o OUT FILE
+  build -o OUT FILE
   make COUNT
 To learn why a command is refused, or for help:
   explain COMMAND [OPTION ...] OPERAND ...
@@ -317,6 +318,34 @@ Example:
   mufom fromtxt -o rom.695 rom.txt
 ";
 
+/// The text of `help build`.
+pub const BUILD: &str = "build: makes a module from its listing
+
+Usage: mufom build -o OUT FILE
+
+Reads a listing, the text that `show --listing` prints, and writes the module
+of it to OUT. So a module can be kept and reviewed as text, changed by hand,
+and built again; and a test module can be written from nothing.
+
+Each line is as `show --listing` prints it. There may be more spaces where it
+has one, spaces around a line, blank lines, leading zeros, and hexadecimal
+digits of either case; in a name, \\x and two digits may stand for any byte.
+The numbers after `section`, `public`, `reference` and `name`, and after
+`bytes`, must be right. FILE has at most 67,108,864 bytes.
+
+Options:
+  -o OUT     the file to write; required
+  --         end the options; what follows is the name of a file
+
+Exit status:
+  0 done, 1 refused, 2 usage, 3 read fault, 4 write fault (a part of OUT may
+  remain), 5 out of memory
+
+Example:
+  mufom show --listing a.695 > a.txt
+  mufom build -o new.695 a.txt
+";
+
 /// The text of `help addr`.
 pub const ADDR: &str = "addr: prints the function and the source line at an address
 
@@ -443,6 +472,7 @@ pub fn command_topic(word: &str) -> Option<&'static str>
         "bin" => Some(BIN),
         "txt" => Some(TXT),
         "fromtxt" => Some(FROM_TXT),
+        "build" => Some(BUILD),
         "addr" => Some(ADDR),
         "make" => Some(MAKE),
         "explain" => Some(EXPLAIN),

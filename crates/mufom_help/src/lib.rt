@@ -10,6 +10,7 @@ pub mod commands;
 pub mod inputs;
 mod laws;
 pub mod linking;
+pub mod listings;
 pub mod locating;
 pub mod records;
 pub mod structure;

@@ -198,6 +198,9 @@ pub const TOO_LONG: &str = "TooLong: an expression, a plan or a raw image is lon
     name to a part of the expression: a public symbol.
     If OFFSET is in the debug part, use --no-debug to skip that part.
 
+  refused: listing line N column M: TooLong
+    The same of the expression that begins at column M of line N of a listing.
+
   refused: plan: TooLong
     The file of the plan has more than 65,536 bytes. The usual cause is that
     --plan names another file than was meant. Check the name. If the plan is
@@ -218,7 +221,8 @@ pub const LONG_RUN: &str = "LongRun: a literal of a load has more than 65,535 by
   refused: file N at OFFSET: LongRun
 
 In file N, counted from 0, a load says at OFFSET how many bytes follow, and
-that count is above 65,535.
+that count is above 65,535. Of a listing, `refused: listing: LongRun`, a line
+`bytes` has more than 65,535 bytes.
 
 Usual causes:
   - The writer of the file puts a whole section into one load.

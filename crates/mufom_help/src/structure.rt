@@ -202,7 +202,8 @@ pub const MISSING_BASE: &str = "MissingBase: an absolute section has no base add
 
 In file N, counted from 0, the record at OFFSET declares a section with the
 letters A S, of an absolute section, and no record of the section part gives
-its base address.
+its base address. Of a listing, `refused: listing: MissingBase`, a line
+`section` has the letters AS and no `base`.
 
 Usual causes:
   - The source has an absolute section without an address.
@@ -239,7 +240,8 @@ pub const NO_SECTION: &str = "NoSection: bytes are loaded before a section is se
   refused: file N at OFFSET: NoSection
 
 In file N, counted from 0, the record at OFFSET loads bytes, and no record
-before it selects the section (E5) that they belong to.
+before it selects the section (E5) that they belong to. Of a listing,
+`refused: listing: NoSection`, no line `select` is before the loads.
 
 Usual causes:
   - The writer of the file takes the first section as selected, or selects one

@@ -1,12 +1,13 @@
 //! The topics by their names, and the list of commands.
 
 ghost use Rattle.std.specs.Prelude.{◌≡◌, option_map};
-ghost use Rattle.mufom_help.specs.Topics.{errors, input_errors, link_errors, module_errors, read_errors, topic_in, topics};
+ghost use Rattle.mufom_help.specs.Topics.{content_errors, errors, input_errors, link_errors, module_errors, read_errors, topic_in, topics};
 ghost use Rattle.mufom_help.specs.declared.commands.TheConstants.{LIST};
 
 use crate::commands::{LIST, command_topic};
 use crate::inputs::input_topic;
 use crate::linking::linking_topic;
+use crate::listings::listing_topic;
 use crate::locating::locating_topic;
 use crate::records::record_topic;
 use crate::structure::structure_topic;
@@ -51,7 +52,13 @@ fn module_error(word: &str) -> Option<&'static str>
 fn input_error(word: &str) -> Option<&'static str>
     ensures { option_map (λ text. text.now) result ≡ topic_in input_errors word.now }
 {
-    input_topic(word).or_else(|| text_topic(word))
+    input_topic(word).or_else(|| content_error(word))
+}
+
+fn content_error(word: &str) -> Option<&'static str>
+    ensures { option_map (λ text. text.now) result ≡ topic_in content_errors word.now }
+{
+    text_topic(word).or_else(|| listing_topic(word))
 }
 
 fn link_error(word: &str) -> Option<&'static str>

@@ -128,7 +128,7 @@ fn comes_to(rt: &impl Abort, alloc: Global, line: &str, want: &str) {
 }
 
 // Lines and the commands that they give, with files by their numbers.
-static COMMANDS: [(&str, &str); 26] = [
+static COMMANDS: [(&str, &str); 27] = [
     // Files in their order.
     ("show a", "Show 0:a"),
     ("dump a", "Dump 0:a"),
@@ -173,6 +173,7 @@ static COMMANDS: [(&str, &str); 26] = [
         "Txt no_debug out=c plan=p 0:a",
     ),
     ("fromtxt --maus 8 -oc a", "FromTxt out=c maus=8 0:a"),
+    ("build -o c a", "Build out=c 0:a"),
     // What is explained is not read.
     ("explain -- dump a", "Explain"),
     ("explain --help", "Explain"),
@@ -189,7 +190,7 @@ fn lines_give_commands(rt: HostRuntime) {
 }
 
 // Lines that give none, and the first thing that is wrong with each.
-static FAULTS: [(&str, &str); 66] = [
+static FAULTS: [(&str, &str); 69] = [
     // Without a command.
     ("dmup a", "Usage(NoCommand)"),
     ("-- help", "Usage(NoCommand)"),
@@ -221,6 +222,9 @@ static FAULTS: [(&str, &str); 66] = [
     ("fromtxt -oc a + b", "Usage(BadMembers)"),
     ("fromtxt -oc [ a ]", "Usage(StrayBracket)"),
     ("fromtxt a", "Usage(BadWords)"),
+    ("build -oc", "Usage(NoFile)"),
+    ("build -oc a b", "Usage(FileCount)"),
+    ("build a", "Usage(BadWords)"),
     ("txt --maus 4 -oc a", "Usage(BadWords)"),
     ("Show a", "Usage(NoCommand)"),
     // Options that a command has not.

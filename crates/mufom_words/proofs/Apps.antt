@@ -18,6 +18,7 @@ app_for-simple form.Addr = refl
 app_for-simple form.Bin = refl
 app_for-simple form.Txt = refl
 app_for-simple form.FromTxt = refl
+app_for-simple form.Build = refl
 
 pub app_for-free : (f : Form) → is_simple_and_free (app_for f) ≡ true
 app_for-free form.Show = refl
@@ -31,3 +32,4 @@ app_for-free form.Addr = refl
 app_for-free form.Bin = refl
 app_for-free form.Txt = refl
 app_for-free form.FromTxt = refl
+app_for-free form.Build = refl

@@ -425,6 +425,7 @@ app_for-mild form.Addr = (inl refl, (inl refl, (inr (refl, refl, refl, refl), tt
 app_for-mild form.Bin = (inl refl, (inl refl, (inl refl, (inl refl, (inl refl, (inr (refl, refl, refl, refl), tt))))))
 app_for-mild form.Txt = (inl refl, (inl refl, (inl refl, (inl refl, (inr (refl, refl, refl, refl), tt)))))
 app_for-mild form.FromTxt = (inl refl, (inl refl, (inr (refl, refl, refl, refl), tt)))
+app_for-mild form.Build = (inl refl, (inr (refl, refl, refl, refl), tt))
 
 app_for-words : (f : Form) (words : List Text) → argument_words (app_for f) words ≡ drop 1 words
 app_for-words form.Show words = refl
@@ -438,6 +439,7 @@ app_for-words form.Addr words = refl
 app_for-words form.Bin words = refl
 app_for-words form.Txt words = refl
 app_for-words form.FromTxt words = refl
+app_for-words form.Build words = refl
 
 pub operands-within : (f : Form) (words : List Text) → length (given f words).operands ≤ length words
 operands-within f words =

@@ -30,6 +30,7 @@ forms-plain form.Addr = refl
 forms-plain form.Bin = refl
 forms-plain form.Txt = refl
 forms-plain form.FromTxt = refl
+forms-plain form.Build = refl
 
 for-plain : (f : Option Form) (words : List Text) (c : Command) → answer_for f words ≡ Ok c → explains c.verb ≡ false
 for-plain None words c named = absurd cc

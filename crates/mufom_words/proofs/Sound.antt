@@ -229,6 +229,7 @@ takes-out form.Addr = refl
 takes-out form.Bin = refl
 takes-out form.Txt = refl
 takes-out form.FromTxt = refl
+takes-out form.Build = refl
 
 takes-no-plan : (f : Form) → reads_plan (usage_of f).verb ≡ false → takes (usage_of f).settings setting.Plan ≡ false
 takes-no-plan form.Show e = refl
@@ -242,6 +243,7 @@ takes-no-plan form.Addr e = absurd cc
 takes-no-plan form.Bin e = absurd cc
 takes-no-plan form.Txt e = absurd cc
 takes-no-plan form.FromTxt e = refl
+takes-no-plan form.Build e = refl
 
 takes-no-keep : (f : Form) → keeps_what_is_needed (usage_of f).verb ≡ false → takes (usage_of f).settings setting.Keep ≡ false
 takes-no-keep form.Show e = refl
@@ -255,6 +257,7 @@ takes-no-keep form.Addr e = refl
 takes-no-keep form.Bin e = absurd cc
 takes-no-keep form.Txt e = absurd cc
 takes-no-keep form.FromTxt e = refl
+takes-no-keep form.Build e = refl
 
 takes-no-name : (f : Form) → names_module (usage_of f).verb ≡ false → takes (usage_of f).settings setting.Name ≡ false
 takes-no-name form.Show e = refl
@@ -268,6 +271,7 @@ takes-no-name form.Addr e = refl
 takes-no-name form.Bin e = refl
 takes-no-name form.Txt e = refl
 takes-no-name form.FromTxt e = refl
+takes-no-name form.Build e = refl
 
 prints-no-help : (f : Form) → prints_help (usage_of f).verb ≡ false
 prints-no-help form.Show = refl
@@ -281,6 +285,7 @@ prints-no-help form.Addr = refl
 prints-no-help form.Bin = refl
 prints-no-help form.Txt = refl
 prints-no-help form.FromTxt = refl
+prints-no-help form.Build = refl
 
 takes-files : (f : Form) → reads_files (usage_of f).verb ≡ true → (usage_of f).operands ≢ OneCount
 takes-files form.Show e = λ same. cc
@@ -294,6 +299,7 @@ takes-files form.Addr e = λ same. cc
 takes-files form.Bin e = λ same. cc
 takes-files form.Txt e = λ same. cc
 takes-files form.FromTxt e = λ same. cc
+takes-files form.Build e = λ same. cc
 
 takes-no-files : (f : Form) → reads_files (usage_of f).verb ≡ false → (usage_of f).operands ≡ OneCount
 takes-no-files form.Show e = absurd cc
@@ -307,6 +313,7 @@ takes-no-files form.Addr e = absurd cc
 takes-no-files form.Bin e = absurd cc
 takes-no-files form.Txt e = absurd cc
 takes-no-files form.FromTxt e = absurd cc
+takes-no-files form.Build e = absurd cc
 
 takes-count : (f : Form) → makes_modules (usage_of f).verb ≡ true → (usage_of f).operands ≡ OneCount
 takes-count form.Show e = absurd cc
@@ -320,6 +327,7 @@ takes-count form.Addr e = absurd cc
 takes-count form.Bin e = absurd cc
 takes-count form.Txt e = absurd cc
 takes-count form.FromTxt e = absurd cc
+takes-count form.Build e = absurd cc
 
 takes-one : (f : Form) → takes_one_file (usage_of f).verb ≡ true → (usage_of f).operands ≡ OneFile
 takes-one form.Show e = refl
@@ -333,6 +341,7 @@ takes-one form.Addr e = absurd cc
 takes-one form.Bin e = absurd cc
 takes-one form.Txt e = absurd cc
 takes-one form.FromTxt e = refl
+takes-one form.Build e = refl
 
 no-files : (o : Operands) (words : List Text) → o ≡ OneCount → files_of o words ≡ []
 no-files OneFile words same = absurd cc

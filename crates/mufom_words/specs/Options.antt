@@ -64,10 +64,12 @@ usage_of form.Txt = record {
   operands = operands.GroupedFiles;
 }
 usage_of form.FromTxt = record { verb = verb.FromTxt; name = codes "fromtxt"; settings = setting.Maus ∷ setting.Out ∷ []; operands = operands.OneFile }
+usage_of form.Build = record { verb = verb.Build; name = codes "build"; settings = setting.Out ∷ []; operands = operands.OneFile }
 
 -- all commands whose words `clap` reads
 abbrev pub forms : List Form
-forms = form.Show ∷ form.Check ∷ form.Link ∷ form.Locate ∷ form.Dump ∷ form.Map ∷ form.Make ∷ form.Addr ∷ form.Bin ∷ form.Txt ∷ form.FromTxt ∷ []
+forms = form.Show ∷ form.Check ∷ form.Link ∷ form.Locate ∷ form.Dump ∷ form.Map ∷ form.Make ∷ form.Addr ∷ form.Bin ∷ form.Txt ∷ form.FromTxt ∷ form.Build
+    ∷ []
 
 -- the one that a word names
 abbrev pub form_of : Text → Option Form
@@ -80,6 +82,7 @@ makes_file verb.Locate = true
 makes_file verb.Bin = true
 makes_file verb.Txt = true
 makes_file verb.FromTxt = true
+makes_file verb.Build = true
 makes_file _ = false
 
 -- the command reads a plan, where `--plan` names one
@@ -115,6 +118,7 @@ keeps_what_is_needed _ = false
 abbrev pub takes_one_file : Verb → Bool
 takes_one_file verb.Show = true
 takes_one_file verb.FromTxt = true
+takes_one_file verb.Build = true
 takes_one_file _ = false
 
 -- the command reads files

@@ -28,6 +28,8 @@ pub enum Verb {
     Txt,
     /// Reads a TI-TXT text, and writes a module that loads its bytes.
     FromTxt,
+    /// Reads the listing of a module, and writes the module.
+    Build,
     /// Prints the list of commands, or a text about a command or an error.
     Help,
     /// Prints the version of the program.

@@ -33,6 +33,7 @@ pub(crate) enum Form {
     Bin,
     Txt,
     FromTxt,
+    Build,
 }
 
 impl Form {
@@ -52,6 +53,7 @@ impl Form {
             "bin" => Some(Form::Bin),
             "txt" => Some(Form::Txt),
             "fromtxt" => Some(Form::FromTxt),
+            "build" => Some(Form::Build),
             _ => None,
         }
     }
@@ -72,6 +74,7 @@ impl Form {
             Form::Bin => Verb::Bin,
             Form::Txt => Verb::Txt,
             Form::FromTxt => Verb::FromTxt,
+            Form::Build => Verb::Build,
         }
     }
 
@@ -91,6 +94,7 @@ impl Form {
             Form::Bin => "bin",
             Form::Txt => "txt",
             Form::FromTxt => "fromtxt",
+            Form::Build => "build",
         }
     }
 
@@ -116,6 +120,7 @@ impl Form {
             ],
             Form::Txt => &[Setting::NoDebug, Setting::Plan, Setting::Keep, Setting::Out],
             Form::FromTxt => &[Setting::Maus, Setting::Out],
+            Form::Build => &[Setting::Out],
         }
     }
 
@@ -124,7 +129,7 @@ impl Form {
         ensures { result ≡ (usage_of self).operands }
     {
         match self {
-            Form::Show | Form::FromTxt => Operands::OneFile,
+            Form::Show | Form::FromTxt | Form::Build => Operands::OneFile,
             Form::Check => Operands::SomeFiles,
             Form::Link
             | Form::Locate

@@ -76,6 +76,12 @@ returns-in-FromTxt-clause-does g c =
     let call : Call = call_of g.H.World.meaning g.H.World.faults c.args.host.now c.fromtxt.new.host in
     does-plainly words c.args.command.now call c.fromtxt.result verb.FromTxt c.in-FromTxt.is refl c.fromtxt.ensures
 
+pub returns-in-Build-clause-does : goal.returns-in-Build-clause-does
+returns-in-Build-clause-does g c =
+    let words : List (List ℕ) = map (λ word. string_bytes word) c.args.words.now in
+    let call : Call = call_of g.H.World.meaning g.H.World.faults c.args.host.now c.build.new.host in
+    does-plainly words c.args.command.now call c.build.result verb.Build c.in-Build.is refl c.build.ensures
+
 pub returns-in-Help-clause-does : goal.returns-in-Help-clause-does
 returns-in-Help-clause-does g c =
     let words : List (List ℕ) = map (λ word. string_bytes word) c.args.words.now in
