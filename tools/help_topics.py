@@ -19,7 +19,7 @@ TOP = os.path.dirname(os.path.dirname(os.path.abspath(__file__)))
 # What goes before a name in an error line, by the definition that gives the name; else nothing is known of it.
 BEFORE = {"reason_text": "", "plan_text": "plan: ", "link_text": "link: ", "place_text": "locate: ", "locate_text": "locate: "}
 # The enums whose variants are the names of errors.
-ENUMS = ("Reason", "TxtReason", "PlanRefusal", "LinkRefusal", "PruneRefusal", "PlaceRefusal", "LocateRefusal")
+ENUMS = ("Reason", "TxtReason", "BuildReason", "Defect", "PlanRefusal", "LinkRefusal", "PruneRefusal", "PlaceRefusal", "LocateRefusal")
 # Variants that are no names: they have no line, or only hold another error.
 NOT_NAMES = {"NoMemory", "Place"}
 # Commands that are not in the table of commands, since they read no options.

@@ -203,8 +203,8 @@ fn words_that_name_no_files_are_usage_faults(rt: HostRuntime) {
     all_come_to(&rt, rt.alloc(), &USAGE);
 }
 
-// `check` of `count` files.
-fn many(rt: &impl Abort, alloc: Global, count: u32) -> String {
+/// `check` of `count` files.
+pub(crate) fn many(rt: &impl Abort, alloc: Global, count: u32) -> String {
     let mut line = "check".to_string(alloc).expect(rt, "memory");
     for _ in 0..count {
         line.push_str(" f").expect(rt, "memory");

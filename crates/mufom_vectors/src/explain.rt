@@ -1,10 +1,12 @@
 //! How runs end that are explained: the error line, what it names, and the text of help on it. Each error
 //! that the tables of runs have is here once.
 
+use crate::check::many;
 use crate::drafts::{REFERENCE, Records, SECTION, named_module};
 use crate::files::{ABSOLUTE, failing_host, host, numbers, words};
 use crate::locate::PAGE;
 use crate::runs::{Case, File, Held, all_come_to, explains};
+use crate::usage::deep;
 use mufom_command::run;
 use mufom_help::commands::command_topic;
 use mufom_help::{command_list, topic_text};
@@ -343,7 +345,18 @@ const PLACES: &[File] = &[
             b"\xE5\x01\xED\x01\x62\xE5\x02\xED\x01\x63",
         ),
     ),
+    (
+        "many",
+        Held::Section(TWO_AT_16, b"", b"\xE5\x01\xF7\x84\xFF\xFF\xFF\xFF\xED\x01a"),
+    ),
+    ("start", Held::Bytes(DIVIDED_START)),
 ];
+
+/// A module with nothing but a start address, which is divided by 0.
+const DIVIDED_START: &[u8] = b"\xE0\x0568000\x01m\xEC\x08\x04\xCD\xE2\xD7\x00\x84\x00\x00\x00\x00\
+    \xE2\xD7\x01\x84\x00\x00\x00\x00\xE2\xD7\x02\x84\x00\x00\x00\x00\xE2\xD7\x03\x84\x00\x00\x00\x00\
+    \xE2\xD7\x04\x84\x00\x00\x00\x00\xE2\xD7\x05\x84\x00\x00\x00\x00\xE2\xD7\x06\x84\x00\x00\x00\x4D\
+    \xE2\xD7\x07\x84\x00\x00\x00\x54\xE2\xC7\xBE\x01\x00\xA7\xBF\xE1";
 
 /// The value 256 in one byte; divisions by zero in a counter, in a field and in the value of a debug name.
 const VALUES: &[File] = &[
@@ -411,7 +424,7 @@ fn values_that_do_not_fit_are_explained(rt: HostRuntime) {
     all_are_explained(&rt, rt.alloc(), &UNKNOWN_VALUES);
 }
 
-static UNPLACED: [Row; 8] = [
+static UNPLACED: [Row; 10] = [
     (
         PLACES,
         "explain dump s u",
@@ -462,6 +475,18 @@ static UNPLACED: [Row; 8] = [
             \"d\": public in module 0\n\
             module 0 \"m\" file 0: \"zero\"\n",
         Topic::Error("DivideByZero"),
+    ),
+    (
+        PLACES,
+        "explain dump start",
+        "refused: locate: DivideByZero start\n",
+        Topic::Error("DivideByZero"),
+    ),
+    (
+        PLACES,
+        "explain dump many",
+        "refused: locate: ImageLimit 4294967295\n",
+        Topic::Error("ImageLimit"),
     ),
     (
         PLACES,
@@ -652,6 +677,57 @@ static REFUSED: [Case; 2] = [
         text: "usage: bad words\n",
     },
 ];
+
+/// A plan and a text that are longer than the limit.
+const LONG: &[File] = &[
+    ("a", Held::Absolute),
+    ("plan", Held::Spaces(65_537)),
+    ("text", Held::Spaces(67_108_865)),
+];
+
+static LIMITS: [Row; 2] = [
+    (
+        LONG,
+        "explain dump --plan plan a",
+        "refused: plan: TooLong\nplan: \"plan\"\n",
+        Topic::Error("TooLong"),
+    ),
+    (
+        LONG,
+        "explain fromtxt -o c text",
+        "refused: file 0: InputLimit\nfile 0: \"text\"\n",
+        Topic::Error("InputLimit"),
+    ),
+];
+
+#[test]
+fn long_inputs_are_explained(rt: HostRuntime) {
+    all_are_explained(&rt, rt.alloc(), &LIMITS);
+}
+
+// The explanation of `line` over no files is this error line and the text of help on this error.
+fn is_explained(rt: &impl Abort, alloc: Global, line: &str, lines: &str, error: &'static str) {
+    let mut explained = "explain ".to_string(alloc).expect(rt, "memory");
+    explained.push_str(line).expect(rt, "memory");
+    let help = topic_text(error).unwrap_or("");
+    assert!(rt; !help.is_empty(), "{error}");
+    explains(rt, alloc, &[], &explained, lines, help);
+}
+
+#[test]
+fn limits_of_the_arguments_are_explained(rt: HostRuntime) {
+    let alloc = rt.alloc();
+    let files = many(&rt, alloc, 1025);
+    is_explained(
+        &rt,
+        alloc,
+        &files,
+        "refused: TooManyFiles 1025\n",
+        "TooManyFiles",
+    );
+    let groups = deep(&rt, alloc, 65);
+    is_explained(&rt, alloc, &groups, "refused: TooDeep 65\n", "TooDeep");
+}
 
 #[test]
 fn an_explanation_is_not_explained(rt: HostRuntime) {

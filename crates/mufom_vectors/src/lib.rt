@@ -28,6 +28,8 @@ mod kept;
 #[cfg(test)]
 mod link;
 #[cfg(test)]
+mod listings;
+#[cfg(test)]
 mod lists;
 #[cfg(test)]
 mod locate;

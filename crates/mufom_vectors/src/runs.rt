@@ -25,6 +25,8 @@ pub(crate) enum Held {
     Second,
     Linked,
     Bytes(&'static [u8]),
+    /// This number of spaces.
+    Spaces(usize),
     /// A module with nothing but these external records.
     Names(&'static [u8]),
     /// A module with these sections, these external records and these loads.
@@ -97,10 +99,17 @@ fn changed(rt: &impl Abort, alloc: Global, offset: usize, byte: u8) -> Vec<u8> {
     bytes
 }
 
+fn spaces(rt: &impl Abort, alloc: Global, count: usize) -> Vec<u8> {
+    let mut bytes = Vec::new(alloc);
+    bytes.resize(count, b' ').expect(rt, "memory");
+    bytes
+}
+
 fn content(rt: &impl Abort, alloc: Global, held: &Held) -> Vec<u8> {
     match held {
         Held::Changed(offset, byte) => changed(rt, alloc, *offset, *byte),
         Held::Cut(count, rest) => cut(rt, alloc, *count, rest),
+        Held::Spaces(count) => spaces(rt, alloc, *count),
         Held::Names(external) => drafted(rt, alloc, 4, b"", external, b"", b""),
         Held::Section(sections, external, loads) => drafted(
             rt, alloc, 4, sections, external, b"", loads,

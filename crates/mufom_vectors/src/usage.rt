@@ -78,8 +78,8 @@ fn words_come_to_this(rt: HostRuntime) {
     all_come_to(&rt, rt.alloc(), &RUNS);
 }
 
-// A file in `count` groups, each in the one before it.
-fn deep(rt: &impl Abort, alloc: Global, count: u32) -> String {
+/// `dump` of a file in `count` groups, each in the one before it.
+pub(crate) fn deep(rt: &impl Abort, alloc: Global, count: u32) -> String {
     let mut line = "dump".to_string(alloc).expect(rt, "memory");
     for _ in 0..count {
         line.push_str(" [").expect(rt, "memory");
