@@ -1,5 +1,6 @@
 -- Pieces with the text that a listing prints of them, and the lines of these.
-use Rattle.std.proofs.Common.{◌≡◌, ℕ, zero, suc, ◌<◌, ◌≤◌, ◌==◌, Bool, true, false, if◌then◌else◌, List, [], ◌∷◌, ◌++◌, codes, refl, sym, ap, subst, ◌∙◌, inl, inr, arith, append_assoc}
+use Rattle.std.proofs.Common.{◌≡◌, ℕ, zero, suc, ◌<◌, ◌≤◌, ◌==◌, Bool, true, false, if◌then◌else◌, List}
+use Rattle.std.proofs.Common.{[], ◌∷◌, ◌++◌, codes, refl, sym, ap, subst, ◌∙◌, inl, inr, arith, append_assoc}
 use Rattle.std.specs.Fmt.{decimal}
 use Rattle.std.specs.List.{All, AllByRecursion}
 use Rattle.std.proofs.lemmas.List.Elements.{All-head, All-tail}
@@ -52,10 +53,16 @@ pub in_number : (n : ℕ) → IsNumber n → Printed (number_piece n) (decimal n
 in_number n small = record { spelled = spells-one exact (figure MOST_NUMBER n) (decimal n) (number_spelled n small); fit = (omega (arith, small), tt) }
 
 pub in_place : (n : ℕ) → IsPosition n → Printed (place_piece n) (decimal n)
-in_place n small = record { spelled = spells-one exact (figure MOST_POSITION n) (decimal n) (number_spelled n (omega (arith, small))); fit = (omega (arith, small), tt) }
+in_place n small = record {
+  spelled = spells-one exact (figure MOST_POSITION n) (decimal n) (number_spelled n (omega (arith, small)));
+  fit = (omega (arith, small), tt);
+}
 
 pub in_byte : (n : ℕ) → n < 256 → Printed (small_piece n) (decimal n)
-in_byte n small = record { spelled = spells-one exact (figure MOST_BYTE n) (decimal n) (number_spelled n (omega (arith, small))); fit = (omega (arith, small), tt) }
+in_byte n small = record {
+  spelled = spells-one exact (figure MOST_BYTE n) (decimal n) (number_spelled n (omega (arith, small)));
+  fit = (omega (arith, small), tt);
+}
 
 pub in_position : (n : ℕ) → IsPosition n → Printed (position n ∷ []) (decimal n)
 in_position n small = record {

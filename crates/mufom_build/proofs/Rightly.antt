@@ -6,7 +6,8 @@ use Rattle.std.specs.Str.Parse.{digits_value}
 use Rattle.mufom_text.specs.Words.{Text}
 use Rattle.mufom_build_text.specs.declared.refusal.BuildReason.{BuildReason}
 use Rattle.mufom_build_text.specs.declared.refusal.BuildReason.TheVariants.{Position, Count, TooGreat, TooLong, Deep}
-use Rattle.mufom_build_text.specs.Pieces.{Piece, byte, gap, figure, position, count, name, digits, expression, block, Reading, exact, loose, Spells, SpellsPiece}
+use Rattle.mufom_build_text.specs.Pieces.{Piece, byte, gap, figure, position, count, name}
+use Rattle.mufom_build_text.specs.Pieces.{digits, expression, block, Reading, exact, loose, Spells, SpellsPiece}
 use Rattle.mufom_build_text.specs.Pieces.{AreSpaces, MOST_POSITION, MOST_NUMBER}
 use Rattle.mufom_build_text.specs.Errors.{piece_error, stated_error}
 use Rattle.mufom_build_text.specs.Loosely.{Passes}

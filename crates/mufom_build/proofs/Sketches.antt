@@ -281,7 +281,8 @@ note_at stages.References m marks o note is closed shut h =
     let last = is.reference refl in
     record {
       rows = added (title_of m ∷ extension_rows m.ext ∷ environment_rows m.env ∷ map section_row m.sections ∷ flat_map public_rows m.names.publics ∷ [])
-          (flat_map reference_rows xs) (flat_map reference_rows (with_last (noted_reference note) xs)) (drop 6 (rows_by_part k)) (on_note, (None, note)) is.later
+          (flat_map reference_rows xs) (flat_map reference_rows (with_last (noted_reference note) xs)) (drop 6 (rows_by_part k))
+          (on_note, (None, note)) is.later
           (noted_rows reference_row (λ r. r.notes) (noted_reference note) note (λ r. refl) (λ r. refl) xs last);
       state = ap (λ n. record (sketch_state k) { references = n }) (as_long (noted_reference note) xs);
       orderly = outside_orderly (put k (on_note, (None, note))) is.later (λ e. absurd (other stages.References stages.Publics refl refl e))
@@ -390,7 +391,8 @@ load_put k load r one is closed shut h =
     let back = nothing_later k 1 8 is h in
     let loads = k.parts.loads in (
       placed k 8 (before_loads k.parts k.marks) (flat_map load_rows loads ++ repeat_rows k.repeat)
-          (flat_map load_rows (loads ++ load ∷ []) ++ repeat_rows k.repeat) (drop 8 (rows_by_part k)) r h back (added_here (flat_map load_rows loads) (flat_map load_rows (loads ++ load ∷ [])) (repeat_rows k.repeat) r (no_repeat k.repeat closed)
+          (flat_map load_rows (loads ++ load ∷ []) ++ repeat_rows k.repeat) (drop 8 (rows_by_part k)) r h back
+          (added_here (flat_map load_rows loads) (flat_map load_rows (loads ++ load ∷ [])) (repeat_rows k.repeat) r (no_repeat k.repeat closed)
           (flat_map_more load_rows loads load ∙ ap (λ l. flat_map load_rows loads ++ l) one)),
       outside_orderly (put_load k load) back (λ e. absurd (other stages.Loads stages.Publics refl refl e))
           (λ e. absurd (other stages.Loads stages.References refl refl e)) shut closed is.nested,
@@ -458,7 +460,8 @@ repeat_ended m marks open_repeat is =
     let whole = Repeat open_repeat.count open_repeat.items in
     let inner : List Row = (on_repeat, open_repeat.count) ∷ map item_row open_repeat.items in
     record {
-      rows = added (title_of m ∷ before_loads m marks) (loads ++ inner) (flat_map load_rows (m.loads ++ whole ∷ []) ++ []) (start_rows m.start ∷ []) (on_end, None) is.later
+      rows = added (title_of m ∷ before_loads m marks) (loads ++ inner) (flat_map load_rows (m.loads ++ whole ∷ []) ++ [])
+          (start_rows m.start ∷ []) (on_end, None) is.later
           (append-nil (flat_map load_rows (m.loads ++ whole ∷ [])) ∙ flat_map_more load_rows m.loads whole
           ∙ sym (append_assoc loads inner ((on_end, None) ∷ [])));
       state = refl;

@@ -13,7 +13,8 @@ use Rattle.mufom_build_text.specs.Errors.{noted, limited, judged, is_bad, IsSoun
 use Rattle.mufom_build_text.specs.Loosely.{Avoids, IsSpace, IsFigure, no_space, follows, NoSpace, NoFigure, Follows, Anything, AnyText}
 use Rattle.mufom_build_text.specs.Loosely.{Moves, PassesOne, Passes, Goes, ReadsLoosely, ReadsWords, ReadsFigure, ReadsPosition}
 use Rattle.mufom_build_text.specs.Loosely.{ReadsText, ReadsByte, ReadsGap, ReadsDigits}
-use Rattle.mufom_build_text.proofs.FirstBytes.{no, both_true, one_run, all_figures, numeral_first, no_space_spelled, no_figure_spelled, avoids_after, end_avoids}
+use Rattle.mufom_build_text.proofs.FirstBytes.{no, both_true, one_run, all_figures}
+use Rattle.mufom_build_text.proofs.FirstBytes.{numeral_first, no_space_spelled, no_figure_spelled, avoids_after, end_avoids}
 use Rattle.mufom_build_text.proofs.Noted.{bad_stays, noted_right, limited_is, judged_is, limited_bad, limited_right, judged_bad, judged_right}
 use Rattle.mufom_build_text.proofs.Noted.{stated_right, none_is, some_is}
 use Rattle.mufom_build_text.proofs.Lists.{empty}

@@ -177,8 +177,10 @@ module _ (words : List (List ℕ)) (c : Command) (given : answer_of words ≡ Ok
         -- the text was refused
         refused-ends : (details : List ℕ) (s : Stop) → IsOfText s → parts_of text (stops s) → IsInputDetail c (stop_outcome s) details
             → EndsFor c (λ files. work_of c.verb files c) (call_between old new before now) (stop_outcome s) details
-        refused-ends details (text_refused r) of_text comes is =
-            (record { stop = text_refused r; is = refl; of_inputs = tt; cause = caused (text_refused r) comes }, record { there = some-file c sound text_files; are = is })
+        refused-ends details (text_refused r) of_text comes is = (
+          record { stop = text_refused r; is = refl; of_inputs = tt; cause = caused (text_refused r) comes },
+          record { there = some-file c sound text_files; are = is },
+        )
         refused-ends details (listing_refused r) of_text comes is = (
           record { stop = listing_refused r; is = refl; of_inputs = tt; cause = caused (listing_refused r) comes },
           record { there = some-file c sound text_files; are = is },

@@ -27,7 +27,8 @@ use Rattle.mufom_command.specs.Contract.{run_by, run_of, work_with}
 use Rattle.mufom_command.specs.Explain.{HasLines, IsTextOn, explaining}
 use Rattle.mufom_command.specs.ExplainText.{explain_text}
 use Rattle.mufom_command.specs.FlatFiles.{AreFlatFiles}
-use Rattle.mufom_command.specs.HasDetails.{HasDetails, HasFileLine, HasPlanLine, IsRefusedFlat, explained_by, files_at, lines_of_link, lines_of_locate, lines_of_name}
+use Rattle.mufom_command.specs.HasDetails.{HasDetails, HasFileLine, HasPlanLine, IsRefusedFlat}
+use Rattle.mufom_command.specs.HasDetails.{explained_by, files_at, lines_of_link, lines_of_locate, lines_of_name}
 use Rattle.mufom_command.specs.LocateRefusals.{locate_refusal}
 use Rattle.mufom_command.specs.Run.{outcome_of}
 use Rattle.mufom_command.proofs.MapLaws.{flat-files-single}

@@ -65,7 +65,8 @@ use Rattle.mufom_titxt.specs.Written.{txt_text}
 use Rattle.mufom_command.specs.Commands.{Kept, Output, all_of, printed, made, form_of, prints, writes, writes_module, file_in, kept_of, kept_unless, plan_by}
 use Rattle.mufom_command.specs.Commands.{plan_in, modules_in, maus_of, located, located_unless, linked_file, locating, locating_kept, absolute_file}
 use Rattle.mufom_command.specs.Commands.{map_with, mapped_kept, printed_hit, printed_image, rest_of, rest_of_module}
-use Rattle.mufom_command.specs.Commands.{module_of_text, parts_of_listing, parts_of_txt, printed_map, raw_file, runs_of_text, runs_unless, text_in, txt_file, unless_past_limit}
+use Rattle.mufom_command.specs.Commands.{module_of_text, parts_of_listing, parts_of_txt, printed_map, raw_file}
+use Rattle.mufom_command.specs.Commands.{runs_of_text, runs_unless, text_in, txt_file, unless_past_limit}
 use Rattle.mufom_command.specs.Commands.{unless_too_long, listing, linking, linking_of, work_of, work_by}
 use Rattle.mufom_command.specs.Contract.{Answers, AnswersBy, AnswersWith, run_by, run_of, work_with}
 use Rattle.mufom_command.specs.Explain.{ExplainsTo, explaining}

@@ -2,7 +2,8 @@
 
 ghost use Rattle.std.specs.Prelude.{◌≡◌, map, option_map};
 ghost use Rattle.std.specs.String.{string_bytes};
-ghost use Rattle.mufom_command.specs.Topic.{build_name as build_text, command_name as named, link_name as link_text, locate_name as locate_text, place_name as place_text};
+ghost use Rattle.mufom_command.specs.Topic.{build_name as build_text, command_name as named};
+ghost use Rattle.mufom_command.specs.Topic.{link_name as link_text, locate_name as locate_text, place_name as place_text};
 ghost use Rattle.mufom_command.specs.Topic.{plan_name as plan_text, refusal_name as refusal_text, topic_of as topic, txt_name as txt_text};
 ghost use Rattle.mufom_command.specs.Topic.{usage_topic as usage};
 

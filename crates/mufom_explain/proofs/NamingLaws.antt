@@ -1,5 +1,6 @@
 -- An index of names that grows with the names, and names that are added one after another.
-use Rattle.std.proofs.Common.{◌≡◌, ℕ, ◌+◌, List, [], ◌∷◌, ◌++◌, length, Option, Some, None, is_none, is_some, Bool, true, false, not, if◌then◌else◌, refl, sym, ap, ◌∙◌, arith}
+use Rattle.std.proofs.Common.{◌≡◌, ℕ, ◌+◌, List, [], ◌∷◌, ◌++◌, length, Option, Some, None}
+use Rattle.std.proofs.Common.{is_none, is_some, Bool, true, false, not, if◌then◌else◌, refl, sym, ap, ◌∙◌, arith}
 use Rattle.mufom_names.specs.Index.{position_of, with_entry, numbered_from}
 use Rattle.mufom_names.proofs.PositionLaws.{numbered-push}
 use Rattle.mufom_plan.specs.Names.{has_name}

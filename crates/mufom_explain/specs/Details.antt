@@ -1,5 +1,6 @@
 -- The lines that follow an error line of linking or locating: what is behind each number and name in it.
-use Rattle.std.specs.Prelude.{ℕ, ◌-◌, List, [], ◌∷◌, ◌++◌, filter, find, flat_map, length, take, Option, Some, None, option_to_list, Bool, false, not, is_some, slice_get}
+use Rattle.std.specs.Prelude.{ℕ, ◌-◌, List, [], ◌∷◌, ◌++◌, filter, find, flat_map, length}
+use Rattle.std.specs.Prelude.{take, Option, Some, None, option_to_list, Bool, false, not, is_some, slice_get}
 use Rattle.std.specs.List.{enumerate_from}
 use Rattle.mufom_sections.specs.declared.section.Section.{Section}
 use Rattle.mufom_module.specs.declared.module.Parts.{Parts}

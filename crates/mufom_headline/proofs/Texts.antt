@@ -136,7 +136,8 @@ module _ (files : List NamedFile) (c : Command) (name bytes : List ℕ) (works :
 
       makes-file : MakesFile name bytes call
       makes-file =
-          let came = done-comes files call c result (answers-for files call c words result is named (works-plainly c.verb files c (gives (made name bytes)) works)) calm is-done in
+          let works_so = works-plainly c.verb files c (gives (made name bytes)) works in
+          let came = done-comes files call c result (answers-for files call c words result is named works_so) calm is-done in
           let hold : HoldBytes files = of-files call files calm.known HoldBytes calm.revealed.bytes in
           let same : came.output ≡ made name bytes = value-same came.output (made name bytes)
           (run_of-single words files hold (gives came.output) (gives (made name bytes)) (of-run came.output came.comes) (of-run (made name bytes) works)) in

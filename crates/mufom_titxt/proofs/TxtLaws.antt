@@ -76,8 +76,8 @@ or_none None = refl
 or_none (Some fact) = refl
 
 -- a refusal of bytes names such an address
-pub refusal_names : (cells : List Cell) (refusal : ImageRefusal) (stop : LoadStop) → AreLow cells → refusal ≡ refusals.Stopped stop → IsRefusal cells None refusal
-    → NamesTwice (fact_of stop)
+pub refusal_names : (cells : List Cell) (refusal : ImageRefusal) (stop : LoadStop) → AreLow cells → refusal ≡ refusals.Stopped stop
+    → IsRefusal cells None refusal → NamesTwice (fact_of stop)
 refusal_names cells refusal stop low is h =
     let P : ImageRefusal → Type 0 = λ r. IsRefusal cells None r in
     let stopped : IsRefusal cells None (refusals.Stopped stop) = subst P is h in

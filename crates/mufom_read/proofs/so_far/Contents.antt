@@ -238,10 +238,12 @@ module _ (c : Contents) (t : Tables) (all : List OffsetRecord) (start : ℕ) (p 
     blocks = blocks ∙ ap (λ bs. opened_after bs start p.row) before.contents.debug.blocks ∙ sym (open-more all start p);
   }
 
-  pub loads-taken : (new : Loads) (maus : ℕ) → stands_in data_part p.row ≡ true → maus
-      ≡ units_or (option_map (λ (l : Addressing). l.maus) c.header.layout) → new ≡ with_load (indexes_by t) maus c.loads p → new ≡ loads_so_far (records_in more)
+  pub loads-taken : (new : Loads) (maus : ℕ) → stands_in data_part p.row ≡ true
+      → maus ≡ units_or (option_map (λ (l : Addressing). l.maus) c.header.layout) → new ≡ with_load (indexes_by t) maus c.loads p
+      → new ≡ loads_so_far (records_in more)
   loads-taken new maus own units same =
-      let its : maus ≡ units_or (units_in ps) = units ∙ ap (λ (o : Option Addressing). units_or (option_map (λ (l : Addressing). l.maus) o)) before.contents.layout in
+      let its : maus ≡ units_or (units_in ps) =
+      units ∙ ap (λ (o : Option Addressing). units_or (option_map (λ (l : Addressing). l.maus) o)) before.contents.layout in
       same ∙ (λ j. with_load (indexes_by (before.tables j)) (its j) (before.contents.loads j) p)
       ∙ sym (ap (λ (b : Bool). cond b (with_load (indexes_by (tables_of ps)) (units_or (units_in ps)) (loads_so_far ps) p) (loads_so_far ps)) own)
       ∙ sym (ap loads_so_far with_one ∙ loads-more ps p)

@@ -54,7 +54,8 @@ module _ (t : Tables) (all : List OffsetRecord) where
       → public_faults t marks publics ≡ faults
       → public_faults t (cons_option (public_mark_by all p row) marks) (cons_option (unplaced_by (records_in all) p.1 row) publics)
       ≡ cons_option (entry_fault p row) faults
-  listed_row p (r.PublicName i name) marks publics faults h = ap (λ l. value_fault t (unplaced_value i (records_in all)) (mark_of p.0 (slice_get (starts i all) 0)) ∷ l) h
+  listed_row p (r.PublicName i name) marks publics faults h =
+      ap (λ l. value_fault t (unplaced_value i (records_in all)) (mark_of p.0 (slice_get (starts i all) 0)) ∷ l) h
   listed_row p row marks publics faults h = h
 
   listed : (placed : List OffsetRecord) → public_faults t (filter_map (λ p. public_mark_by all p p.1.row) placed)

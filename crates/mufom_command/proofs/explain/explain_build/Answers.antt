@@ -32,7 +32,8 @@ returns g c =
     parts_of_listing (λ files r comes. comes) c.only_file.result.now c.only_file.ensures c.in-Ok.text.items
     read.opens read.text (listing-of-text c.in-Ok.text.items) c.in-Err-built_from.answer
     (subst (λ (text : List ℕ). EndsAt (parts_of_listing text) c.in-Err-built_from.answer) c.as_slice.ensures.value c.in-Err-built_from.ensures.stops)
-    (told_text c.input_details-details-in-Err-built_from.result) c.input_details-details-in-Err-built_from.ensures c.print_explanation-in-Err-built_from.result put.answer put.told
+    (told_text c.input_details-details-in-Err-built_from.result) c.input_details-details-in-Err-built_from.ensures
+    c.print_explanation-in-Err-built_from.result put.answer put.told
 
 pub returns-in-Ok-built_from : goal.returns-in-Ok-built_from
 returns-in-Ok-built_from g c =

@@ -32,7 +32,8 @@ returns g c =
     (parts_of_txt c.args.command.now.maus) (λ files r comes. comes) c.only_file.result.now c.only_file.ensures c.in-Ok.text.items
     read.opens read.text (txt-of-text command.maus c.in-Ok.text.items) c.in-Err-module_of.answer
     (subst (λ (text : List ℕ). EndsAt (parts_of_txt command.maus text) c.in-Err-module_of.answer) c.as_slice.ensures.value c.in-Err-module_of.ensures.stops)
-    (told_text c.input_details-details-in-Err-module_of.result) c.input_details-details-in-Err-module_of.ensures c.print_explanation-in-Err-module_of.result put.answer put.told
+    (told_text c.input_details-details-in-Err-module_of.result) c.input_details-details-in-Err-module_of.ensures
+    c.print_explanation-in-Err-module_of.result put.answer put.told
 
 pub returns-in-Ok-module_of : goal.returns-in-Ok-module_of
 returns-in-Ok-module_of g c =

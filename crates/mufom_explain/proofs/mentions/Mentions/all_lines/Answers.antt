@@ -22,7 +22,8 @@ loop-place-preserved g c =
     ∙ ap (λ (lists : List (List Mention)). get_or lists i c.index.result.now) self.told
     ∙ get_or-map (mentions_of parts) names i name c.index.result.now within ∙ ap (mentions_of parts) (sym is) in
     flat-step g.K.Output.takes g.met.K.Output.joins (name_lines parts) names i name name _ _ _ within is c.loop-place.invariant
-    (subst (λ (ms : List Mention). g.K.Output.takes c.loop-place.out c.mention_lines.new.out (flat_map (mention_line name) ms)) mentions c.mention_lines.ensures)
+    (subst (λ (ms : List Mention). g.K.Output.takes c.loop-place.out c.mention_lines.new.out (flat_map (mention_line name) ms))
+    mentions c.mention_lines.ensures)
 
 pub returns : goal.returns
 returns g c =
