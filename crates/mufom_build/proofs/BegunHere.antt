@@ -20,7 +20,7 @@ use Rattle.mufom_build.specs.ReadRows.{ReadsRow}
 use Rattle.mufom_build.specs.Refusals.{text_lines, AreBegun, HasError, HasErrorAt, BeginWell, AreRight, IsWrongAt, IsRefusedAt}
 use Rattle.mufom_build.specs.Rows.{Row}
 use Rattle.mufom_build.specs.Shown.{shown_kind}
-use Rattle.mufom_build.specs.Order.{State, start, next, state_after, kind_of, may_come, row_pieces, lines_from, Run, IsFew}
+use Rattle.mufom_build.specs.Order.{State, start, next, state_after, kind_of, may_come, row_pieces, lines_from, AreInOrder, IsFew}
 use Rattle.mufom_build.specs.Begun.{IsPlain, SpellsLine, AreRows, AllFit, IsBeforeLine, IsAtEnd, Begun, IsNamedRow}
 use Rattle.mufom_build.proofs.TextLines.{NoFeed, IsDark, all_joined, spaces_plain, end_avoids_plain, EndsHere, first_line, only_line, last_text, lines_before}
 use Rattle.mufom_build.proofs.Certain.{certain, IsTail}
@@ -125,7 +125,7 @@ with_line texts here more all e = ap (λ l. take (length texts + 1) l) e ∙ tak
 
 -- ---- nothing is wrong before
 
-pub right_so_far : (rows : List Row) (texts more all : List Text) → all ≡ texts ++ more → AllByRecursion IsPlain all → Run start rows
+pub right_so_far : (rows : List Row) (texts more all : List Text) → all ≡ texts ++ more → AllByRecursion IsPlain all → AreInOrder start rows
     → AreRows exact start rows texts → AllFit (lines_from start rows) → AreRight all (length texts)
 right_so_far rows texts more all is plain run stated fit = record {
   begin = (
@@ -263,7 +263,7 @@ bad_here text rows place after noted end result x front is spaces last error wro
     let b = begun_rows (texts ++ here ∷ []) lines plain (subst (λ (l : List Text). AreBegun l lines) all begun) in
     let q = last_stated loose b.rows texts here (λ blank. not_blank h.here h.is (spaces_of x.before.lead h.here blank)) b.stated in
     let same = one_rows start rows q.first texts (rows_loosely exact start rows texts x.begun.stated) q.stated in
-    let run = subst (λ (l : List Row). Run start l) (q.is ∙ ap (λ l. l ++ q.row ∷ []) (sym same)) b.run in
+    let run = subst (λ (l : List Row). AreInOrder start l) (q.is ∙ ap (λ l. l ++ q.row ∷ []) (sym same)) b.run in
     let (may, few, none) = (run_split start rows (q.row ∷ []) run).1 in
     let spelled = subst (λ (l : List Row). SpellsLine loose (row_pieces (state_after start l) q.row) here) (sym same) q.spelled in
     let goes = goes_here s q.row place x.before.lead h.here h.end h.is h.line_end x.begun.right x.begun.past x.before.spaces spelled in

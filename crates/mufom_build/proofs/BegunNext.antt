@@ -16,7 +16,7 @@ use Rattle.mufom_build.specs.ReadRows.{ReadsRow}
 use Rattle.mufom_build.specs.Refusals.{text_lines, last_line, AreRight, IsRefusedAt}
 use Rattle.mufom_build.specs.Rows.{Row, rows_of}
 use Rattle.mufom_build.specs.Shown.{shown_kind}
-use Rattle.mufom_build.specs.Order.{State, start, state_after, kind_of, may_come, may_end, row_pieces, lines_from, Run}
+use Rattle.mufom_build.specs.Order.{State, start, state_after, kind_of, may_come, may_end, row_pieces, lines_from, AreInOrder}
 use Rattle.mufom_build.specs.Begun.{IsPlain, AreRows, Fits, AllFit, IsBeforeLine, IsAtEnd, Begun}
 use Rattle.mufom_build.proofs.Completed.{listing_is, listing_ends}
 use Rattle.mufom_build.proofs.TextLines.{NoFeed, IsDark, all_joined, all_split, spaces_plain, spaces_blank, blank_spaces, IsCut, cut, cut_lines, last_text}
@@ -83,7 +83,7 @@ last_number place texts (b ∷ tail) none line_is column_is =
     not_behind place (omega (arith, column)) ∙ line_is ∙ sym all ∙ sym (max_one _ (omega (arith, all)))
 
 -- Behind rows that are stated exactly, and behind spaces, a listing is begun.
-behind_blanks : (text : Text) (rows : List Row) (texts : List Text) (tail : Text) (place : Place) → AllByRecursion IsPlain texts → Run start rows
+behind_blanks : (text : Text) (rows : List Row) (texts : List Text) (tail : Text) (place : Place) → AllByRecursion IsPlain texts → AreInOrder start rows
     → AreRows exact start rows texts → AllFit (lines_from start rows) → IsRight place → IsPastBlanks place.rest → AreSpaces tail
     → text ≡ flat_map line texts ++ (tail ++ place.rest) → place.line ≡ length texts + 1 → place.column ≡ length tail + 1 → Begun text rows place
 behind_blanks text rows texts tail place plain run stated fit right past spaces is line_is column_is = go place.rest refl
@@ -154,7 +154,7 @@ record IsReadLine (text : Text) (rows : List Row) (texts : List Text) (row : Row
   is : text ≡ flat_map line texts ++ (here ++ rest)
   plain : IsPlain here
   some : 0 < length here
-  run : Run start (rows ++ row ∷ [])
+  run : AreInOrder start (rows ++ row ∷ [])
   stated : AreRows exact start (rows ++ row ∷ []) (texts ++ here ∷ [])
   fit : AllFit (lines_from start (rows ++ row ∷ []))
 

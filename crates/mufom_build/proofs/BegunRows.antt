@@ -11,7 +11,7 @@ use Rattle.mufom_build_text.proofs.Spelling.{spells-append, spells-one}
 use Rattle.mufom_build.specs.Lines.{Line, listing_lines}
 use Rattle.mufom_build.specs.Refusals.{text_lines, AreBegun, HasError, HasErrorAt, BeginWell}
 use Rattle.mufom_build.specs.Rows.{Row, rows_of}
-use Rattle.mufom_build.specs.Order.{State, start, next, state_after, row_pieces, lines_from, Run}
+use Rattle.mufom_build.specs.Order.{State, start, next, state_after, row_pieces, lines_from, AreInOrder}
 use Rattle.mufom_build.specs.Begun.{IsPlain, SpellsLine, AreRows}
 use Rattle.mufom_build.proofs.Completed.{listing_is, listing_runs, completed}
 use Rattle.mufom_build.proofs.TextLines.{cut, cut_lines, last_text}
@@ -100,14 +100,14 @@ lines_parted s (r ∷ rows) (l ∷ lines) rest e =
 -- Rows that run from the start are stated by the texts, and these are their lines.
 pub record AreBegunRows (texts : List Text) (lines : List Line) : Type 0 where
   pub rows : List Row
-  pub run : Run start rows
+  pub run : AreInOrder start rows
   pub are : lines_from start rows ≡ lines
   pub stated : AreRows loose start rows texts
 
 pub begun_rows : (texts : List Text) (lines : List Line) → AllByRecursion IsPlain texts → AreBegun texts lines → AreBegunRows texts lines
 begun_rows texts lines plain begun =
     let p = lines_parted start (rows_of begun.parts) lines begun.rest (sym (listing_is begun.parts) ∙ begun.begin) in
-    let run = subst (λ (l : List Row). Run start l) p.is (listing_runs begun.parts begun.few) in
+    let run = subst (λ (l : List Row). AreInOrder start l) p.is (listing_runs begun.parts begun.few) in
     record {
       rows = p.first;
       run = (run_split start p.first p.later run).0;
@@ -116,7 +116,7 @@ begun_rows texts lines plain begun =
           (subst (λ (l : List Line). SpellsLines loose l (flat_map line texts)) (sym p.are) begun.listed) refl;
     }
 
-pub rows_begun : (texts : List Text) (rows : List Row) → Run start rows → AreRows loose start rows texts → AreBegun texts (lines_from start rows)
+pub rows_begun : (texts : List Text) (rows : List Row) → AreInOrder start rows → AreRows loose start rows texts → AreBegun texts (lines_from start rows)
 rows_begun texts rows run stated =
     let (m, more, few, all, ends) = completed rows run in
     record {
@@ -133,7 +133,7 @@ pub fewer_begun : (texts more : List Text) (lines : List Line) → AllByRecursio
 fewer_begun texts more lines plain begun =
     let b = begun_rows (texts ++ more) lines plain begun in
     let p = rows_parted loose start b.rows texts more b.stated in
-    let run = (run_split start p.first p.later (subst (λ (l : List Row). Run start l) p.is b.run)).0 in
+    let run = (run_split start p.first p.later (subst (λ (l : List Row). AreInOrder start l) p.is b.run)).0 in
     (lines_from start p.first, rows_begun texts p.first run p.stated)
 
 pub begins_well_before : (texts : List Text) (n m : ℕ) → AllByRecursion IsPlain texts → m ≤ n → BeginWell texts n → BeginWell texts m
@@ -199,7 +199,7 @@ pub record IsErrorAt (texts : List Text) (position column : ℕ) (reason : Build
   pub begin : take (position + 1) texts ≡ earlier ++ text ∷ []
   pub rows : List Row
   pub row : Row
-  pub run : Run start (rows ++ row ∷ [])
+  pub run : AreInOrder start (rows ++ row ∷ [])
   pub stated : AreRows loose start rows earlier
   pub spelled : SpellsLine loose (row_pieces (state_after start rows) row) text
   pub wrong : HasError text (row_pieces (state_after start rows) row) column reason
@@ -229,7 +229,7 @@ error_of_row texts position column reason plain e =
           begin = e.begin;
           rows = p.first;
           row = r;
-          run = subst (λ (l : List Row). Run start l) is b.run;
+          run = subst (λ (l : List Row). AreInOrder start l) is b.run;
           stated = subst (λ (l : List Row). AreRows loose start l e.earlier) (sym same) last.stated;
           spelled = spelled;
           wrong = wrong;

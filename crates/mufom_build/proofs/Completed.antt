@@ -14,7 +14,7 @@ use Rattle.mufom_build.specs.declared.draft.OpenRepeat.{OpenRepeat}
 use Rattle.mufom_build.specs.declared.order.Stage.{Stage}
 use Rattle.mufom_build.specs.declared.order.Stage.TheVariants as stages
 use Rattle.mufom_build.specs.Lines.{AreFew, listing_lines}
-use Rattle.mufom_build.specs.Order.{State, start, stage_number, may_end, state_after, lines_from, Run}
+use Rattle.mufom_build.specs.Order.{State, start, stage_number, may_end, state_after, lines_from, AreInOrder}
 use Rattle.mufom_build.specs.Rows.{on_module, on_end, Row, extension_rows, environment_rows, section_row, public_rows, reference_rows, mark_row}
 use Rattle.mufom_build.specs.Rows.{load_rows, start_rows, rows_of}
 use Rattle.mufom_build.specs.Sketches.{Sketch, title_rows, sketch_rows, sketch_state, IsOrderly, put}
@@ -30,7 +30,7 @@ pub listing_is : (m : Parts) → listing_lines m ≡ lines_from start (rows_of m
 listing_is m = sym (module_listed m).are
 
 -- The rows of a module run from the start.
-pub listing_runs : (m : Parts) → AreFew m → Run start (rows_of m)
+pub listing_runs : (m : Parts) → AreFew m → AreInOrder start (rows_of m)
 listing_runs m few = few_run start (rows_of m) (module_listed m).ordered (rows_few m few)
 
 -- After them the listing may end.
@@ -69,11 +69,11 @@ pub record Reached (k : Sketch) (rows : List Row) : Type 0 where
   pub all : sketch_rows last ≡ sketch_rows k ++ rows
   pub state : sketch_state last ≡ state_after (sketch_state k) rows
 
-reached : (rows : List Row) (k : Sketch) → IsOrderly k → Run (sketch_state k) rows → Reached k rows
+reached : (rows : List Row) (k : Sketch) → IsOrderly k → AreInOrder (sketch_state k) rows → Reached k rows
 reached [] k is run = record { last = k; orderly = is; all = sym (append-nil (sketch_rows k)); state = refl }
 reached (r ∷ rows) k is (may, few, run) =
     let one = put_row k r is may in
-    let more = reached rows (put k r) one.orderly (subst (λ (s : State). Run s rows) (sym one.state) run) in
+    let more = reached rows (put k r) one.orderly (subst (λ (s : State). AreInOrder s rows) (sym one.state) run) in
     record {
       last = more.last;
       orderly = more.orderly;
@@ -199,7 +199,7 @@ completes k is = by_repeat k.stage k.parts k.marks k.repeat is
         (blocks_completed (depth_after_all 0 marks) g _ marks one.orderly (after_start g (is.in_loads refl)) refl)
 
 -- Rows that run from the start are the first ones of some module, and all of them where a listing may end.
-pub completed : (rows : List Row) → Run start rows
+pub completed : (rows : List Row) → AreInOrder start rows
     → (m : Parts) × (more : List Row) × AreFew m × (rows_of m ≡ rows ++ more) × (may_end (state_after start rows) ≡ true → more ≡ [])
 completed rows run =
     let at = reached rows blank blank_orderly run in

@@ -12,7 +12,7 @@ use Rattle.mufom_loads.specs.declared.load.Load.TheVariants.{SetSection, SetPc, 
 use Rattle.mufom_debug.specs.Marks.{DebugMark, block_begin, block_end, name_mark, note_mark, value_mark, marks_of}
 use Rattle.mufom_module.specs.declared.module.Parts.{Parts}
 use Rattle.mufom_build.specs.Lines.{HasFewNumbers, HasFewMarkNumbers, AreFew}
-use Rattle.mufom_build.specs.Order.{State, IsFew, Run, next}
+use Rattle.mufom_build.specs.Order.{State, IsFew, AreInOrder, next}
 use Rattle.mufom_build.specs.Rows.{on_end, Row, extension_rows, environment_rows, section_row, note_row, named_rows, public_row, reference_row}
 use Rattle.mufom_build.specs.Rows.{public_rows, reference_rows, mark_row, item_row, load_rows, start_rows, from_loads, from_marks, from_references}
 use Rattle.mufom_build.specs.Rows.{from_publics, from_sections, from_environment, rows_of}
@@ -142,10 +142,10 @@ parts_few m few =
 
 -- ---- rows that run
 
-pub run_few : (s : State) (rows : List Row) → Run s rows → AreFewRows rows
+pub run_few : (s : State) (rows : List Row) → AreInOrder s rows → AreFewRows rows
 run_few s [] run = tt
 run_few s (r ∷ rows) (may, few, run) = (few, run_few (next s r) rows run)
 
-pub few_run : (s : State) (rows : List Row) → Ordered s rows → AreFewRows rows → Run s rows
+pub few_run : (s : State) (rows : List Row) → Ordered s rows → AreFewRows rows → AreInOrder s rows
 few_run s [] ordered few = tt
 few_run s (r ∷ rows) (may, ordered) (here, few) = (may, here, few_run (next s r) rows ordered few)

@@ -13,7 +13,7 @@ use Rattle.mufom_build_text.proofs.Spelling.{spells-one}
 use Rattle.mufom_build.specs.Lines.{Line, Shape}
 use Rattle.mufom_build.specs.Refusals.{text_lines, AreBegun, HasError, HasErrorAt, BeginWell, AreRight, IsWrongAt, IsRefusedAt}
 use Rattle.mufom_build.specs.Rows.{Row}
-use Rattle.mufom_build.specs.Order.{State, start, state_after, row_pieces, lines_from, Run}
+use Rattle.mufom_build.specs.Order.{State, start, state_after, row_pieces, lines_from, AreInOrder}
 use Rattle.mufom_build.specs.Begun.{IsPlain, SpellsLine, AreRows}
 use Rattle.mufom_build.proofs.Certain.{certain, apart, begins_byte, IsTail, tail_more, one_piece, one_front, same_front, same_rest, certain_later}
 use Rattle.mufom_build.proofs.CertainLines.{row_certain, row_apart}

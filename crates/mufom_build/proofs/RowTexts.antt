@@ -10,7 +10,7 @@ use Rattle.mufom_build_text.proofs.FirstBytes.{one_run}
 use Rattle.mufom_build.specs.Lines.{Line}
 use Rattle.mufom_build.specs.Refusals.{text_lines}
 use Rattle.mufom_build.specs.Rows.{Row}
-use Rattle.mufom_build.specs.Order.{State, next, state_after, row_pieces, lines_from, Run}
+use Rattle.mufom_build.specs.Order.{State, next, state_after, row_pieces, lines_from, AreInOrder}
 use Rattle.mufom_build.specs.Begun.{IsPlain, SpellsLine, AreRows}
 use Rattle.mufom_build.proofs.TextLines.{NoFeed, IsDark, all_joined, all_split, spaces_plain, spaces_blank, blank_spaces, end_avoids_plain, last_text}
 use Rattle.mufom_build.proofs.TextLines.{line_before, whole_line, flat_lines, cut, cut_lines, first_blank, loose_pieces, loosely, blank_first, line_ended}
@@ -18,11 +18,11 @@ use Rattle.mufom_build.proofs.RowLines.{row_plain, row_dark, row_once}
 
 -- ---- rows one after another
 
-pub run_split : (s : State) (rows more : List Row) → Run s (rows ++ more) → Run s rows × Run (state_after s rows) more
+pub run_split : (s : State) (rows more : List Row) → AreInOrder s (rows ++ more) → AreInOrder s rows × AreInOrder (state_after s rows) more
 run_split s [] more run = (tt, run)
 run_split s (r ∷ rows) more (may, few, run) = let (a, b) = run_split (next s r) rows more run in ((may, few, a), b)
 
-pub run_joined : (s : State) (rows more : List Row) → Run s rows → Run (state_after s rows) more → Run s (rows ++ more)
+pub run_joined : (s : State) (rows more : List Row) → AreInOrder s rows → AreInOrder (state_after s rows) more → AreInOrder s (rows ++ more)
 run_joined s [] more run others = others
 run_joined s (r ∷ rows) more (may, few, run) others = (may, few, run_joined (next s r) rows more run others)
 

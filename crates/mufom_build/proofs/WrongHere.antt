@@ -19,7 +19,7 @@ use Rattle.mufom_build.specs.ReadRows.{ReadsRow}
 use Rattle.mufom_build.specs.Refusals.{text_lines, AreBegun, HasError, HasErrorAt, AreRight, IsWrongAt, IsRefusedAt}
 use Rattle.mufom_build.specs.Rows.{Row}
 use Rattle.mufom_build.specs.Shown.{shown_kind}
-use Rattle.mufom_build.specs.Order.{State, start, state_after, kind_of, may_come, row_pieces, lines_from, Run}
+use Rattle.mufom_build.specs.Order.{State, start, state_after, kind_of, may_come, row_pieces, lines_from, AreInOrder}
 use Rattle.mufom_build.specs.Begun.{SpellsLine, AreRows, IsBeforeLine, IsAtEnd, Begun, IsNamedRow}
 use Rattle.mufom_build.proofs.TextLines.{NoFeed, all_joined, spaces_plain, end_avoids_plain}
 use Rattle.mufom_build.proofs.Certain.{certain, IsTail, same_back}

@@ -8,7 +8,7 @@ use Rattle.mufom_build_text.specs.declared.refusal.BuildReason.{BuildReason}
 use Rattle.mufom_build_text.specs.Errors.{wrong_line, Fails, IsNamed}
 use Rattle.mufom_build_text.specs.Reads.{Place, IsRight, IsPastBlanks}
 use Rattle.mufom_build.specs.Lines.{Line}
-use Rattle.mufom_build.specs.Order.{State, start, next, row_pieces, lines_from, Run}
+use Rattle.mufom_build.specs.Order.{State, start, next, row_pieces, lines_from, AreInOrder}
 use Rattle.mufom_build.specs.Refusals.{text_lines, last_line}
 use Rattle.mufom_build.specs.Rows.{Row}
 
@@ -71,7 +71,7 @@ pub record IsAtEnd (text : Text) (texts : List Text) (place : Place) : Type 0 wh
 pub record Begun (text : Text) (rows : List Row) (place : Place) : Type 0 where
   pub texts : List Text
   pub plain : AllByRecursion IsPlain texts
-  pub run : Run start rows
+  pub run : AreInOrder start rows
   pub stated : AreRows exact start rows texts
   pub fit : AllFit (lines_from start rows)
   pub right : IsRight place

@@ -194,6 +194,6 @@ IsFew (on_block, (head, title)) = HasFewHeadNumbers head
 IsFew _ = Unit {0}
 
 -- Each of the rows may come after those before it, and is few.
-abbrev pub Run : State → List Row → Type 0
-Run s [] = Unit {0}
-Run s (r ∷ rows) = (may_come s (kind_of r) ≡ true) × IsFew r × Run (next s r) rows
+abbrev pub AreInOrder : State → List Row → Type 0
+AreInOrder s [] = Unit {0}
+AreInOrder s (r ∷ rows) = (may_come s (kind_of r) ≡ true) × IsFew r × AreInOrder (next s r) rows

@@ -61,8 +61,12 @@ fn read_rows(alloc: Global, cursor: &mut Cursor) -> Result<Draft, PieceStop>
 /// with the length of the text. The depth of blocks and expressions costs no depth of calls.
 pub fn build(alloc: Global, text: &[u8]) -> Result<Module, BuildRefusal>
     requires { length text.now ≤ MOST_FILE_BYTES }
+
+    // The text is a listing of the module that is returned.
     ensures built { IfOk result (λ m. Build text.now m) }
+    // No line is wrong, and the parts that the listing states have this defect and none before it.
     ensures defect { (d : Defect) → result ≡ Err (BuildRefusal.Module d) → HasDefect text.now d }
+    // This is the first line that is wrong, and its first error.
     ensures refused { (line column : ℕ) (reason : BuildReason) → result ≡ Err (BuildRefusal.At line column reason)
         → IsRefusedAt text.now line column reason }
 {

@@ -5,7 +5,8 @@
 //! makes a file of the module into which modules are linked, with groups and members; `locate` makes a
 //! file of the absolute module of its location by a plan, `dump` prints the image, `bin` makes a file of
 //! its raw bytes and `txt` one of its TI-TXT text, `map` prints what is at which address, and `addr` the
-//! function and the source line at an address. `fromtxt` makes a file of the module of a TI-TXT text. `make` generates modules, locates
+//! function and the source line at an address. `fromtxt` makes a file of the module of a TI-TXT text, and
+//! `build` one of the module of a listing. `make` generates modules, locates
 //! them and prints a summary. `help` and `version` print texts of the program. `explain` before any of these
 //! prints how it would end, and what its error line names. The main clause is the
 //! contract of [`run`]: each outcome has its cause in the arguments, the files or the counts of faults, and

@@ -73,7 +73,7 @@ fn located(
 }
 
 /// The location of a module by a plan: the sections and commons at their bases, each public, start
-/// and debug expression its value, and the loaded bytes as rows of addresses.
+/// and debug expression its value, and the loaded bytes as runs of consecutive addresses.
 ///
 /// No public name may occur twice in the module. The plan has fewer than 2^32 regions, no section name
 /// twice and at most one region for the commons, as [`read_plan`](mufom_plan::read_plan) gives it. Both

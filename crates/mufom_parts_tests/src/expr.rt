@@ -182,7 +182,8 @@ static VALUED: [ValuedCase; 4] = [
 #[test]
 fn a_value_needs_those_of_its_variables(rt: HostRuntime) {
     for (tokens, r0, width, want) in &VALUED {
-        assert_eq!(rt; valued(rt.alloc(), tokens, *r0, *width), *want);
+        let value = valued(rt.alloc(), tokens, *r0, *width);
+        assert_eq!(rt; value, *want, "{tokens:?} at {width}");
     }
 }
 
@@ -318,17 +319,19 @@ static LEFT_OUT: [u8; 10] = [0xA0, 0xA1, 0xA4, 0xB3, 0xB4, 0xB5, 0xB6, 0xB7, 0xB
 #[test]
 fn each_function_and_letter_has_its_byte(rt: HostRuntime) {
     for (byte, function) in &FUNCTIONS {
-        assert_eq!(rt; read_token(&[*byte]), Taken::Got(Fun(*function), 1));
+        let token = read_token(&[*byte]);
+        assert_eq!(rt; token, Taken::Got(Fun(*function), 1), "{byte}");
     }
     for (byte, letter) in &LETTERS {
-        assert_eq!(rt; read_token(&[*byte, 7]), Taken::Got(Var(*letter, 7), 2));
+        let token = read_token(&[*byte, 7]);
+        assert_eq!(rt; token, Taken::Got(Var(*letter, 7), 2), "{byte}");
     }
     let fault = Taken::Bad {
         offset: 0,
         reason: Reason::UnsupportedFunction,
     };
     for byte in &LEFT_OUT {
-        assert_eq!(rt; read_token(&[*byte]), fault);
+        assert_eq!(rt; read_token(&[*byte]), fault, "{byte}");
     }
 }
 
@@ -368,7 +371,7 @@ fn infix_of(rt: &impl Abort, alloc: Global, tokens: &[Token]) -> Bytes {
 fn expressions_are_shown_in_infix_form(rt: HostRuntime) {
     for (tokens, want) in &TEXTS {
         let text = infix_of(&rt, rt.alloc(), tokens.as_slice());
-        assert_eq!(rt; text.as_slice(), want.as_bytes());
+        assert_eq!(rt; text.as_slice(), want.as_bytes(), "{want}");
     }
 }
 

@@ -137,7 +137,7 @@ static BYTES: [&[u8]; 2] = [&[0, 255], b"twenty-six bytes of a name"];
 fn bytes_are_copied(rt: HostRuntime) {
     for bytes in &BYTES {
         let copy = Bytes::from_slice(rt.alloc(), bytes).expect(&rt, "memory");
-        assert_eq!(rt; copy.as_slice(), *bytes);
+        assert_eq!(rt; copy.as_slice(), *bytes, "{bytes:?}");
     }
 }
 

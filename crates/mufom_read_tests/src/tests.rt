@@ -178,7 +178,11 @@ pub(crate) fn comes_to(
 )
     requires { 0 < size }
 {
-    assert_eq!(rt; stop(alloc, stream, size, reads_debug), wanted);
+    assert_eq!(rt;
+        stop(alloc, stream, size, reads_debug),
+        wanted,
+        "in chunks of {size} bytes"
+    );
 }
 
 // Asserts that a stream, read whole and in chunks of one and of seven bytes, has this error at this offset.

@@ -63,7 +63,7 @@ fn the_first_line_with_an_error_is_named(rt: HostRuntime) {
     ];
     for (text, line, reason) in cases {
         let wanted = TxtRefusal { line, reason };
-        assert_eq!(rt; refusal(&rt, rt.alloc(), text), wanted);
+        assert_eq!(rt; refusal(&rt, rt.alloc(), text), wanted, "{text}");
     }
 }
 

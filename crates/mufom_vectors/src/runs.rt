@@ -184,14 +184,14 @@ pub(crate) fn made_twice(
 }
 
 // A run that is done prints this text alone.
-fn is_done(rt: &impl Abort, host: &MemHost, text: &str) {
-    assert_eq!(rt; host.out(), text.as_bytes());
+fn is_done(rt: &impl Abort, host: &MemHost, line: &str, text: &str) {
+    assert_eq!(rt; host.out(), text.as_bytes(), "{line}");
     assert!(rt; host.err().is_empty());
 }
 
 // A run that is not done prints this error line alone, and no file is made or begun.
-fn is_not_done(rt: &impl Abort, host: &MemHost, text: &str) {
-    assert_eq!(rt; host.err(), text.as_bytes());
+fn is_not_done(rt: &impl Abort, host: &MemHost, line: &str, text: &str) {
+    assert_eq!(rt; host.err(), text.as_bytes(), "{line}");
     assert!(rt; host.out().is_empty());
     assert!(rt; host.made().is_none());
     assert!(rt; host.making().is_none());
@@ -212,8 +212,8 @@ fn comes_to(rt: &impl Abort, alloc: Global, case: &Case) {
         "{line}"
     );
     match case.status {
-        0 => is_done(rt, &host, case.text),
-        _ => is_not_done(rt, &host, case.text),
+        0 => is_done(rt, &host, line, case.text),
+        _ => is_not_done(rt, &host, line, case.text),
     }
 }
 
@@ -256,15 +256,15 @@ pub(crate) fn makes(rt: &impl Abort, alloc: Global, files: &[File], line: &str, 
 /// A line of arguments over no files gives this status and this error line alone.
 pub(crate) fn complains_of(rt: &impl Abort, alloc: Global, line: &str, status: u8, text: &str) {
     let mut host = host_of(rt, alloc, List::new(alloc));
-    assert_eq!(rt; status_of(rt, alloc, &mut host, line), status);
-    is_not_done(rt, &host, text);
+    assert_eq!(rt; status_of(rt, alloc, &mut host, line), status, "{line}");
+    is_not_done(rt, &host, line, text);
 }
 
 /// A run without arguments is a usage error, with this error line alone.
 pub(crate) fn complains_of_no_words(rt: &impl Abort, alloc: Global, text: &str) {
     let mut host = host_of(rt, alloc, List::new(alloc));
     assert_eq!(rt; run(alloc, &[], &mut host).status(), 2);
-    is_not_done(rt, &host, text);
+    is_not_done(rt, &host, "", text);
 }
 
 /// The file of these bytes is shown as this text.
@@ -273,5 +273,5 @@ pub(crate) fn shows(rt: &impl Abort, alloc: Global, bytes: &[u8], text: &str) {
     add(rt, alloc, &mut files, "a", bytes);
     let mut host = host_of(rt, alloc, files);
     assert_eq!(rt; status_of(rt, alloc, &mut host, "show a"), 0);
-    is_done(rt, &host, text);
+    is_done(rt, &host, "show a", text);
 }

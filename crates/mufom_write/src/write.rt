@@ -68,9 +68,13 @@ fn write_held<K: Sink>(sink: &mut K, parts: &Parts) -> Result<(), Failed>
 /// only if a write failed and the count of failed writes rose; a prefix of the written form may then be
 /// in the file.
 pub fn write_module<K: Sink>(module: &Module, sink: &mut K) -> Result<(), WriteStop>
+
+    // The file grows by the written form; after an error, by the beginning of it.
     ensures whole { OnOk result (MakingGrowsBy (K.meaning sink.old).making (K.meaning sink.new).making (written «module».now)) }
     ensures prefix { OnErr result (MakingGrowsByPrefix (K.meaning sink.old).making (K.meaning sink.new).making (written «module».now)) }
+    // The written form is a file of the module.
     ensures spells { length (written «module».now) ≤ file_limit → SpellsModule «module».now (written «module».now) true }
+    // Nothing but the file being made changes, and an error is a write that failed.
     ensures only { OnlyWrites (K.meaning sink.old) (K.meaning sink.new) (K.faults sink.old) (K.faults sink.new) }
     ensures cause { OnErr result (Rose (K.faults sink.old).writes (K.faults sink.new).writes) }
 {
