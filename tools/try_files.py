@@ -3,9 +3,9 @@
     python3 tools/try_files.py PROGRAM SEED COUNT
     python3 tools/try_files.py PROGRAM --hostile
 
-Each file is checked with its debug part read, or passed over. A file that the program and the judge
-answer differently is kept beside the others in the folder for temporary files, and named; the last
-line has the number of these and how often each answer came. The status is 0 where there is none.
+Each file is checked with its debug part read or skipped. If the program and the judge disagree about
+a file, it is kept in the folder for temporary files, and named. The last line gives the number of
+these files and how often each answer occurred. The status is 0 if there are none.
 """
 
 import collections

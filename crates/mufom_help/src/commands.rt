@@ -75,8 +75,8 @@ Usage: mufom check [--no-debug] FILE ...
 Reads all files, up to 1,024 of them, and then prints a line for each:
   file N NAME: sections A publics B references C loads D debug E
 N is the number of the file, from 0, and NAME the name of the module in it. If
-a file is refused, no line is printed, and the error names the first byte that
-is wrong.
+a file is refused, no line is printed, and the error line names the first error
+in it and its offset.
 
 Options:
   --no-debug   skip the debug parts without reading them; errors in them are
@@ -97,8 +97,8 @@ Usage: mufom link [--no-debug] [--name NAME] -o OUT FILES
 
 Writes one module to OUT that replaces its inputs in every later link. A
 reference to a name that one of the modules defines becomes that public
-symbol; the other references stay. Nothing is located. OUT is created only if
-the whole link succeeds.
+symbol; the other references stay. Nothing is located. OUT is created only
+after all of its bytes are known.
 
 FILES are files and groups, then perhaps a + and members:
   a.695 [ b.695 c.695 ] + library.695
@@ -129,7 +129,7 @@ Usage: mufom locate [--no-debug] [--plan PLAN] [--keep NAME] -o OUT FILES
 
 Links FILES as `link` does, places the sections by a memory plan, and writes
 the absolute module to OUT: every section has its base address and every
-expression is its value. OUT is created only if the whole run succeeds.
+expression is its value. OUT is created only after all of its bytes are known.
 Without --plan, every section needs a base address of its own.
 
 FILES are files and groups, then perhaps a + and members:

@@ -16,7 +16,7 @@ pub enum LocateRefusal {
     /// The name of the first strong reference that neither a public nor a common has.
     #[error("undefined symbol")]
     Undefined(Bytes),
-    /// The name of the first weak reference that asks for room, if no region takes commons.
+    /// The name of the first common, if no region takes commons: weak references request space for it, and no public has it.
     #[error("no region takes common symbols")]
     CommonUnplaced(Bytes),
     /// The name of the first public whose expression leads back to itself.

@@ -8,7 +8,7 @@ use thiserror::Error;
 #[derive(Debug, Drop, Error)]
 pub enum LinkRefusal {
     /// The descriptor of the first module, and the first one that differs from it.
-    #[error("the modules have different address units")]
+    #[error("the modules differ in the length of an address or in byte order")]
     Mismatch(Descriptor, Descriptor),
     /// The name of the first public symbol that has the name of an earlier one.
     #[error("duplicate public symbol")]

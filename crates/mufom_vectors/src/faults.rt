@@ -15,7 +15,7 @@ fn host(rt: &impl Abort, alloc: Global, reads: &[u64], writes: &[u64]) -> MemHos
     failing_host(rt, alloc, &[("a", &ABSOLUTE)], reads, writes)
 }
 
-// The answer to three words on this host, with what must be printed to both outputs.
+// A run with these two arguments on this host ends with this status, and prints this to the output and to the errors.
 fn ends(
     rt: &impl Abort,
     alloc: Global,

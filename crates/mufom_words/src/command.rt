@@ -107,7 +107,7 @@ pub struct Command {
     pub at: u64,
     /// `--maus`: the number of bytes in an address of the module that `fromtxt` makes; 4 without the option.
     pub maus: u8,
-    /// `--keep`: the public symbol to keep. What it does not need is left out.
+    /// `--keep`: the public symbol to keep. What neither it, nor the start, nor a section with a base needs is left out.
     pub keep: Option<Bytes>,
     /// The text that `help` or `version` prints; `None` for other commands.
     pub help: Option<HelpText>,
