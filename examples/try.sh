@@ -1,8 +1,8 @@
 #!/usr/bin/env bash
 # Tries the examples of the documents:  bash examples/try.sh PROGRAM
 #
-# Each block of docs/GUIDE.md, docs/COMMANDS.md and docs/REFUSALS.md that begins with a line `$ COMMAND` is run, line by line, in a copy
-# of the folder that the page speaks of, and what is printed is compared with the page. The status is 0 if all examples hold.
+# Runs each block of docs/GUIDE.md, docs/COMMANDS.md and docs/REFUSALS.md that begins with a line `$ COMMAND`, line by line, in a copy of
+# the folder that the page uses, and compares the output with the page. The status is 0 if all examples hold.
 set -u
 : "${1:?the built program is missing: bash examples/try.sh PROGRAM}"
 program=$(readlink -f "$1")
@@ -32,7 +32,7 @@ for language, block in re.findall(r"^ *```(\w*)\n(.*?)^ *```$", page, re.M | re.
             tries[-1][1].append(line)
     for command, wanted in tries:
         if command.startswith("touch "):
-            # So that make sees a later time than that of the files just made.
+            # make must see a later time than that of the files that were just made.
             time.sleep(1)
         run = subprocess.run(["bash", "-c", command], stdout=subprocess.PIPE, stderr=subprocess.STDOUT, text=True, check=False)
         if run.stdout.splitlines() == wanted:

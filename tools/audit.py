@@ -1,35 +1,35 @@
 #!/usr/bin/env python3
-"""Writes docs/AUDIT.md: the definitions that the contract of `run` and its public laws reach.
+"""Writes docs/AUDIT.md: the definitions on which the contract of `run` and the public laws depend.
 
 usage: audit.py [--check]      run at the top of the repository
 
-It begins with the names in the clauses of ROOTS, and follows each name to its definition: through the `use` lines of the
-file that it is in, by the scope that it has there, so that a variable or a field is not taken for a definition of the same
-name. An operator is followed like a name, and `do` uses `>>=`. Definitions of the crates' specs/ are followed; types and
-constants that Rust declares, and definitions of the toolchain's library, are listed by name. With --check it prints
-whether docs/AUDIT.md is what it would write, and ends with status 1 if it is not.
+It starts with the names in the clauses of ROOTS, and follows each name to its definition through the `use` lines of its
+file. It respects scopes, so a variable or a field is not mistaken for a definition of the same name. An operator is
+followed like a name, and `do` uses `>>=`. Definitions in the crates' specs/ are followed; types and constants that Rust
+declares, and definitions of the toolchain's library, are listed by name. With --check it writes nothing, prints whether
+docs/AUDIT.md is up to date, and ends with status 1 if it is not.
 """
 import os, re, sys
 
 COMMAND = "mufom_command/src/"
-# The functions whose clauses are what there is to trust: file of the crate, and name (None: each in the file).
+# The functions whose clauses a reader has to trust: the file below crates/, and the name (None: every function in the file).
 ROOTS = [("mufom_headline/src/laws.rt", None), (COMMAND + "command.rt", "run"), (COMMAND + "laws.rt", None), ("mufom_groups/src/laws.rt", None),
          ("mufom_make/src/laws.rt", None)]
-# What an auditor reads beside them: the clauses of the outside, the status, and how contracts see these types.
+# What an auditor reads in addition: the clauses of the outside world, the exit status, and how contracts see these types.
 BESIDE = ["mufom_host/src/world.rt", COMMAND + "outcome.rt", "mufom_numbers/src/text.rt", "mufom_numbers/src/bytes.rt",
           "mufom_numbers/src/list.rt", "mufom_expr/src/postfix.rt", "mufom_module/src/module.rt"]
-# Laws of definitions that the facts of a list rest on, by file of proofs and name.
+# Laws on which the facts of a list rest: the file of proofs, and the name.
 FACTS = [("mufom_meaning/proofs/facts/AllAnswers.antt", "answers_are_facts"),
          ("mufom_meaning/proofs/staging/Stages.antt", "staged_means_the_same")]
-# The crates whose definitions are those of the format.
+# The crates that define the format.
 FORMAT = {"mufom_numbers", "mufom_expr", "mufom_records", "mufom_sections", "mufom_names", "mufom_loads", "mufom_debug",
           "mufom_module", "mufom_read"}
 PAGE = "docs/AUDIT.md"
 TOKEN = re.compile(r'"(?:\\.|[^"\\])*"|[()\[\]{},;]|[^\s()\[\]{},;"]+')
-# A line that begins a definition: all other lines go on with the one before.
+# A line that begins a definition. All other lines continue the definition before them.
 START = re.compile(r"^(?:(?:abbrev|unfoldable|pub)\s+)*(?:(record|data)\s+(\S+)|(\S+)\s+:)")
 USE = re.compile(r"^(?:ghost |pub )*use (Rattle\.[^\s{]+?)(?:\.\{([^}]*)\})?(?: as (\S+?))?;?\s*$", re.M)
-# Constructors of the library, which a pattern may have.
+# Constructors of the library that may occur in patterns.
 BUILT_IN = {"Some", "None", "Ok", "Err", "true", "false", "zero", "suc", "tt", "inl", "inr", "refl", "[]", "∷", "_"}
 SIGNS = {":", "=", "→", "λ", "←", "×", "|", "↦", "∷", "let", "in", "do", "where", "record", "data", "pub", "abbrev"}
 
@@ -40,7 +40,7 @@ def read(path):
 
 
 def names_of_use(text):
-    """Returns the local names of `use` lines with the path that each stands for."""
+    """Returns the local names that `use` lines bring into scope, each with its path."""
     found = {}
     for path, group, alias in USE.findall(text):
         if group:
@@ -54,7 +54,7 @@ def names_of_use(text):
 
 
 def tokens_of(text):
-    """Returns the tokens of a piece of a definition, without comments and texts in quotes."""
+    """Returns the tokens of a piece of a definition, without comments and quoted texts."""
     lines = [re.sub(r"(^|\s)--.*$", "", line) for line in text.split("\n")]
     return [it for it in TOKEN.findall("\n".join(lines)) if not it.startswith('"')]
 
@@ -97,7 +97,7 @@ class Item:
 
 
 class Spec:
-    """A file of definitions, cut at its top-level definitions."""
+    """A file of definitions, split into its top-level definitions."""
 
     def __init__(self, path):
         self.path, text = path, read(path)
@@ -135,7 +135,7 @@ class Spec:
         return kind == "type" or inner is None and name[:1].isupper()
 
     def pieces(self, item):
-        """Returns the pieces of a definition with the names that each binds: its head, and each of its equations."""
+        """Returns the pieces of a definition, its head and each of its equations, with the names that each piece binds."""
         found, now = [], []
         for line in item.lines:
             if line.startswith("--"):
@@ -151,7 +151,7 @@ class Spec:
                 bound = binders(tokens) | {item.name} | item.inner
                 if item.kind == "record":
                     bound |= {it[0] for it in re.findall(r"^\s+(?:pub )?(\S+)\s+(:)", piece, re.M)}
-                # the one line of a short definition may have an equation too
+                # A short definition may have an equation on the same line.
                 yield tokens, bound
             else:
                 depth, cut = 0, len(tokens)
@@ -201,7 +201,7 @@ def spec_at(place):
 
 
 def file_of(path):
-    """Returns what a path leads to: a definition of this repository, a declared type, or the library."""
+    """Returns what a path refers to: a definition of this repository, a declared type, or the library."""
     words = path.split(".")
     crate = words[1]
     if not os.path.isdir(f"crates/{crate}"):
@@ -222,7 +222,7 @@ def file_of(path):
 
 
 def clauses_of(path, wanted):
-    """Returns the functions of a file with the paths that their clauses name and the number of lines of these."""
+    """Returns the functions of a file, each with the number of lines of its clauses and the paths that these name."""
     text = read(f"crates/{path}")
     uses = names_of_use(text)
     for found in re.finditer(r"pub fn (\w+)[^{]*?\n((?:\s+(?:requires|ensures|//)[^\n]*\n|\s+[^\n{]*\}\n)+)\{", text):
@@ -232,7 +232,7 @@ def clauses_of(path, wanted):
 
 
 def ghosts_of(path):
-    """Returns the paths that the clauses and the ghost members of a file name."""
+    """Returns the paths that are named in the clauses and the ghost members of a file."""
     text = read(f"crates/{path}")
     uses = names_of_use(re.sub(r"^\s+", "", text, flags=re.M))
     body = "\n".join(re.findall(r"(?:ghost \w+\s*(?:=|:)|requires|ensures)[^\n]*(?:\n\s{8,}[^\n]*)*", text))
@@ -241,7 +241,7 @@ def ghosts_of(path):
 
 
 class Reached:
-    """What has been reached from some paths."""
+    """The definitions that have been reached from the given paths."""
 
     def __init__(self):
         self.items, self.types, self.library, self.order = {}, set(), set(), []

@@ -1,8 +1,8 @@
 #!/usr/bin/env bash
 # Checks the documents against the built program and the sources:  bash tools/documents.sh PROGRAM
 #
-# It tries each example of the guide, the commands and the errors, the names that `help` knows, and whether the generated pages are
-# up to date. The status is 0 if all of these hold. It is no part of the gate.
+# It runs each example of the guide, the commands and the errors, and checks the names that `help` knows and whether the generated
+# pages are up to date. It ends with status 0 if nothing fails. It is not part of the gate.
 set -u
 : "${1:?the built program is missing: bash tools/documents.sh PROGRAM}"
 program=$(readlink -f "$1")

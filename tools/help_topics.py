@@ -4,10 +4,10 @@
 
 The names come from the definition of the error lines, crates/mufom_command/specs/Complaint.antt, and
 from the enums of errors; the commands come from crates/mufom_words/specs/Options.antt. Each name must
-have a topic of crates/mufom_help whose text shows its line, and a row of docs/REFUSALS.md (a paragraph
-that begins with the name will do); each command must have a topic, and a line in the list of commands.
-A topic that neither a command nor an error line has is told too. What is missing is printed, a line
-each, and the status is then 1.
+have a topic in crates/mufom_help whose text shows its line, and a row in docs/REFUSALS.md (or a
+paragraph that begins with the name); each command must have a topic, and a line in the list of
+commands. A topic that belongs to neither a command nor an error line is reported too. Whatever is
+missing is printed, one line each, and the status is then 1.
 """
 
 import glob
@@ -16,11 +16,11 @@ import re
 import sys
 
 TOP = os.path.dirname(os.path.dirname(os.path.abspath(__file__)))
-# What goes before a name in an error line, by the definition that gives the name; else nothing is known of it.
+# The text before a name in an error line, by the definition in which the name occurs. For other definitions it is not known.
 BEFORE = {"reason_text": "", "plan_text": "plan: ", "link_text": "link: ", "place_text": "locate: ", "locate_text": "locate: "}
 # The enums whose variants are the names of errors.
 ENUMS = ("Reason", "TxtReason", "BuildReason", "Defect", "PlanRefusal", "LinkRefusal", "PruneRefusal", "PlaceRefusal", "LocateRefusal")
-# Variants that are no names: they have no line, or only hold another error.
+# Variants that are not names: they have no line of their own, or only hold another error.
 NOT_NAMES = {"NoMemory", "Place"}
 # Commands that are not in the table of commands, since they read no options.
 OTHER_COMMANDS = {"explain", "help", "version"}
@@ -32,7 +32,7 @@ def read(path):
 
 
 def lines_of_errors():
-    """Pairs of what goes before a name, or None, and the name."""
+    """Returns pairs of the text before a name (None if it is not known) and the name."""
     found = set()
     for line in read("crates/mufom_command/specs/Complaint.antt").splitlines():
         words = re.match(r"(\w+) ", line)
@@ -47,7 +47,7 @@ def lines_of_errors():
 
 
 def variants():
-    """The names of the variants of the enums of errors that an error line is made from."""
+    """Returns the variants of those enums of errors from which error lines are made."""
     found = set()
     printed = read("crates/mufom_command/specs/Complaint.antt")
     for path in glob.glob(os.path.join(TOP, "crates/*/src/*.rt")):
@@ -58,7 +58,7 @@ def variants():
 
 
 def topics():
-    """The topics by name, and the list of commands."""
+    """Returns the topics by name, and the list of commands."""
     texts, names = {}, {}
     for path in glob.glob(os.path.join(TOP, "crates/mufom_help/src/*.rt")):
         source = read(path)
@@ -71,7 +71,7 @@ def topics():
 
 
 def rows():
-    """The first cells of the rows of docs/REFUSALS.md, and the names that begin a paragraph."""
+    """Returns the first cells of the rows of docs/REFUSALS.md, and the names that begin a paragraph."""
     page = read("docs/REFUSALS.md")
     return re.findall(r"^\| `([^`]*)`", page, re.M) + re.findall(r"^`(\w+)`", page, re.M)
 

@@ -1,14 +1,14 @@
-"""Large inputs that somebody chose to take long: try_files.py --hostile makes them and times the program.
+"""Large inputs that are chosen to take long. try_files.py --hostile makes them and measures the program.
 
-Each kind returns its files and its command lines. A line has the status that it must end with, and, if an
-image is large beside the files, the MiB of that image.
+Each kind is a function that returns its files and its command lines. A line has the exit status that it must
+have and, if its image is large compared with the files, the size of that image in MiB.
 """
 
 import random
 
 PLAN = '[[region]]\nname = "all"\nbase = 4096\nsize = 1073741824\nsections = ["*"]\ncommon = true\n'
-# The hasher that tables use unless they are given another: it multiplies the words of a text, each xor its
-# state or this number. A word that is this number makes 0 of whatever stands before it.
+# A constant of the hasher that tables use by default. It multiplies the words of a text, each xored with its
+# state or with this number. A word equal to this number makes everything before it 0.
 MULTIPLIER = 0x9E37_79B9_7F4A_7C15
 
 
@@ -48,7 +48,7 @@ def weak(index, size):
 
 
 def collides(at):
-    """A name that the default hasher takes to the same hash for each number."""
+    """A name that has the same hash under the default hasher for every number."""
     return b"%08d" % at + MULTIPLIER.to_bytes(8, "little") + b"together"
 
 
@@ -58,7 +58,7 @@ def colliding_publics():
 
 
 def colliding_references():
-    """References that no module meets, and so each is kept once; located they are commons."""
+    """References that no module defines, so that each is kept once; when they are located, they are commons."""
     parts = [reference(11 + at, collides(at)) + weak(11 + at, 4) for at in range(100_000)]
     return {"m": file_of(b"m", externals=b"".join(parts)), "p": PLAN.encode()}, [("link -o out m m", 0), ("locate --plan p -o out m", 0)]
 
@@ -90,7 +90,7 @@ def cycle():
 
 
 def cycles_at_the_end():
-    """A chain that leads to 100,000 pairs of publics, each of which leads to the other."""
+    """Pairs of publics, 100,000 of them, each of which refers to the other."""
     parts = [public(32 + at, b"q%d" % at, b"\xC9" + number(32 + (at ^ 1))) for at in range(200_000)]
     return {"m": file_of(b"m", externals=b"".join(parts))}, [("locate -o out m", 1)]
 
@@ -106,7 +106,7 @@ def members():
 
 
 def groups():
-    """Each of 64 brackets closes around the one before it, so that the links are linked again and again."""
+    """Each of 64 groups contains the one before it, so that the same modules are linked again and again."""
     files = {"m%d" % m: file_of(b"m", externals=b"".join(public(32 + at, b"n_%d_%d" % (m, at), b"\x00") for at in range(1000)))
              for m in range(64)}
     return files, [("link -o out " + "[ " * 64 + " ".join("m%d ]" % m for m in range(64)), 0)]
@@ -128,7 +128,7 @@ def long_expressions():
 
 
 def deep_blocks():
-    """Debug blocks that stand in one another, 32 deep, again and again."""
+    """Debug blocks that are nested 32 deep, again and again."""
     begin, end = b"\xF8\x04\x00\x01f\x00\x00\x00", b"\xF9\x00"
     blocks = (b"\xF8\x05\x00\x01c" + begin * 31 + end * 31 + b"\xF9") * 10_000
     return {"m": file_of(b"m", debug=blocks)}, [("check m", 0), ("link -o out m m", 0)]
@@ -155,7 +155,7 @@ def repeated_bytes():
 
 
 def scattered_bytes():
-    """A million bytes, each at an address of its own, from the last to the first."""
+    """A million bytes at separate addresses, from the last address to the first."""
     pieces = (b"\xE2\xD0\x01" + number(2 * at) + b"\xED\x01" + bytes([at & 255]) for at in range(999_999, -1, -1))
     return {"m": file_of(b"m", sections=based(1 << 24), data=b"\xE5\x01" + b"".join(pieces))}, [
         ("dump m", 0), ("locate -o out m", 0), ("bin -o out m", 0, 2)]
@@ -186,7 +186,7 @@ def debug_lines():
 
 
 def plan(text):
-    """A small module, and a plan document of at most 65,536 bytes."""
+    """A small module, and a plan, cut to at most 65,536 bytes."""
     return {"m": file_of(b"m", sections=b"\xE6\x01\xC3\xD0\x01s\xE7\x01\x04\xE2\xD3\x01\x04"), "p": text.encode()[:65536]}
 
 
@@ -237,7 +237,7 @@ def text_with_two_bytes():
 
 
 def kept_chain():
-    """Of 100,000 sections each mentions the public in the next, so that keeping the first keeps all."""
+    """100,000 sections, each of which mentions the public in the next one, so that keeping the first keeps all."""
     sections, publics, data = [], [], []
     for at in range(100_000):
         sections.append(b"\xE6" + number(1 + at) + b"\xC3\xD0\x01s\xE7" + number(1 + at) + b"\x04\xE2\xD3" + number(1 + at) + b"\x04")

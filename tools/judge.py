@@ -1,10 +1,10 @@
-"""Judges the bytes of a module file, by the tables of docs/FORMAT.md alone.
+"""A second reader of module files, written from the tables of docs/FORMAT.md alone.
 
-It shares no code with the program and is slow: it is there to try the program against
-(try_files.py). `answer` gives what `mufom check` must answer for one file.
+It shares no code with the program. It is slow, and serves to test the program (try_files.py,
+try_bytes.py): `answer` returns the result that `mufom check` must have for one file.
 """
 
-FUNCTIONS = {0xA2: 1, 0xA3: 1}  # how many operands a function has
+FUNCTIONS = {0xA2: 1, 0xA3: 1}  # the number of operands of each function
 FUNCTIONS.update(dict.fromkeys([*range(0xA5, 0xB3)], 2))
 LETTERS = {0xC9: "I", 0xCC: "L", 0xD0: "P", 0xD2: "R", 0xD3: "S", 0xD8: "X"}
 PARTNERS = {0xBA: 0xBB, 0xBC: 0xBD, 0xBE: 0xBF}
@@ -170,7 +170,7 @@ def header_record(data, start, code, number=None):
 
 
 class Row:
-    """A record or an item that is whole: its kind, the index it speaks of, what it holds."""
+    """A complete record or item: its kind, the index that it names, and its contents."""
 
     def __init__(self, kind, index=None, variables=(), **more):
         self.kind, self.index, self.variables = kind, index, list(variables)
@@ -352,7 +352,7 @@ class Judge:
         return any(index not in self.declared[KINDS[letter]] for letter, index in variables)
 
     def check(self, row, start):
-        """The rules of one record, in their order."""
+        """Checks the rules for one record, in their order."""
         own = DECLARES.get(row.kind)
         names = NAMES.get(row.kind, "section" if row.kind == "BB" and row.index is not None else None)
         counter = {"ASP": row.index, "field": self.current}.get(row.kind)
@@ -396,7 +396,7 @@ class Judge:
         self.loads += row.kind in ("literal", "field") and self.loader == "LR"
 
     def end_part(self, number):
-        """The faults of a part as a whole, of which the first in the file counts."""
+        """Raises the error of a part as a whole: of several, the first in the file."""
         faults = []
         if number == 2:
             faults = [(at, "MissingBase") for at, index in self.sections if ("ASL", index) not in self.said]
@@ -468,7 +468,7 @@ def quoted(name):
 
 
 def answer(data, reads_debug):
-    """The status, the output and the complaint of `check` for a file with these bytes."""
+    """Returns the status, the output and the error output of `check` for a file with these bytes."""
     judge = Judge(data, reads_debug)
     try:
         judge.judge()

@@ -1,9 +1,9 @@
 #!/usr/bin/env python3
-"""Runs a built program at its limits: the bytes of all files, and the most modules that it makes.
+"""Runs a built program at its limits: the total length of all files, and the number of modules that `make` generates.
 
 usage: limits.py PROGRAM
 
-It needs a folder for temporary files with 150 MB. The exit status is 1 if a run ends otherwise than it should.
+It needs 150 MB in the folder for temporary files. The exit status is 1 if a run does not end as it should.
 """
 import os, subprocess, sys, tempfile
 
@@ -13,12 +13,12 @@ LIMIT = 67_108_864
 
 
 def padded(length):
-    """A module whose file has so many bytes: zeros in its environment part, which no command reads."""
+    """Returns a module file of this length: its environment part, which no command interprets, is filled with zeros."""
     least = len(file_of(b"m", environment=b"\0")) - 1
     return file_of(b"m", environment=bytes(length - least))
 
 
-# The words of a run, its status, and what it prints to standard output and to standard error.
+# The arguments of a run, its status, and what it prints to standard output (None: anything; other texts: a part of it) and standard error.
 RUNS = [
     (["check", "most", "none"], 1, "", "refused: file 1 at 0: Truncated\n"),
     (["check", "--no-debug", "most"], 0, None, ""),

@@ -2,9 +2,10 @@
 
     python3 tools/little_memory.py PROGRAM
 
-Links files with COUNT public symbols each under a limit of address space that falls in steps, down to what the program cannot begin
-with. Each run must end with status 0, or with status 5 and the one line `out of memory`, and make no file then; it must never end by
-a signal. A limit below what the system needs to start any program is told apart: there `true` fails too. The status is 0 where all hold.
+Links files with COUNT public symbols each, with a limit on the address space that falls in steps until the program cannot start. Each
+run must end with status 0, or with status 5, the one line `out of memory` and no file; it must never be ended by a signal. A run that
+fails in another way is not counted as bad if the program, run without arguments under the same limit, does not start either. The
+status is 0 if nothing fails.
 """
 
 import collections
@@ -31,7 +32,7 @@ def string(text):
 
 
 def module(letter):
-    """A module with COUNT public symbols."""
+    """Returns a module with COUNT public symbols, whose names begin with the letter."""
     external = b"".join(b"\xE8" + number(32 + n) + string(b"%s%d" % (letter, n)) + b"\xE2\xC9" + number(32 + n) + number(n) for n in range(COUNT))
     head = b"\xE0" + string(b"68000") + string(letter) + b"\xEC\x08\x04\xCD"
     place, offsets = len(head) + 64, []

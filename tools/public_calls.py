@@ -1,10 +1,10 @@
 #!/usr/bin/env python3
-"""Writes docs/CALLS.md: every public call of every crate, with what it needs and what it may answer.
+"""Writes docs/CALLS.md: every public call of every crate, with its conditions, its clauses and its result type.
 
 usage: public_calls.py [--check]      run at the top of the repository
 
-A call is public where its crate's root exports it, or the type that it belongs to. With --check it prints whether docs/CALLS.md is
-what it would write, and ends with status 1 if it is not.
+A call is public if the root of its crate exports it, or the type that it belongs to. With --check it writes nothing, prints whether
+docs/CALLS.md is up to date, and ends with status 1 if it is not.
 """
 import os, re, sys
 
@@ -19,7 +19,7 @@ def read(path):
 
 
 def errors_of_memory(crates):
-    """Returns the types of errors of which one case is that memory was not found, also through another such type."""
+    """Returns the error types that include running out of memory, directly or through another such type."""
     variants = {}
     for crate in crates:
         for path in files(crate):
@@ -34,7 +34,7 @@ def errors_of_memory(crates):
 
 
 def exported(crate):
-    """Returns the names that the root of a crate exports."""
+    """Returns the names that a crate's root exports."""
     root = read(f"crates/{crate}/src/lib.rt")
     names = set()
     for group, one in re.findall(r"^pub use [\w:]+?::(?:\{([^}]*)\}|(\w+));", root, re.M):

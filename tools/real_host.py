@@ -1,9 +1,9 @@
-"""Tries the program on the real host: odd files, full disks, closed outputs.
+"""Tries the program on the real host: unusual files, full disks, closed outputs.
 
     python3 tools/real_host.py PROGRAM
 
 Each row of the table in docs/COMMANDS.md ("Files, pipes and full disks") is a row here: what is tried, the status, the line on standard error,
-and whether OUT stands afterwards. Rows that this machine cannot try are named. The status is 0 where all others hold.
+and whether OUT exists afterwards. The status is 0 if all rows hold.
 """
 
 import os
@@ -19,7 +19,7 @@ NOBODY = 65534
 
 
 def lowered():
-    """Gives up the rights of root, where this process has them."""
+    """Gives up the rights of root, if this process has them."""
     if os.getuid() == 0:
         os.setgroups([])
         os.setgid(NOBODY)
@@ -38,7 +38,7 @@ class Tries:
         return os.path.join(self.folder, name)
 
     def row(self, what, words, status, line=b"", out=None, **how):
-        """Runs the program; `out` says whether the file `out` stands then, and None asks nothing."""
+        """Runs the program, and checks the status and the error line; also whether the file `out` exists, unless `out` is None."""
         if os.path.isfile(self.path("out")):
             os.remove(self.path("out"))
         how.setdefault("stdout", subprocess.PIPE)

@@ -1,12 +1,12 @@
-"""Tries the examples of docs/REFUSALS.md that are written in one of the forms of that page.
+"""Tries the examples of docs/REFUSALS.md that have one of the forms of that page.
 
     python3 tools/refusals.py PROGRAM
 
-Makes each of them, gives it to the program, and compares the line on standard error with the row. Then
-it compares what `explain` prints of the same arguments: that line, the file or the modules that the
+Makes the file of each example, runs the program, and compares the line on standard error with the row. Then
+it compares what `explain` prints for the same arguments: that line, the file or the modules that the
 error is about, an empty line and what `help` prints.
-Examples that are told in words are passed over. The last line has the number of examples that hold
-and of those that do not; the status is 0 where all hold.
+Examples that are only described are skipped. The last line gives the number of comparisons that hold
+and of those that do not; the status is 0 if all hold.
 """
 
 import os
@@ -18,9 +18,9 @@ import tempfile
 TOP = os.path.dirname(os.path.dirname(os.path.abspath(__file__)))
 SAMPLE = open(os.path.join(TOP, "crates/mufom/data/a.695"), "rb").read()
 SECTIONS_END = 100
-# What `explain` prints below the line of an error about modules.
+# The lines that `explain` prints below an error line about modules.
 MODULES = {"refused: link: DuplicateStart": 'module 0 "A" file 0: "a.695"\nmodule 1 "A" file 1: "a.695"\n'}
-# Where the four bytes of each part's offset stand in the sample.
+# The positions, in the sample, of the four bytes of each part's offset.
 OFFSETS = {"external": 13 + 8 * 3 + 4, "debug": 13 + 8 * 4 + 4, "data": 13 + 8 * 5 + 4, "trailer": 13 + 8 * 6 + 4, "end": 13 + 8 * 7 + 4}
 
 
@@ -30,7 +30,7 @@ def with_offset(data, part, value):
 
 
 def with_part(part, contents):
-    """The sample with one part after its sections, and no trailer."""
+    """Returns the sample with one part after its sections, and without a trailer."""
     data = SAMPLE[:SECTIONS_END]
     for other in ("data", "trailer"):
         data = with_offset(data, other, 0)
@@ -40,7 +40,7 @@ def with_part(part, contents):
 
 
 def file_of(example):
-    """The bytes of the file that an example stands for; None where it is none of the forms."""
+    """Returns the bytes of the file that an example describes; None if it has none of the forms."""
     kind, _, rest = example.partition(" ")
     if kind == "byte":
         at, _, byte = rest.partition(" = ")
@@ -57,7 +57,7 @@ def file_of(example):
 
 
 def wanted_of(name, place):
-    """The arguments that try a file, and the error line that names this place."""
+    """Returns the arguments with which a file is tried, and the error line that names this place."""
     if name.startswith("text line N: "):
         return ["fromtxt", "-o", "c", "x.695"], "refused: " + name.replace(" N:", f" {place}:").replace("ADDRESS", "0")
     return ["check", "x.695"], f"refused: file 0 at {place}: {name}"
@@ -86,14 +86,14 @@ def examples():
 
 
 def topic_of(words, wanted):
-    """The arguments of `help` that print the text on an error line."""
+    """Returns the arguments with which `help` prints the text on an error line."""
     if wanted.startswith("usage: "):
         return [words[0]] if words and not words[0].startswith("-") else []
     return [re.search(r"\b[A-Z]\w*", wanted).group(0)]
 
 
 def explained(program, folder, words, data, wanted):
-    """What `explain` should print."""
+    """Returns the text that `explain` should print."""
     help_of = [program, "help", *topic_of(words, wanted)]
     text = subprocess.run(help_of, cwd=folder, capture_output=True, text=True, check=False)
     if text.returncode != 0:

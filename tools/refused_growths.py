@@ -1,16 +1,16 @@
-"""Refuses each growth of memory in turn, and looks at what the program does then.
+"""Makes each allocation fail in turn, and checks what the program does then.
 
     python3 tools/refused_growths.py PROGRAM
     python3 tools/refused_growths.py --work PROGRAM
 
-A growth is a call of `malloc` or `realloc`; they are counted from 0. The program runs under a library that refuses one of them, which
-is compiled for it (`cc`, on Linux). Each run must give its own answer, as without a refusal, or end with status 5 and `out of memory`,
-or with nothing where the words found no room; a growth that is refused inside a call of the system may be a `read fault`, or a
-`write fault` once OUT is begun. It prints nothing then, and makes no file, but for an empty OUT after a write fault. For each run
-the number of growths and of each answer is printed.
+A growth is a call of `malloc` or `realloc`; growths are counted from 0. The program runs with a preloaded library that makes one of
+them fail; the library is compiled first (`cc`, on Linux). Each run must have the same result as without a failure, or end with status
+5 and `out of memory`, or with status 5 and no line if the arguments could not be allocated. A growth that fails inside an I/O call
+may also be a `read fault`, or a `write fault` once OUT has been created. Such a run prints no output and makes no file, except for an
+empty OUT after a write fault. For each run the number of growths and of each kind of result is printed.
 
-With `--work` two runs show that groups are linked one by one, and that `make` makes all its modules: a run that has more work runs
-out of memory at a growth long after the last one of a run with less. The status is 0 where all holds.
+With `--work` two runs show that groups are linked one by one, and that `make` makes all its modules: a run with more work runs out of
+memory at a growth long after the last one of a run with less. The status is 0 if all runs end as they should.
 """
 
 import collections
@@ -24,7 +24,7 @@ from little_memory import number, string
 
 DATA = os.path.join(os.path.dirname(os.path.dirname(os.path.abspath(__file__))), "crates/mufom/data")
 
-# Counts growths in a file of eight bytes, and refuses the one that the other eight bytes name.
+# Counts growths in the first eight bytes of a file, and makes the one fail whose number the other eight bytes hold.
 REFUSES = r"""
 #include <fcntl.h>
 #include <stddef.h>
@@ -54,7 +54,7 @@ NEVER = 2**64 - 1
 
 
 def module(sections=b"", external=b"", debug=b"", loads=b""):
-    """A module with these records in its parts."""
+    """Returns a module with these records in its parts."""
     head = b"\xE0" + string(b"68000") + string(b"m") + b"\xEC\x08\x04\xCD"
     place, offsets = len(head) + 64, []
     for part in (b"", b"", sections, external, debug, loads, b""):
@@ -75,7 +75,7 @@ def reference(name):
 
 
 def field(value):
-    """The value in four bytes of the first section."""
+    """Returns a load of the value, in a field of four bytes of the first section."""
     return b"\xE5\x01\xE4\xBE" + value + b"\xBF"
 
 
@@ -119,7 +119,7 @@ RUNS = [
 
 
 class Runner:
-    """Runs the program in a folder of its own, with one growth refused."""
+    """Runs the program in a folder of its own, with one growth that fails."""
 
     def __init__(self, program, folder):
         self.program, self.folder = program, folder
@@ -134,7 +134,7 @@ class Runner:
         self.environment = {"LD_PRELOAD": library, "GROWTHS": counts}
 
     def run(self, words, refused):
-        """The answer: status, standard output, standard error, and the bytes of OUT where it stands. And how many growths there were."""
+        """Returns the result (status, standard output, standard error, and the bytes of OUT if it exists) and the number of growths."""
         self.counts[:] = bytes(8) + refused.to_bytes(8, sys.byteorder)
         if os.path.exists(self.output):
             os.remove(self.output)
@@ -150,7 +150,7 @@ class Runner:
 
 
 def kind(answer, own):
-    """What an answer is; None where it must not be given."""
+    """Returns the kind of a result; None if the run must not have it."""
     if answer == own:
         return "its own"
     status, out, err, made = answer
@@ -190,12 +190,12 @@ def is_out_of_memory(runner, words, refused):
     return answer == (5, b"", b"out of memory\n", None)
 
 
-# A link moves the names of its modules and copies none, so the link of a group takes few growths, however many names it has.
+# A link moves the names of its modules and copies none, so the link of a group needs few growths, however many names it has.
 GROUP_GROWTHS = 10
 
 
 def show_work(runner):
-    """Runs with more work grow long after those with less, and need that memory."""
+    """Checks that a run with more work still allocates long after the last growth of one with less, and needs that memory."""
     bad = 0
     for less, more, later in (("dump many more m", "dump [ many more ] m", GROUP_GROWTHS), ("make 1", "make 100", 200)):
         growths, all_growths = runner.growths(less), runner.growths(more)

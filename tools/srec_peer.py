@@ -1,11 +1,12 @@
 #!/usr/bin/env python3
-"""Sends random images through `txt`, srec_cat and `fromtxt`, and compares what comes back.
+"""Sends random images through `txt`, srec_cat and `fromtxt`, and compares the results.
 
-usage: srec_peer.py PROGRAM [COUNT [SEED]]      COUNT images, 200 if it is not given
+usage: srec_peer.py PROGRAM [COUNT [SEED]]      COUNT images, 200 by default
 
-For each image a module is made, and its TI-TXT text by `txt`. srec_cat (of the package srecord) makes S-records of the
-text, and a text of the S-records; `fromtxt` and `txt` of that give the first text again. The module that `fromtxt` makes
-of the first text has the image of the module. Without srec_cat one line says that nothing was tried.
+For each image it makes a module, and `txt` makes the TI-TXT text of it. srec_cat (of the package srecord) converts the
+text to S-records and these back to a text; `fromtxt` and then `txt` must turn that into the first text again. The module
+that `fromtxt` makes of the first text must have the image of the original module. Without srec_cat nothing is tried, and
+one line says so.
 """
 import os, random, shutil, subprocess, sys, tempfile
 
@@ -13,7 +14,7 @@ from hostile import file_of, number
 
 
 def image(chance):
-    """Rows of bytes at addresses of 32 bits, which neither overlap nor touch."""
+    """Returns runs of bytes at addresses of 32 bits that neither overlap nor touch."""
     rows, at = [], chance.randrange(1 << 12)
     for _ in range(chance.randint(1, 8)):
         row = bytes(chance.randrange(256) for _ in range(chance.randint(1, 120)))
@@ -32,7 +33,7 @@ def module(rows):
 
 
 def try_image(program, folder, rows):
-    """Whether an image comes back."""
+    """Returns whether an image comes back unchanged."""
     def run(*words):
         return subprocess.run(words, cwd=folder, capture_output=True, check=True).stdout
 

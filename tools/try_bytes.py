@@ -1,9 +1,9 @@
-"""Changes, leaves out and puts in one byte at each position of module files, and tries the program on each, against judge.py.
+"""Changes, removes and inserts one byte at each position of module files, and compares the program with judge.py on each result.
 
     python3 tools/try_bytes.py PROGRAM FILE ... [--step N]
 
-`check` is compared with the judge. What it accepts is given to `show`, `link` and `dump`, which must end with a status of 0 to 5 and
-within ten seconds. With --step only each N-th change is tried. The status is 0 where nothing differs.
+`check` is compared with the judge. Files that the judge accepts are given to `show`, `link` and `dump`, which must end with a status of
+0 to 5 within ten seconds. With --step only every N-th change is tried. The status is 0 if nothing fails.
 """
 
 import collections

@@ -1,11 +1,11 @@
-"""Tries the program on module files made at random, against judge.py.
+"""Compares the program with judge.py on random module files, and measures it on large ones (--hostile).
 
     python3 tools/try_files.py PROGRAM SEED COUNT
     python3 tools/try_files.py PROGRAM --hostile
 
-Each file is checked with its debug part read or skipped. If the program and the judge disagree about
-a file, it is kept in the folder for temporary files, and named. The last line gives the number of
-these files and how often each answer occurred. The status is 0 if there are none.
+Each random file is checked with its debug part read or skipped. If the program and the judge disagree
+about a file, it is kept in the folder for temporary files and its path is printed. The last line gives
+the number of these files and how often each result occurred. The status is 0 if there are none.
 """
 
 import collections
@@ -21,8 +21,8 @@ from concurrent.futures import ProcessPoolExecutor
 import hostile
 import judge
 
-# What a command on hostile files may take: seconds, and MiB as a fixed part, times its input, and times its image.
-# A debug record can have two bytes, and its item takes over a hundred, so the multiple is large.
+# The limits for a command on hostile files: seconds, and MiB as a constant plus multiples of its input and its image.
+# A debug record may have only two bytes, but its item needs more than a hundred, so the multiple is large.
 MOST_SECONDS = 3
 MOST_MEMORY = (64, 50, 3)
 
@@ -45,7 +45,7 @@ class Maker:
         return self.random.choice(choices)
 
     def number(self, value):
-        """A spelling, now and then with leading zeros."""
+        """Returns a spelling of the number, now and then with leading zeros."""
         if value < 0x80 and not self.chance(0.1):
             return bytes([value])
         least = max(1, (value.bit_length() + 7) // 8)
@@ -60,7 +60,7 @@ class Maker:
         return self.string(self.choose(b"", b"a", b"main", bytes(200), b'"\\\x80'))
 
     def index(self, first):
-        """The first index of a kind most often."""
+        """Returns an index of a kind, most often the first."""
         return self.number(first + self.random.choice([0] * 14 + [1] * 5 + [2, 9]))
 
     def expression(self):
@@ -145,7 +145,7 @@ class Maker:
         )
 
     def block_end(self, kind):
-        """The end of a block, most often one that its kind may have."""
+        """Returns the end of a block, most often one that is allowed for its kind."""
         plain = kind in (3, 5) if self.chance(0.9) else self.chance(0.5)
         return b"\xF9" + (b"" if plain else self.expression())
 
@@ -180,12 +180,12 @@ class Maker:
         return b"".join(make() for _ in range(self.choose(*counts)))
 
     def parts(self):
-        if self.chance(0.2):  # a debug part of some length is judged only where nothing before it is refused
+        if self.chance(0.2):  # a long debug part is read only if there is no error before it
             return [b"", b"", b"\xE6\x01\xC3\xD0\x01a", b"", self.debug_part(), b"", b""]
         sections = self.records(self.section_record, 0, 1, 2, 3, 4)
         externals = self.records(self.external_record, 0, 0, 1, 2, 4)
         data = self.records(self.data_record, 0, 1, 2, 3, 5)
-        if self.chance(0.9):  # a sound beginning
+        if self.chance(0.9):  # a valid beginning
             sections = b"\xE6\x01\xC3\xD0\x01a\xE6\x02\xC1\xD3\x01b\xE2\xCC\x02\x05" + sections
             if self.chance(0.6):
                 externals = b"\xE8\x20\x01p\xE2\xC9\x20\x05\xE9\x0B\x01q" + externals
@@ -211,7 +211,7 @@ class Maker:
         return head + b"".join(parts) + b"\xE1" + (b"\x00" if self.chance(0.02) else b"")
 
     def changed(self, data):
-        """The bytes with one to three of them changed, put in or taken out, or cut off."""
+        """Returns the bytes after one to three changes: a byte replaced, inserted or removed, or the rest cut off."""
         data = bytearray(data)
         for _ in range(self.choose(1, 1, 1, 2, 3)):
             place, byte = self.random.randrange(len(data) + 1), self.random.choice(MARKS)
@@ -234,7 +234,7 @@ def told(program, path, reads_debug):
 
 
 def made(number, folder):
-    """Writes the files of a kind into the folder. The commands for them, and how many MiB they have."""
+    """Writes the files of a kind into the folder. Returns the commands for them, and their size in MiB."""
     files, commands = hostile.KINDS[number]()
     for name, data in files.items():
         with open(os.path.join(folder, name), "wb") as file:
@@ -243,7 +243,7 @@ def made(number, folder):
 
 
 def timed(program, words, folder):
-    """The seconds and the MiB that a command takes, and how it ends."""
+    """Returns the seconds and the MiB that a command takes, and its exit status."""
     begin = time.perf_counter()
     child = subprocess.Popen([program, *words], cwd=folder, stdout=subprocess.DEVNULL, stderr=subprocess.DEVNULL)
     stop = threading.Timer(10 * MOST_SECONDS, child.kill)
@@ -255,9 +255,9 @@ def timed(program, words, folder):
 
 
 def try_hostile(program):
-    """Whether a command on a hostile input takes too much, or ends otherwise than it should."""
+    """Returns 1 if a command on a hostile input takes too much time or memory, or has the wrong exit status; otherwise 0."""
     program, failures = os.path.abspath(program), 0
-    # The peak memory of a child counts what this process had when it began, so another makes the files.
+    # The peak memory of a child includes that of this process when the child was started, so another process makes the files.
     with ProcessPoolExecutor(1) as maker:
         for number, kind in enumerate(hostile.KINDS):
             with tempfile.TemporaryDirectory(prefix="mufom-") as folder:
