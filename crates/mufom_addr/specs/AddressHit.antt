@@ -66,7 +66,7 @@ line_in (n ∷ numbers) = Some n
 abbrev pub line_given : Note → Option ℕ
 line_given n = if n.attribute == line_attribute then line_in n.numbers.items else None
 
--- the line number that the entries so far gave a name last; the latest entry comes first
+-- the line number that a name was given last; the latest entry comes first
 abbrev pub line_of : List Entry → ℕ → Option ℕ
 line_of [] name = None
 line_of (block depth head other end ∷ earlier) name = line_of earlier name
@@ -95,11 +95,11 @@ functions_around address entries = filter (is_around address) (functions_of entr
 abbrev pub lines_up_to : ℕ → List Entry → List LineHit
 lines_up_to address entries = filter (λ l. nat_le l.address address) (lines_after [] entries)
 
--- the innermost function around the address; of several the first
+-- the innermost function around the address; the first one if there are several
 abbrev pub innermost : ℕ → List Entry → Option Function
 innermost address entries = first_greatest (λ f. f.depth) (functions_around address entries)
 
--- the line with the greatest address that is not above the address; of several the first
+-- the line with the greatest address that is not above the address; the first one if there are several
 abbrev pub nearest : ℕ → List Entry → Option LineHit
 nearest address entries = first_greatest (λ l. l.address) (lines_up_to address entries)
 

@@ -1,5 +1,5 @@
--- Blocks, notes and values of debug items in the order of the file, each with what is known of the blocks around it (IEEE Std
--- 695, block begin and assignment commands of the debug information part).
+-- Blocks, notes and values of debug items in the order of the file, each with its position among the blocks around it (IEEE Std 695, block begin and
+-- assignment commands of the debug information part).
 use Rattle.std.specs.Prelude.{ℕ, ◌+◌, List, [], ◌∷◌, map, Option, Some, None}
 use Rattle.mufom_expr.specs.Tree.{Tree}
 use Rattle.mufom_names.specs.declared.name.Note.{Note}
@@ -9,7 +9,7 @@ use Rattle.mufom_debug.specs.declared.item.DebugItem.{DebugItem, fold-DebugItem}
 use Rattle.mufom_debug.specs.declared.item.DebugItem.TheOpen.{DebugItem-F, Block-F}
 use Rattle.mufom_debug.specs.Marks.{joined}
 
--- the blocks around an item: how many there are, and the name of the innermost that is a source file
+-- the blocks around an item: their number, and the name of the innermost source file among them
 pub record Around : Type 0 where
   pub depth : ℕ
   pub source : Option (List ℕ)
@@ -43,18 +43,18 @@ Placed = Around → List Entry
 abbrev pub all_placed : List Placed → Placed
 all_placed items around = joined (map (λ item. item around) items)
 
--- one level of a block, with each item inside already seen as its entries
+-- the entries of a block, in which each item is replaced by its entries
 abbrev pub block_entries : Block-F Placed Placed → Placed
 block_entries b around = block around.depth b.head b.name b.end ∷ all_placed b.items (within b.head b.name around)
 
--- one level of an item, with the block inside already seen as its entries
+-- the entries of an item, in which a block is replaced by its entries
 abbrev pub item_entries : DebugItem-F Placed Placed → Placed
 item_entries (DebugItem-F.Block entries) around = entries around
 item_entries (DebugItem-F.Name name) around = []
 item_entries (DebugItem-F.Note name n) around = note name n ∷ []
 item_entries (DebugItem-F.Value name v) around = value around.source name v ∷ []
 
--- the entries of an item: of a block itself and those of its items
+-- the entries of an item; for a block, its own entry and those of its items
 abbrev pub entries_of_item : DebugItem → Placed
 entries_of_item = fold-DebugItem Placed Placed item_entries block_entries
 

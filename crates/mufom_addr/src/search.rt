@@ -48,7 +48,7 @@ pub(crate) struct Search<'a> {
     pub line_numbers: Vec<Option<u64>>,
 }
 
-// ---- what an item says
+// ---- single items
 
 // The value of a single number token; 0 for any other tokens.
 fn number_in(tokens: &[Token]) -> u64
@@ -80,7 +80,7 @@ fn function_begin(head: &BlockHead) -> Option<&Postfix>
     }
 }
 
-// The block as a function, if it is one with an end.
+// The block as a function, if it is a function's block and has an end.
 fn function_in<'a>(block: &'a Block, depth: u32) -> Option<FoundFunction<'a>>
     ensures { option_to_list (option_map function_held result)
         ≡ function_between depth block.now.head block.now.name (function_begin block.now.head) block.now.end }
@@ -293,7 +293,7 @@ impl<'a> Search<'a> {
         }
         Ok(())
     }
-    /// The best function and the best line.
+    /// Returns the best function and the best line.
     pub(crate) fn hit(&self, alloc: Global) -> Result<Hit, NoMemory>
         ensures { (address : ℕ) (entries : List Entry) → HasSeen address entries self.now → IfOk result (λ hit. hit ≡ hit_among address entries) }
     {

@@ -1,4 +1,4 @@
--- How far a listing has been read of a text, and what the place is behind it.
+-- The state in which a listing is read: the rows so far, and the place after them.
 use Rattle.std.specs.Prelude.{◌≡◌, ℕ, ◌+◌, ◌≤◌, Bool, true, false, List, [], ◌∷◌, ◌++◌, length, flat_map, ◌⊎◌}
 use Rattle.std.specs.List.{AllByRecursion}
 use Rattle.mufom_text.specs.Words.{Text, line}
@@ -23,13 +23,13 @@ abbrev pub SpellsLine : Reading → Line → Text → Type 0
 SpellsLine reading pieces text = (before : Text) × (body : Text) × (after : Text) × (text ≡ before ++ (body ++ after)) × AreSpaces before
     × Spells reading pieces body × AreSpaces after
 
--- The texts are those of rows in their order, in a listing that is this far, or of spaces alone.
+-- The texts spell the rows, in order, from this state of a listing on. A text that spells no row is spaces alone.
 abbrev pub AreRows : Reading → State → List Row → List Text → Type 0
 AreRows reading s rows [] = rows ≡ []
 AreRows reading s rows (text ∷ texts) = (AreSpaces text × AreRows reading s rows texts)
     ⊎ ((r : Row) × (more : List Row) × (rows ≡ r ∷ more) × SpellsLine reading (row_pieces s r) text × AreRows reading (next s r) more texts)
 
--- ---- pieces that state nothing wrong
+-- ---- pieces without an error
 
 -- what the piece states is no greater than its field holds
 abbrev pub Fits : Piece → Type 0
@@ -43,13 +43,13 @@ Fits (digits bytes) = Unit {0}
 Fits (expression tokens) = tokens ≤ 255
 Fits (block opened) = opened ≤ 32
 
--- the same of all pieces of lines
+-- all pieces of the lines fit their fields
 abbrev pub AllFit : List Line → Type 0
 AllFit lines = AllByRecursion (λ pieces. AllByRecursion Fits pieces) lines
 
 -- ---- places
 
--- The place is before a line, behind these texts and the spaces that the line begins with.
+-- The place is in a line, after these lines of the text and the spaces at the beginning of its own line.
 pub record IsBeforeLine (text : Text) (texts : List Text) (place : Place) : Type 0 where
   pub lead : Text
   pub is : text ≡ flat_map line texts ++ (lead ++ place.rest)
@@ -60,14 +60,13 @@ pub record IsBeforeLine (text : Text) (texts : List Text) (place : Place) : Type
   pub line_is : place.line ≡ length texts + 1
   pub column_is : place.column ≡ length lead + 1
 
--- The place is at the end of the text, and these are its texts.
+-- The place is at the end of the text, whose lines are these texts.
 pub record IsAtEnd (text : Text) (texts : List Text) (place : Place) : Type 0 where
   pub none : place.rest ≡ []
   pub all : text_lines text ≡ texts
   pub last : wrong_line place ≡ last_line text
 
--- The rows may be the first of a listing, and are stated exactly by the text up to the place, which is before a further line or at
--- the end of the text.
+-- The rows can begin a listing, and the text before the place states them exactly. The place is at a further line or at the end of the text.
 pub record Begun (text : Text) (rows : List Row) (place : Place) : Type 0 where
   pub texts : List Text
   pub plain : AllByRecursion IsPlain texts
@@ -78,13 +77,13 @@ pub record Begun (text : Text) (rows : List Row) (place : Place) : Type 0 where
   pub past : IsPastBlanks place.rest
   pub here : IsBeforeLine text texts place ⊎ IsAtEnd text texts place
 
--- ---- a line that is read
+-- ---- reading a line
 
--- After the line of a row is read, it is noted that the row may not come, where it may not.
+-- Once the line of a row is read, an error is noted if the row may not come here.
 abbrev pub IsNamedRow : Bool → Place → Place → Type 0
 IsNamedRow may after noted = ((may ≡ true) × (noted ≡ after)) ⊎ ((may ≡ false) × Fails after noted)
 
--- What is named of the line of a row, behind which the place is, and which may come or not.
+-- The error that is reported for the line of a row, which ends at the place. `may` says whether the row may come here.
 pub record IsRowNamed (may : Bool) (place : Place) (line column : ℕ) (reason : BuildReason) : Type 0 where
   pub noted : Place
   pub row : IsNamedRow may place noted

@@ -1,4 +1,4 @@
--- What a draft of a module states.
+-- The rows that a draft of a module states.
 use Rattle.std.specs.Prelude.{◌≡◌, List, [], ◌∷◌, ◌++◌}
 use Rattle.mufom_names.specs.declared.name.Note.{Note}
 use Rattle.mufom_build.specs.declared.draft.Draft.{Draft}
@@ -8,7 +8,7 @@ use Rattle.mufom_build.specs.Outlines.{marks_so_far, IsKept}
 use Rattle.mufom_build.specs.Rows.{Row}
 use Rattle.mufom_build.specs.Sketches.{Sketch, sketch_rows, sketch_state, IsOrderly, put, put_note}
 
--- the draft, with its debug items as marks
+-- the draft, with its debug items as a list of records
 abbrev pub sketch_of : Draft → Sketch
 sketch_of d = record { stage = d.stage; parts = d.parts; marks = marks_so_far d.outline; repeat = d.repeat }
 
@@ -16,22 +16,22 @@ sketch_of d = record { stage = d.stage; parts = d.parts; marks = marks_so_far d.
 abbrev pub draft_rows : Draft → List Row
 draft_rows d = sketch_rows (sketch_of d)
 
--- How far a listing of these rows is.
+-- The state of a listing after these rows.
 abbrev pub state_of : Draft → State
 state_of d = sketch_state (sketch_of d)
 
--- The stage of a draft is that of its last row, its outline counts its blocks and names, and a listing of its rows is as far as it says.
+-- The draft is consistent: its outline counts its blocks and names, its stage is that of its last row, and its state is the one after its rows.
 pub record IsDraft (d : Draft) : Type 0 where
   pub outline : IsKept d.outline
   pub orderly : IsOrderly (sketch_of d)
   pub far : state_of d ≡ state_after start (draft_rows d)
 
--- a row is put to a draft
+-- a row is added to a draft
 pub record IsPut (before after : Draft) (r : Row) : Type 0 where
   pub sketch : sketch_of after ≡ put (sketch_of before) r
   pub outline : IsKept after.outline
 
--- a note is put to the last name of the part of this stage
+-- a note is added to the last name of the part of this stage
 pub record IsPutNote (stage : Stage) (before after : Draft) (note : Note) : Type 0 where
   pub sketch : sketch_of after ≡ put_note stage (sketch_of before) note
   pub outline : IsKept after.outline

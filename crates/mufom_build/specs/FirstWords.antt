@@ -4,7 +4,7 @@ use Rattle.mufom_build.specs.declared.keyword.Keyword.TheVariants as first
 use Rattle.mufom_build.specs.Rows.{Keyword, on_module, on_extension, on_environment, on_section, on_public, on_note, on_reference, on_block}
 use Rattle.mufom_build.specs.Rows.{on_end, on_name, on_value, on_select, on_counter, on_bytes, on_field, on_repeat, on_start}
 
--- the first word that the code's value stands for
+-- the first word for a value of the code
 abbrev pub keyword_of : FirstWord → Keyword
 keyword_of first.Module = on_module
 keyword_of first.Extension = on_extension

@@ -1,4 +1,4 @@
--- The lines of the listing of a module, each by its pieces, and the texts that are a listing of a module.
+-- The lines of the listing of a module, each as a list of pieces, and the texts that are a listing of a module.
 use Rattle.std.specs.Prelude.{ℕ, ◌+◌, ◌≤◌, List, [], ◌∷◌, ◌++◌, length, flat_map, map, Option, Some, None, codes, All}
 use Rattle.mufom_expr.specs.Tree.{Tree}
 use Rattle.mufom_sections.specs.declared.section.Section.{Section}
@@ -31,7 +31,7 @@ module_pieces m = words (codes "module ") ++ name_piece m.name ++ words (codes "
     ++ words (codes " maus ") ++ small_piece m.maus
     ++ words (codes " order ") ++ words (order_letter m.order)
 
--- the line of a part that is not read, where it has bytes
+-- the line of a part that is kept as bytes; none if the part is empty
 abbrev pub raw_lines : Text → List ℕ → List Line
 raw_lines word [] = []
 raw_lines word (b ∷ bytes) = (words word ++ words (codes " ") ++ digits (b ∷ bytes) ∷ []) ∷ []
@@ -53,7 +53,7 @@ section_lines n s = section_pieces n s ∷ []
 
 -- ---- names
 
--- a space and a number, for each of these
+-- the numbers, each after a space
 abbrev pub spaced_pieces : List ℕ → List Piece
 spaced_pieces ns = flat_map (λ n. words (codes " ") ++ number_piece n) ns
 
@@ -98,7 +98,7 @@ abbrev pub end_pieces : Option Tree → Line
 end_pieces None = words (codes "end")
 end_pieces (Some value) = words (codes "end = ") ++ value_pieces value
 
--- the line of a mark, in `depth` open blocks, after `n` debug names
+-- the line of a debug record, in `depth` open blocks, after `n` debug names
 abbrev pub mark_pieces : ℕ → ℕ → DebugMark → Line
 mark_pieces depth n (block_begin head name) = block (depth + 1) ∷ [] ++ words (codes "block ") ++ number_piece (kind_number head)
     ++ words (codes " ") ++ name_piece name ++ head_pieces head
@@ -134,7 +134,7 @@ start_lines (Some value) = (words (codes "start = ") ++ value_pieces value) ∷ 
 
 -- ---- the module
 
--- the lines of entries, each by its position; from n on
+-- the lines of entries, each made from its position and itself; positions count from n
 abbrev pub each_lines : {X : Type 0} → ℕ → (ℕ → X → List Line) → List X → List Line
 each_lines n lines_of [] = []
 each_lines n lines_of (x ∷ xs) = lines_of n x ++ each_lines (n + 1) lines_of xs
@@ -170,8 +170,8 @@ pub record AreFew (m : Parts) : Type 0 where
   pub references : All (λ r. All HasFewNumbers r.notes) m.names.references
   pub debug : All HasFewMarkNumbers (marks_of m.debug)
 
--- The text has the shape of a listing: it is the listing of some parts, whatever positions and counts it states, however
--- great its numbers are, and however deep its blocks and long its expressions.
+-- The text has the shape of a listing: it lists some parts, whatever positions and counts it states. Its numbers may be of any size, its blocks of
+-- any depth and its expressions of any length.
 pub record Shape (text : Text) : Type 0 where
   pub parts : Parts
   pub listed : SpellsLines loose (listing_lines parts) text

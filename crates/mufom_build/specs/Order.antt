@@ -1,4 +1,4 @@
--- In which order the rows of a listing come, and which line each of them has.
+-- The order of the rows of a listing, and the line of each row.
 use Rattle.std.specs.Prelude.{◌≡◌, ℕ, ◌+◌, ◌-◌, ◌==◌, ◌&&◌, not, nat_le, nat_lt, Bool, true, false, List, [], ◌∷◌, ◌++◌, length, Some, None}
 use Rattle.std.specs.Prelude.{if◌then◌else◌}
 use Rattle.mufom_build_text.specs.Pieces.{Piece, block}
@@ -12,10 +12,10 @@ use Rattle.mufom_build.specs.Rows.{on_module, on_extension, on_environment, on_s
 use Rattle.mufom_build.specs.Rows.{on_block, on_end, on_name, on_value, on_select, on_counter, on_bytes, on_field, on_repeat}
 use Rattle.mufom_build.specs.Rows.{on_start, Row, line_of}
 
--- ---- how far a listing is
+-- ---- the state of a listing
 
--- How far a listing is: the part that its last row is of, how many rows of these kinds have come, how many blocks are open, and
--- whether a repeat is.
+-- The state of a listing after some rows: the part to which the last row belongs, the numbers of sections, publics, references and debug names so
+-- far, the number of open blocks, and whether a repeat is open.
 pub record State : Type 0 where
   pub stage : Stage
   pub sections : ℕ
@@ -58,7 +58,7 @@ kind_of (on_field, p) = kinds.Item
 kind_of (on_repeat, p) = kinds.Load
 kind_of (on_start, p) = kinds.Start
 
--- ---- which rows may come
+-- ---- the rows that may come next
 
 -- the parts of a listing in their order
 abbrev pub stage_number : Stage → ℕ
@@ -73,11 +73,11 @@ stage_number stages.Debug = 7
 stage_number stages.Loads = 8
 stage_number stages.Start = 9
 
--- the stage is one of those from the first number to the last
+-- the number of the stage is in this range
 abbrev pub is_within : ℕ → ℕ → Stage → Bool
 is_within first last stage = nat_le first (stage_number stage) && nat_le (stage_number stage) last
 
--- in no block and no repeat
+-- a row of this kind may come outside all blocks and repeats, after a row of this stage
 abbrev pub may_come_outside : Stage → Kind → Bool
 may_come_outside stage kinds.Title = is_within 0 0 stage
 may_come_outside stage kinds.Extension = is_within 1 1 stage
@@ -93,7 +93,7 @@ may_come_outside stage kinds.Load = is_within 1 8 stage
 may_come_outside stage kinds.Item = is_within 1 8 stage
 may_come_outside stage kinds.Start = is_within 1 8 stage
 
--- in a block
+-- a row of this kind may come inside a block
 abbrev pub may_come_inside : Kind → Bool
 may_come_inside kinds.Title = false
 may_come_inside kinds.Extension = false
@@ -109,7 +109,7 @@ may_come_inside kinds.Load = false
 may_come_inside kinds.Item = false
 may_come_inside kinds.Start = false
 
--- in a repeat
+-- a row of this kind may come inside a repeat
 abbrev pub may_be_repeated : Kind → Bool
 may_be_repeated kinds.Title = false
 may_be_repeated kinds.Extension = false
@@ -125,8 +125,8 @@ may_be_repeated kinds.Load = false
 may_be_repeated kinds.Item = true
 may_be_repeated kinds.Start = false
 
--- A row of this kind may come next: in an open repeat its items and its end, in an open block the debug rows and its end, and else
--- what is of a part that may come.
+-- A row of this kind may come next: in an open repeat an item or its end, in an open block a debug row or its end, and otherwise a row that the order
+-- of the parts allows.
 abbrev pub may_come : State → Kind → Bool
 may_come s kind = if s.repeats then may_be_repeated kind else if nat_lt 0 s.depth then may_come_inside kind else may_come_outside s.stage kind
 
@@ -134,7 +134,7 @@ may_come s kind = if s.repeats then may_be_repeated kind else if nat_lt 0 s.dept
 abbrev pub may_end : State → Bool
 may_end s = nat_lt 0 (stage_number s.stage) && ((s.depth == 0) && not s.repeats)
 
--- ---- what a row changes
+-- ---- the effect of a row
 
 abbrev pub next : State → Row → State
 next s (on_module, p) = record s { stage = stages.Module }
@@ -162,7 +162,7 @@ state_after s (r ∷ rows) = state_after (next s r) rows
 
 -- ---- the lines of rows
 
--- the position or the count that a row has to state; 0 where it states none
+-- the position or the count that a row must state; 0 if it states none
 abbrev pub stated_by : State → Row → ℕ
 stated_by s (on_section, p) = s.sections
 stated_by s (on_public, p) = s.publics
@@ -171,7 +171,7 @@ stated_by s (on_name, p) = s.names
 stated_by s (on_bytes, bytes) = length bytes
 stated_by s _ = 0
 
--- what the line of a row has before its first word
+-- the pieces before the first word of a row's line
 abbrev pub before_word : State → Row → List Piece
 before_word s (on_block, p) = block (s.depth + 1) ∷ []
 before_word s _ = []
@@ -185,7 +185,7 @@ abbrev pub lines_from : State → List Row → List Line
 lines_from s [] = []
 lines_from s (r ∷ rows) = row_pieces s r ∷ lines_from (next s r) rows
 
--- ---- rows that are the first of a listing
+-- ---- rows that can begin a listing
 
 -- a note and a source block have no more numbers than the format has fields for
 abbrev pub IsFew : Row → Type 0
@@ -193,7 +193,7 @@ IsFew (on_note, (place, note)) = HasFewNumbers note
 IsFew (on_block, (head, title)) = HasFewHeadNumbers head
 IsFew _ = Unit {0}
 
--- Each of the rows may come after those before it, and is few.
+-- Each row may come after those before it, and has no more numbers than the format has fields for.
 abbrev pub AreInOrder : State → List Row → Type 0
 AreInOrder s [] = Unit {0}
 AreInOrder s (r ∷ rows) = (may_come s (kind_of r) ≡ true) × IsFew r × AreInOrder (next s r) rows

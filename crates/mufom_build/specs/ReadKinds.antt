@@ -1,4 +1,4 @@
--- What is read of a line of which the first word is known.
+-- Reading a line whose first word is known.
 use Rattle.std.specs.Prelude.{◌≡◌, ℕ, ◌≤◌, List, ◌∷◌, ◌++◌, [], length, Option, Some}
 use Rattle.mufom_debug.specs.declared.item.BlockHead.{BlockHead}
 use Rattle.mufom_debug.specs.Marks.{kind_number}
@@ -15,22 +15,22 @@ use Rattle.mufom_build.specs.Order.{State, kind_of, row_pieces, IsFew}
 use Rattle.mufom_build.specs.Rows.{Keyword, Payload}
 use Rattle.mufom_build.specs.Shown.{Shows, shown_kind}
 
--- ---- what comes next after any spaces
+-- ---- what follows after any spaces
 
--- this byte
+-- this byte comes next, after any spaces
 pub record IsAhead (b : ℕ) (text : Text) : Type 0 where
   pub spaces : Text
   pub after : Text
   pub is : text ≡ spaces ++ b ∷ after
   pub are : AreSpaces spaces
 
--- a decimal digit
+-- a decimal digit comes next, after any spaces
 pub record HasFigureAhead (text : Text) : Type 0 where
   pub byte : ℕ
   pub figure : IsFigure byte
   pub ahead : IsAhead byte text
 
--- the end of the line
+-- the line ends here, after any spaces
 pub record HasEndAhead (text : Text) : Type 0 where
   pub spaces : Text
   pub end : Text
@@ -42,12 +42,11 @@ pub record HasEndAhead (text : Text) : Type 0 where
 abbrev pub BeginsWithSpace : List Piece → Type 0
 BeginsWithSpace more = (rest : List Piece) × (more ≡ gap ∷ rest)
 
--- ---- values of which only some may be stated
+-- ---- reading values, only some of which are allowed
 
--- A value is stated between the two places, by its pieces, or a piece is missing. Where no piece is missing, the pieces are passed, and it
--- is a value that may be stated; where nothing is wrong, the result is that value. Where the line goes on with the pieces of a value that
--- may be stated, and with further ones after which the end of these is found, it is the value that is stated, and the line goes on with
--- the further ones.
+-- A value is spelled by its pieces between the two places, or a piece is missing. If no piece is missing, the value's pieces are passed, and `MayBe`
+-- holds for the value; if the line has no error up to the second place, the result is that value. If the pieces of some value for which `MayBe` holds
+-- come next, followed by pieces that satisfy `Tail`, then that is the value that is read, and those pieces come next after it.
 pub record ReadsFew {X : Type 0} (pieces_of : X → List Piece) (MayBe : X → Type 0) (Tail : List Piece → Type 0) (result : X) (before after : Place)
     : Type 0 where
   pub value : X
@@ -57,14 +56,14 @@ pub record ReadsFew {X : Type 0} (pieces_of : X → List Piece) (MayBe : X → T
   pub same : IsRight after → result ≡ value
   pub takes : (x : X) (more : List Piece) → MayBe x → Tail more → Goes (pieces_of x ++ more) before → (x ≡ value) × Goes more after
 
--- the same up to the end of the line, where any value may be stated
+-- the same for any value, up to the end of the line
 abbrev pub ReadsLast : {X : Type 0} → (X → List Piece) → X → Place → Place → Type 0
 ReadsLast {X} pieces_of result before after = ReadsFew pieces_of (λ (x : X). Unit {0}) Nothing result before after
 
 abbrev pub ReadsNumbers : ℕ → (List ℕ → List Piece) → List ℕ → Place → Place → Type 0
 ReadsNumbers most pieces_of result before after = ReadsFew pieces_of (λ ns. length ns ≤ most) Nothing result before after
 
--- bytes after a space, and how many they are
+-- bytes are read after a space, and counted
 pub record ReadsCounted (bytes : List ℕ) (count : ℕ) (before after : Place) : Type 0 where
   pub reads : ReadsLast spaced_digits bytes before after
   pub counted : IsSound after → count ≡ length reads.value
@@ -73,14 +72,14 @@ pub record ReadsCounted (bytes : List ℕ) (count : ℕ) (before after : Place) 
 abbrev pub IsHeadOf : Option ℕ → BlockHead → Type 0
 IsHeadOf kind head = (kind ≡ Some (kind_number head)) × HasFewHeadNumbers head
 
--- what the line of a block of a function has after its name
+-- the pieces after the name in the line of a function's block
 abbrev pub scope_of : Scope → List Piece
 scope_of s = scope_pieces s.stack s.type_index s.offset
 
--- ---- the lines of one first word
+-- ---- lines with a given first word
 
--- The line of a row of this first word is stated between the two places, in a listing that is this far: the same as `ReadsRow`, but among
--- the lines that have this first word.
+-- The line of a row with this first word is read between the two places, from this state of a listing: as in `ReadsRow`, but only among the lines
+-- with this first word.
 pub record ReadsOf (s : State) (k : Keyword) (result : ReadRow) (before after : Place) : Type 0 where
   pub payload : Payload k
   pub moves : Moves before after

@@ -1,4 +1,4 @@
--- What is read of the line of a row.
+-- Reading the line of a row.
 use Rattle.std.specs.Prelude.{◌≡◌, []}
 use Rattle.mufom_build_text.specs.Errors.{IsSound}
 use Rattle.mufom_build_text.specs.Loosely.{Moves, Passes, Goes}
@@ -8,9 +8,9 @@ use Rattle.mufom_build.specs.Order.{State, kind_of, row_pieces, IsFew}
 use Rattle.mufom_build.specs.Rows.{Row}
 use Rattle.mufom_build.specs.Shown.{Shows, shown_kind}
 
--- The line of a row is stated between the two places, by its pieces, in a listing that is this far, or a piece is missing. Where no piece
--- is missing, the pieces are passed, and the result is of the row's kind; where nothing is wrong, it states the row. Where the line
--- is that of some row, it is that of this one, and no piece is missing.
+-- The line of a row is spelled by its pieces between the two places, from this state of a listing, or a piece is missing. If no piece is missing, the
+-- pieces are passed, and the result has the row's kind; if the line has no error up to the second place, the result states the row. If the line of
+-- some row comes next, then that is the row that is read, and no piece is missing.
 pub record ReadsRow (s : State) (result : ReadRow) (before after : Place) : Type 0 where
   pub row : Row
   pub moves : Moves before after

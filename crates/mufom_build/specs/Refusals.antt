@@ -1,4 +1,4 @@
--- Where a text is wrong from which no module can be built, and how.
+-- The error of a text from which no module can be built: its line, its column and its reason.
 use Rattle.std.specs.Prelude.{◌≡◌, ℕ, ◌+◌, ◌<◌, ◌==◌, max, List, [], ◌∷◌, ◌++◌, length, take, flat_map, Some}
 use Rattle.std.specs.Prelude.{if◌then◌else◌, ◌⊎◌}
 use Rattle.mufom_module.specs.declared.module.Parts.{Parts}
@@ -28,7 +28,7 @@ text_lines (b ∷ text) = if b == 10 then [] ∷ text_lines text else begun_with
 abbrev pub last_line : Text → ℕ
 last_line text = max 1 (length (text_lines text))
 
--- These are the first lines of some text that has the shape of a listing, with the lines that they are.
+-- The texts are the first lines of some text in the shape of a listing, and `lines` are the pieces that they spell.
 pub record AreBegun (texts : List Text) (lines : List Line) : Type 0 where
   pub parts : Parts
   pub rest : List Line
@@ -58,7 +58,7 @@ pub record HasError (text : Text) (pieces : Line) (column : ℕ) (reason : Build
   pub error : piece_error piece bytes ≡ Some reason
   pub place : column ≡ 1 + length before + length front
 
--- The text at this position of the lines of a text has an error within it, where the lines up to and with it are begun.
+-- The text at this position has an error, and the texts up to and including it begin a listing.
 pub record HasErrorAt (texts : List Text) (position : ℕ) (column : ℕ) (reason : BuildReason) : Type 0 where
   pub earlier : List Text
   pub text : Text
@@ -68,7 +68,7 @@ pub record HasErrorAt (texts : List Text) (position : ℕ) (column : ℕ) (reaso
   pub begun : AreBegun (earlier ++ text ∷ []) (lines ++ pieces ∷ [])
   pub wrong : HasError text pieces column reason
 
--- the first n lines are those of a text in the shape of a listing
+-- the first n texts begin a listing
 abbrev pub BeginWell : List Text → ℕ → Type 0
 BeginWell texts n = (lines : List Line) × AreBegun (take n texts) lines
 
@@ -77,16 +77,16 @@ pub record AreRight (texts : List Text) (n : ℕ) : Type 0 where
   pub begin : BeginWell texts n
   pub right : (position column : ℕ) (reason : BuildReason) → position < n → HasErrorAt texts position column reason → ⊥
 
--- ---- refusals
+-- ---- errors of a text
 
--- The first line that is wrong has the position `at`, from 0, and what is named of it is at the column: that the lines up to
--- and with it begin no listing, at column 1, or its first error.
+-- The line at position `at`, from 0, is wrong: either the lines up to and including it do not begin a listing, which is reported at column 1, or this
+-- is its first error.
 abbrev pub IsWrongAt : List Text → ℕ → ℕ → BuildReason → Type 0
 IsWrongAt texts at column reason = (¬ (BeginWell texts (at + 1)) × (column ≡ 1) × (reason ≡ BadText))
     ⊎ (HasErrorAt texts at column reason × ((other : ℕ) (kind : BuildReason) → other < column → HasErrorAt texts at other kind → ⊥))
 
--- No module can be built from the text because of what stands at the line and the column, which count from 1: at the first
--- line that is wrong, or at the last line where all are right and some are missing.
+-- No module can be built from the text, and this error is reported: at the first line that is wrong, or, if all lines are right and some are missing,
+-- at the last line. Lines and columns count from 1.
 abbrev pub IsRefusedAt : Text → ℕ → ℕ → BuildReason → Type 0
 IsRefusedAt text at column reason = let texts = text_lines text in
     ((before : ℕ) × (at ≡ before + 1) × (before < length texts) × AreRight texts before × IsWrongAt texts before column reason)

@@ -1,4 +1,4 @@
--- A line of a listing by its first word and what else it states, and the lines of a module by what they state.
+-- The rows of a listing: the first word of each line with what else it states; and the rows of a module.
 use Rattle.std.specs.Prelude.{ℕ, List, [], ◌∷◌, ◌++◌, map, flat_map, Option, Some, None, codes}
 use Rattle.mufom_expr.specs.declared.token.FieldKind.{FieldKind}
 use Rattle.mufom_expr.specs.Tree.{Tree}
@@ -62,9 +62,9 @@ word_of on_field = codes "field"
 word_of on_repeat = codes "repeat"
 word_of on_start = codes "start"
 
--- ---- what else a line states
+-- ---- the rest of a line
 
--- a note is of a name before it, or of the debug name of this position
+-- what a line states after its first word; a note belongs to the name before it, or to the debug name at a position
 abbrev pub Payload : Keyword → Type 0
 Payload on_module = List ℕ × List ℕ × ℕ × Order
 Payload on_extension = ℕ × List ℕ
@@ -88,7 +88,7 @@ abbrev pub named_note : Option ℕ × Note → List Piece
 named_note (None, note) = note_pieces note
 named_note (Some place, note) = gap ∷ figure MOST_POSITION place ∷ note_pieces note
 
--- the pieces after the first word, where `n` is the position or the count that the line states
+-- the pieces after the first word; `n` is the position or the count that the line states
 abbrev pub rest_pieces : ℕ → (k : Keyword) → Payload k → List Piece
 rest_pieces n on_module (title, processor, maus, order) = words (codes " ") ++ (name title ∷ (words (codes " processor ") ++ (name processor
     ∷ (words (codes " maus ") ++ (figure MOST_BYTE maus ∷ (words (codes " order ") ++ words (order_letter order)))))))
@@ -116,11 +116,11 @@ rest_pieces n on_start value = words (codes " = ") ++ value_pieces value
 abbrev pub Row : Type 0
 Row = (k : Keyword) × Payload k
 
--- its pieces, where `n` is the position or the count that it states
+-- the pieces of the line; `n` is the position or the count that it states
 abbrev pub line_of : ℕ → Row → Line
 line_of n (k, p) = words (word_of k) ++ rest_pieces n k p
 
--- ---- the lines of a module, by what they state
+-- ---- the rows of a module
 
 abbrev pub extension_rows : List ℕ → List Row
 extension_rows [] = []

@@ -1,4 +1,4 @@
--- What a row that is read states.
+-- The row that a value of the code states.
 use Rattle.std.specs.Prelude.{◌≡◌, List, [], ◌∷◌, Some, None}
 use Rattle.mufom_build.specs.declared.order.Kind.{Kind}
 use Rattle.mufom_build.specs.declared.order.Kind.TheVariants as kinds

@@ -1,4 +1,4 @@
--- A module that may not be complete, as the rows of a listing state it one after another.
+-- An incomplete module, as the rows of a listing build it one after another.
 use Rattle.std.specs.Prelude.{◌≡◌, ◌<◌, List, [], ◌∷◌, ◌++◌, length, drop, map, flat_map, Option, Some, None, is_some, true}
 use Rattle.mufom_names.specs.declared.name.Note.{Note}
 use Rattle.mufom_names.specs.declared.name.Public.{Public}
@@ -19,15 +19,14 @@ use Rattle.mufom_build.specs.Rows.{on_module, on_extension, on_environment, on_s
 use Rattle.mufom_build.specs.Rows.{on_name, on_value, on_select, on_counter, on_bytes, on_field, on_repeat, on_start, Row}
 use Rattle.mufom_build.specs.Rows.{extension_rows, environment_rows, section_row, public_rows, reference_rows, mark_row, item_row, load_rows, start_rows}
 
--- The parts of a module so far, but for its debug items, of which there are the marks so far. A repeat that is still open is no load
--- yet.
+-- The parts of a module so far, with its debug items as a list of records. A repeat that is still open is not a load yet.
 pub record Sketch : Type 0 where
   pub stage : Stage
   pub parts : Parts
   pub marks : List DebugMark
   pub repeat : Option OpenRepeat
 
--- ---- its rows, and how far the listing is
+-- ---- its rows, and the state of the listing
 
 -- none before the first row
 abbrev pub title_rows : Stage → Parts → List Row
@@ -48,7 +47,7 @@ rows_by_part k = title_rows k.stage k.parts ∷ extension_rows k.parts.ext ∷ e
 abbrev pub sketch_rows : Sketch → List Row
 sketch_rows k = joined (rows_by_part k)
 
--- How far a listing of these rows is.
+-- The state of a listing after these rows.
 abbrev pub sketch_state : Sketch → State
 sketch_state k = record {
   stage = k.stage;
@@ -63,8 +62,8 @@ sketch_state k = record {
 abbrev pub HasLast : {X : Type 0} → List X → Type 0
 HasLast {X} xs = (rest : List X) × (x : X) × (xs ≡ rest ++ x ∷ [])
 
--- The stage of a sketch is that of its last row. Where blocks are open, it is that of debug items, and where a repeat is, that of loads.
--- The marks end no more blocks than they begin.
+-- The stage of a sketch is that of its last row: debug items if blocks are open, loads if a repeat is. Its debug records end no more blocks than they
+-- begin.
 pub record IsOrderly (k : Sketch) : Type 0 where
   pub later : joined (drop (stage_number k.stage) (rows_by_part k)) ≡ []
   pub public : k.stage ≡ stages.Publics → HasLast k.parts.names.publics
@@ -73,7 +72,7 @@ pub record IsOrderly (k : Sketch) : Type 0 where
   pub in_loads : is_some k.repeat ≡ true → k.stage ≡ stages.Loads
   pub nested : (rest : List DebugMark) → closes 0 (k.marks ++ rest) ≡ closes (depth_after_all 0 k.marks) rest
 
--- ---- what a row changes
+-- ---- the effect of a row
 
 -- the last element is changed
 abbrev pub with_last : {X : Type 0} → (X → X) → List X → List X
@@ -99,7 +98,7 @@ put_reference k r = record k {
   parts = record k.parts { names = record k.parts.names { references = k.parts.names.references ++ r ∷ [] } };
 }
 
--- a note of the last name
+-- a note is added to the last name
 abbrev pub put_note : Stage → Sketch → Note → Sketch
 put_note stages.Publics k note = record k {
   parts = record k.parts { names = record k.parts.names { publics = with_last (noted_public note) k.parts.names.publics } };
@@ -114,17 +113,17 @@ put_mark k mark = record k { stage = stages.Debug; marks = k.marks ++ mark ∷ [
 abbrev pub put_load : Sketch → Load → Sketch
 put_load k load = record k { stage = stages.Loads; parts = record k.parts { loads = k.parts.loads ++ load ∷ [] } }
 
--- an item, of the repeat if one is open
+-- an item is added: to the repeat if one is open, otherwise as a load
 abbrev pub put_item : Option OpenRepeat → Sketch → Item → Sketch
 put_item None k item = put_load k (One item)
 put_item (Some r) k item = record k { stage = stages.Loads; repeat = Some (record { count = r.count; items = r.items ++ item ∷ [] }) }
 
--- the end of the repeat if one is open, and else of a block
+-- the repeat ends if one is open, otherwise a block
 abbrev pub put_end : Option OpenRepeat → Sketch → Option Tree → Sketch
 put_end None k end = record k { marks = k.marks ++ block_end end ∷ [] }
 put_end (Some r) k end = record k { parts = record k.parts { loads = k.parts.loads ++ Repeat r.count r.items ∷ [] }; repeat = None }
 
--- The sketch with one more row, that may come.
+-- The sketch with one more row, which must be one that may come next.
 abbrev pub put : Sketch → Row → Sketch
 put k (on_module, (name, processor, maus, order)) = record k {
   stage = stages.Module;

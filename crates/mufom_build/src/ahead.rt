@@ -5,7 +5,7 @@ ghost use Rattle.mufom_build.specs.ReadKinds.{IsAhead, HasFigureAhead, HasEndAhe
 
 use mufom_build_text::Cursor;
 
-/// Whether this byte comes next after any spaces. It is no space.
+/// Whether this byte, which is not a space, comes next after any spaces.
 pub(crate) fn is_ahead(cursor: &Cursor, byte: u8) -> bool
     requires { byte ≡ 32 → ⊥ }
     ensures { IsTrue result ↔ IsAhead byte cursor.now.rest }

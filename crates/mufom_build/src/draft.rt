@@ -1,4 +1,4 @@
-//! The parts of a module so far, as the lines of its listing state them one after another.
+//! The parts of a module so far, as they are built from the lines of its listing.
 
 ghost use Rattle.std.specs.Prelude.{◌≡◌, ◌<◌, ◌++◌, ◌∷◌, [], length, is_some, Some, None, true, OnOk, IfSome};
 ghost use Rattle.mufom_build.specs.declared.order.Stage.TheVariants as stages;
@@ -23,7 +23,7 @@ use mufom_numbers::{Bytes, List, NoMemory};
 use mufom_sections::Section;
 use std::alloc::Global;
 
-/// A repeat of which the end has not come.
+/// A repeat whose end has not been read.
 #[derive(Debug, Drop)]
 pub(crate) struct OpenRepeat {
     count: u64,
@@ -33,16 +33,16 @@ pub(crate) struct OpenRepeat {
 /// The parts of a module so far.
 #[derive(Debug, Drop)]
 pub(crate) struct Draft {
-    /// The part that the last line is of.
+    /// The part to which the last line belongs.
     stage: Stage,
-    /// The parts but for the debug items.
+    /// The parts, without the debug items.
     parts: Parts,
     outline: Outline,
     repeat: Option<OpenRepeat>,
 }
 
 impl Draft {
-    /// Nothing of a module.
+    /// Returns an empty draft.
     pub(crate) fn new(alloc: Global) -> Draft
         ensures rows { draft_rows result ≡ [] }
         ensures state { state_of result ≡ start }
@@ -56,7 +56,7 @@ impl Draft {
         }
     }
 
-    /// How many lines of each kind have come.
+    /// Returns the number of lines of each kind so far.
     pub(crate) fn counts(&self) -> Counts
         requires { IsDraft self.now }
         ensures { HasCounts (state_of self.now) result }
@@ -215,7 +215,7 @@ impl Draft {
         self.outline.value(name, value)
     }
 
-    // Takes the end of the repeat if one is open, and else of a block.
+    // Takes the end of the repeat if one is open, or otherwise of a block.
     fn take_end(&mut self, alloc: Global, value: Option<Postfix>) -> Result<(), NoMemory>
         requires kept { IsKept self.old.outline }
         requires inside { self.old.repeat ≡ None → 0 < length self.old.outline.blocks.items }
@@ -229,7 +229,7 @@ impl Draft {
         }
     }
 
-    // Takes a load that is no repeat.
+    // Takes a load that is not a repeat.
     fn take_load(&mut self, load: Load) -> Result<(), NoMemory>
         requires { IsKept self.old.outline }
         ensures sketch { OnOk result (sketch_of self.new ≡ put_load (sketch_of self.old) load) }
@@ -264,7 +264,7 @@ impl Draft {
         });
     }
 
-    /// Takes what the next line states, which may come.
+    /// Adds what the next line states, which must be a line that may come here.
     pub(crate) fn take(&mut self, alloc: Global, row: Row) -> Result<(), NoMemory>
         requires kept { IsDraft self.old }
         requires may { may_come (state_of self.old) (shown_kind row) ≡ true }
@@ -303,7 +303,7 @@ impl Draft {
         Ok(())
     }
 
-    /// The parts, if the listing may end after the lines that have come.
+    /// Returns the parts, if the listing may end after the lines so far.
     pub(crate) fn finish(self) -> Option<Parts>
         requires { IsDraft self }
         ensures some { is_some result ≡ may_end (state_of self) }

@@ -26,7 +26,8 @@ pub(crate) enum Keyword {
     Start,
 }
 
-/// The one first word that a line can have which begins like the text, if there is one.
+/// Returns the keyword that the first bytes of the text indicate. If the text begins with a keyword, it is
+/// that one.
 pub(crate) fn first_word(text: &[u8]) -> Option<Keyword>
     ensures { (k : Word) (rest : List ℕ) → text.now ≡ word_of k ++ rest → option_map keyword_of result ≡ Some k }
 {

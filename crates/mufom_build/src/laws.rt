@@ -23,26 +23,26 @@ pub fn built_texts_have_the_shape()
     ensures { (text : Text) (m : Parts) → Build text m → Shape text }
 {}
 
-/// A text is the listing of one module's parts at most, whatever positions and counts it states. So one module at
-/// most can be built from it.
+/// A text lists the parts of at most one module, whatever positions and counts it states. So at most one
+/// module can be built from it.
 pub fn texts_list_one_module()
     ensures loosely { (text : Text) (m n : Parts) → SpellsLines loose (listing_lines m) text → SpellsLines loose (listing_lines n) text → m ≡ n }
     ensures exactly { (text : Text) (m n : Parts) → Build text m → Build text n → m ≡ n }
 {}
 
-/// A text that is the listing of parts with a defect has that one alone, and no module can be built from it.
+/// A text that lists parts with a defect lists none with another defect, and no module can be built from it.
 pub fn defects_build_nothing()
     ensures nothing { (text : Text) (m : Parts) (d : Defect) → Build text m → HasDefect text d → ⊥ }
     ensures one { (text : Text) (d other : Defect) → HasDefect text d → HasDefect text other → d ≡ other }
 {}
 
-/// A text is refused at one line and column at most, and for one reason.
+/// A text is refused at no more than one line and column, and for only one reason.
 pub fn texts_have_one_refusal()
     ensures { (text : Text) (line column other_line other : ℕ) (reason kind : BuildReason) → IsRefusedAt text line column reason
         → IsRefusedAt text other_line other kind → (line ≡ other_line) × (column ≡ other) × (reason ≡ kind) }
 {}
 
-/// A text is refused at no place from which a module can be built, or that is the listing of parts with a defect.
+/// A text from which a module can be built, or that lists parts with a defect, is not refused at any place.
 pub fn listings_are_not_refused()
     ensures built { (text : Text) (m : Parts) (line column : ℕ) (reason : BuildReason) → Build text m → IsRefusedAt text line column reason → ⊥ }
     ensures defect { (text : Text) (d : Defect) (line column : ℕ) (reason : BuildReason) → HasDefect text d

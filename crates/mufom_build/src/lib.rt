@@ -1,10 +1,11 @@
 //! Builds a module from its listing, and defines which texts are the listing of a module.
 //!
-//! A line of a listing is defined by its pieces (words, spaces, numbers, names and bytes), and a text by the bytes that spell these, so a
-//! listing may be written with more spaces, leading zeros and digits of either case. The main clauses are those of [`build`]: it returns
-//! the module if the text is its listing (`built`), and otherwise the first line that is wrong (`refused`), or the defect of what the
-//! text lists (`defect`). By [`texts_list_one_module`], [`texts_have_one_refusal`] and [`listings_are_not_refused`] the result is the
-//! only one.
+//! A line of a listing is defined as a list of pieces (words, spaces, numbers, names and bytes), and a text
+//! by the bytes that spell them, so a listing may be written with more spaces, leading zeros and digits of
+//! either case. The main clauses are those of [`build`]: it returns the module if the text is its listing
+//! (`built`), and otherwise the first line that is wrong (`refused`), or the defect of the parts that the
+//! text lists (`defect`). By [`texts_list_one_module`], [`texts_have_one_refusal`] and
+//! [`listings_are_not_refused`] no other result would be right.
 #![tactic(auto)]
 
 mod ahead;

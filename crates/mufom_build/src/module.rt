@@ -17,7 +17,7 @@ use mufom_build_text::{BuildReason, Cursor, PieceStop};
 use mufom_module::{Module, assemble};
 use std::alloc::Global;
 
-// Ends the line of a row, which may come here or not.
+// Ends the line of a row. `may_come` says whether the row may come here.
 fn end_row(cursor: &mut Cursor, may_come: bool) -> Result<(), PieceStop>
     ensures may { OnOk result (may_come ≡ true) }
     ensures right { OnOk result (IsRight cursor.old) }
@@ -32,7 +32,7 @@ fn end_row(cursor: &mut Cursor, may_come: bool) -> Result<(), PieceStop>
     cursor.end_line()
 }
 
-// Reads all lines, each into the draft.
+// Reads all lines, and adds each to the draft.
 fn read_rows(alloc: Global, cursor: &mut Cursor) -> Result<Draft, PieceStop>
     ensures begun { (text : Text) → Begun text [] cursor.old → IfOk result (λ draft. Begun text (draft_rows draft) cursor.new) }
     ensures kept { IfOk result IsDraft }
@@ -50,15 +50,15 @@ fn read_rows(alloc: Global, cursor: &mut Cursor) -> Result<Draft, PieceStop>
     Ok(draft)
 }
 
-/// Builds the module of a listing: of the text that `text_bytes` of `mufom_text` makes in the form `Listing`,
-/// or of one that is written by hand.
+/// Builds a module from its listing: from the text that `text_bytes` of `mufom_text` makes in the form
+/// `Listing`, or from one that is written by hand.
 ///
-/// `At` names the first line that is wrong: with `BadText` at column 1 if it is not one of a listing or may not
-/// come after the lines before it, and else with its first error. A listing of which lines are missing is
-/// `BadText` at its last line. `Module` names the defect of a listing in which no line is wrong.
+/// `At` gives the first line that is wrong: `BadText` at column 1 if it is not a line of a listing or may not
+/// come after the lines before it, and otherwise its first error. If lines are missing at the end, it is
+/// `BadText` at the last line. `Module` gives the defect of a listing in which no line is wrong.
 ///
-/// Allocates the module, and beside it no more than in proportion to the longest line. Takes time that grows
-/// with the length of the text. The depth of blocks and expressions costs no depth of calls.
+/// Allocates the module, and in addition memory in proportion to the longest line. The time grows with the
+/// length of the text. Nested blocks and expressions need no nested calls.
 pub fn build(alloc: Global, text: &[u8]) -> Result<Module, BuildRefusal>
     requires { length text.now ≤ MOST_FILE_BYTES }
 
@@ -66,7 +66,7 @@ pub fn build(alloc: Global, text: &[u8]) -> Result<Module, BuildRefusal>
     ensures built { IfOk result (λ m. Build text.now m) }
     // No line is wrong, and the parts that the listing states have this defect and none before it.
     ensures defect { (d : Defect) → result ≡ Err (BuildRefusal.Module d) → HasDefect text.now d }
-    // This is the first line that is wrong, and its first error.
+    // This is the first line that is wrong and its first error, or the last line, if lines are missing after it.
     ensures refused { (line column : ℕ) (reason : BuildReason) → result ≡ Err (BuildRefusal.At line column reason)
         → IsRefusedAt text.now line column reason }
 {

@@ -1,12 +1,12 @@
-//! In which order the lines of a listing come.
+//! The order of the lines of a listing.
 
 ghost use Rattle.std.specs.Prelude.{◌≡◌, nat_lt, if◌then◌else◌};
 ghost use Rattle.mufom_build.specs.Order.{stage_number, may_come_outside, may_come_inside, may_be_repeated};
 
-/// The part of a listing that its last line is of.
+/// The part of a listing to which its last line belongs.
 #[derive(Clone, Copy, Debug, PartialEq, Eq)]
 pub(crate) enum Stage {
-    /// No line has come.
+    /// No line has been read.
     Nothing,
     Module,
     Extension,
@@ -19,7 +19,7 @@ pub(crate) enum Stage {
     Start,
 }
 
-/// The kinds of lines between which the order of a listing tells.
+/// The kinds of lines that the order of a listing distinguishes.
 #[derive(Clone, Copy, Debug, PartialEq, Eq)]
 pub(crate) enum Kind {
     /// The first line.
@@ -37,14 +37,14 @@ pub(crate) enum Kind {
     End,
     /// The end of a block with an expression.
     EndWithValue,
-    /// What selects a section, sets a program counter or begins a repeat.
+    /// A line that selects a section, sets a program counter or begins a repeat.
     Load,
     /// Bytes or a field.
     Item,
     Start,
 }
 
-/// How many lines of these kinds have come, and how many blocks are open.
+/// The numbers of lines of these kinds so far, and of open blocks.
 #[derive(Clone, Copy, Debug, PartialEq, Eq)]
 pub(crate) struct Counts {
     pub sections: usize,
@@ -76,7 +76,7 @@ impl Stage {
     }
 }
 
-// Whether a line of this kind may come where no block and no repeat is open.
+// Whether a line of this kind may come when no block and no repeat is open.
 fn follows_outside(stage: Stage, kind: Kind) -> bool
     ensures { result ≡ may_come_outside stage kind }
 {
@@ -96,7 +96,8 @@ fn follows_outside(stage: Stage, kind: Kind) -> bool
     first <= number && number <= last
 }
 
-/// Whether a line of this kind may come next, at this stage and with this number of open blocks; `repeats` tells whether a repeat is open.
+/// Whether a line of this kind may come next, at this stage and with this number of open blocks. `repeats`
+/// says whether a repeat is open.
 pub(crate) fn may_follow(stage: Stage, depth: usize, repeats: bool, kind: Kind) -> bool
     ensures { result ≡ (if repeats then may_be_repeated kind else if nat_lt 0 depth then may_come_inside kind else may_come_outside stage kind) }
 {

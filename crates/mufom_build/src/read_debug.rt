@@ -20,7 +20,7 @@ use std::alloc::Global;
 // The most blocks that may be open at once.
 const MOST_OPEN: usize = 32;
 
-// Notes `Deep` where a block begins in as many blocks as may be open.
+// Notes `Deep` if a block begins when 32 blocks are already open.
 fn check_depth(cursor: &mut Cursor, depth: usize)
     ensures reads { ReadsLoosely (λ (u : Unit {0}). block (depth + 1) ∷ []) Anything tt cursor.old cursor.new }
 {

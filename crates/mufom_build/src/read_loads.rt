@@ -35,7 +35,8 @@ pub(crate) fn read_counter(alloc: Global, cursor: &mut Cursor) -> Result<Row, No
     Ok(Row::Counter { section, value })
 }
 
-// Reads bytes after a space, if the line has any. Returns them, and how many the line has by their digits.
+// Reads bytes after a space, if the line has any. Returns them, and their number according to the digits on
+// the line.
 fn read_spaced_bytes(alloc: Global, cursor: &mut Cursor) -> Result<(Bytes, u32), NoMemory>
     ensures reads { IfOk result (λ r. ReadsCounted r.0 r.1 cursor.old cursor.new) }
 {
@@ -62,7 +63,7 @@ pub(crate) fn read_bytes(alloc: Global, cursor: &mut Cursor) -> Result<Row, NoMe
     Ok(Row::Item(Item::Literal(bytes)))
 }
 
-// Reads the word for how the value of a field is read.
+// Reads the word for the kind of a field.
 fn read_kind(cursor: &mut Cursor) -> FieldKind
     ensures reads { ReadsLoosely (λ kind. words (kind_text kind)) Anything result cursor.old cursor.new }
 {

@@ -15,8 +15,8 @@ use mufom_names::{Note, Weak};
 use mufom_numbers::NoMemory;
 use std::alloc::Global;
 
-/// Reads numbers with a space before each, as many as come next. A piece is missing where these are more than
-/// there is room for.
+/// Reads all numbers that come next, each after a space. If there are more than N, notes that a piece is
+/// missing.
 pub(crate) fn read_numbers<const N: usize>(cursor: &mut Cursor) -> ArrayVec<u64, N>
     ensures reads { ReadsNumbers N spaced_pieces result.items cursor.old cursor.new }
 {
@@ -36,7 +36,7 @@ pub(crate) fn read_numbers<const N: usize>(cursor: &mut Cursor) -> ArrayVec<u64,
     numbers
 }
 
-// Reads what a note states after the name that it is of.
+// Reads what a note states after the name to which it belongs.
 fn read_note(cursor: &mut Cursor) -> Note
     ensures reads { ReadsFew note_pieces HasFewNumbers Nothing result cursor.old cursor.new }
 {
@@ -52,7 +52,7 @@ fn read_note(cursor: &mut Cursor) -> Note
     }
 }
 
-/// Reads the line of a note: of the name before it, or of a debug name, which is stated by its position.
+/// Reads the line of a note, which belongs to the name before it, or to the debug name at a stated position.
 pub(crate) fn read_note_line(cursor: &mut Cursor) -> Row
     ensures reads { (s : State) → ReadsOf s on_note result cursor.old cursor.new }
 {
@@ -79,7 +79,7 @@ pub(crate) fn read_public(alloc: Global, cursor: &mut Cursor, count: usize) -> R
     Ok(Row::Public { name, value })
 }
 
-// Reads what makes a reference weak, if it is.
+// Reads the size and the default of a weak reference. Returns `None` if the reference is strong.
 fn read_weak(cursor: &mut Cursor) -> Option<Weak>
     ensures reads { ReadsLast weak_pieces result cursor.old cursor.new }
 {

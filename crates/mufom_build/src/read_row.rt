@@ -50,10 +50,10 @@ fn read_line(
     }
 }
 
-/// Reads a line up to its end, of a listing that has these counts before the line. Where the line is none of a listing, it is noted
-/// that a piece is missing.
+/// Reads a line to its end, in a listing that has these counts before the line. If it is not a line of a
+/// listing, notes that a piece is missing.
 ///
-/// The one error is that memory ran out.
+/// The only error is out of memory.
 pub(crate) fn read_row(alloc: Global, cursor: &mut Cursor, counts: Counts) -> Result<Row, NoMemory>
     ensures reads { IfOk result (λ row. (s : State) → HasCounts s counts → ReadsRow s row cursor.old cursor.new) }
     ensures shorter { OnOk result (IsSound cursor.new → length cursor.new.rest < length cursor.old.rest) }

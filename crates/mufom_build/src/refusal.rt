@@ -15,13 +15,13 @@ pub enum BuildRefusal {
         column: u32,
         reason: BuildReason,
     },
-    /// The text is the listing of parts that are no module.
+    /// The text is the listing of parts with this defect, which are not a module.
     Module(Defect),
     /// Memory ran out.
     NoMemory,
 }
 
-/// The same as an error of [`build`](crate::build).
+/// Converts the error of a piece to an error of [`build`](crate::build).
 pub(crate) fn refusal_of(stop: PieceStop) -> BuildRefusal
     ensures defect { (d : Defect) → result ≡ BuildRefusal.Module d → ⊥ }
     ensures at { (line column : ℕ) (reason : BuildReason) → result ≡ BuildRefusal.At line column reason

@@ -1,4 +1,4 @@
--- What is noted of a line while it is read, and which of it is named.
+-- The errors that are noted while a line is read, and the one that is reported.
 use Rattle.std.specs.Prelude.{◌≡◌, ℕ, ◌+◌, ◌-◌, ◌==◌, ◌&&◌, nat_le, nat_lt, Bool, true, false, ◌∷◌, length, Option, Some, None}
 use Rattle.std.specs.Prelude.{if◌then◌else◌, ◌⊎◌}
 use Rattle.std.specs.Str.Parse.{digits_value}
@@ -12,19 +12,19 @@ use Rattle.mufom_build_text.specs.Reads.{Place, IsSpaceFront, IsLineEnd, ReadsNu
 abbrev pub error_at : ℕ → BuildReason → LineError
 error_at column reason = record { column = column; reason = reason }
 
--- Of two errors of a line the one at the lesser column, and of two at one column the one that was noted before.
+-- The error to keep of two errors of a line: the one at the smaller column, or the earlier one if the columns are equal.
 abbrev pub first_error : Option LineError → LineError → Option LineError
 first_error None error = Some error
 first_error (Some first) error = if nat_le first.column error.column then Some first else Some error
 
--- what is noted where this, if anything, is wrong at a column
+-- the error of the line once this reason, if any, is noted at a column
 abbrev pub noted : Option LineError → ℕ → Option BuildReason → Option LineError
 noted error column None = error
 noted error column (Some reason) = first_error error (error_at column reason)
 
--- ---- a line of which a piece is missing
+-- ---- a line that lacks a piece
 
--- a piece of the line was missing, which is noted at column 0, before all columns of the line
+-- a piece of the line is missing: that is noted at column 0, before every column of the line
 abbrev pub is_bad : Option LineError → Bool
 is_bad None = false
 is_bad (Some error) = error.column == 0
@@ -33,20 +33,20 @@ is_bad (Some error) = error.column == 0
 abbrev pub IsSound : Place → Type 0
 IsSound place = is_bad place.error ≡ false
 
--- A piece is missing at the place: it is noted, and nothing is passed over.
+-- A piece is missing at the place: that is noted, and the place does not move.
 pub record Fails (before after : Place) : Type 0 where
   pub rest : after.rest ≡ before.rest
   pub line : after.line ≡ before.line
   pub column : after.column ≡ before.column
   pub error : after.error ≡ first_error before.error (error_at 0 BadText)
 
--- ---- what is wrong with a piece
+-- ---- the errors of a piece
 
 abbrev pub stated_error : ℕ → ℕ → BuildReason → Text → Option BuildReason
 stated_error most right reason text = let stated = digits_value 10 text in
     if nat_lt most stated then Some TooGreat else if stated == right then None else Some reason
 
--- What is wrong with a piece that these bytes spell.
+-- The error of a piece that is spelled by these bytes, if it has one.
 abbrev pub piece_error : Piece → Text → Option BuildReason
 piece_error (byte value) text = None
 piece_error gap text = None
@@ -58,21 +58,21 @@ piece_error (digits bytes) text = None
 piece_error (expression tokens) text = if nat_lt 255 tokens then Some TooLong else None
 piece_error (block opened) text = if nat_lt 32 opened then Some Deep else None
 
--- ---- what is noted of numbers
+-- ---- the errors that are noted for numbers
 
--- What is noted where a line states this number at a column, or one that 64 bits do not hold, and `right` is the right one: that it
--- is greater than `most`, or else the reason, where it is another.
+-- The error of the line once a number that it states at a column is compared with the right one. A number above `most`, or one of more than 64 bits
+-- (`None`), is `TooGreat`; another number that is not `right` has the given reason.
 abbrev pub judged : Option LineError → ℕ → Option ℕ → ℕ → ℕ → BuildReason → Option LineError
 judged error column None most right reason = first_error error (error_at column TooGreat)
 judged error column (Some stated) most right reason = if nat_le stated most
     then (if stated == right then error else first_error error (error_at column reason)) else first_error error (error_at column TooGreat)
 
--- What is noted where a number stands at a column, or one that 64 bits do not hold: that it is greater than `most`.
+-- The error of the line once a number is read at a column: `TooGreat` if it is above `most` or has more than 64 bits (`None`).
 abbrev pub limited : Option LineError → ℕ → Option ℕ → ℕ → Option LineError
 limited error column None most = first_error error (error_at column TooGreat)
 limited error column (Some stated) most = if nat_le stated most then error else first_error error (error_at column TooGreat)
 
--- Digits are read, and it is noted at the first of them if their number is greater than `most`.
+-- Digits are read; `TooGreat` is noted at the first of them if their number is above `most`.
 pub record NotesFigure (most : ℕ) (before after : Place) : Type 0 where
   pub stated : Option ℕ
   pub digits : Place
@@ -80,7 +80,8 @@ pub record NotesFigure (most : ℕ) (before after : Place) : Type 0 where
   pub rest : after.rest ≡ digits.rest
   pub error : after.error ≡ limited before.error before.column stated most
 
--- Digits are read, and it is noted at the first of them if their number is no position, or another than `count`.
+-- Digits are read. At the first of them `TooGreat` is noted if their number is above the greatest position, and `Position` if it is another number
+-- than `count`.
 pub record NotesPosition (count : ℕ) (before after : Place) : Type 0 where
   pub stated : Option ℕ
   pub digits : Place
@@ -88,18 +89,18 @@ pub record NotesPosition (count : ℕ) (before after : Place) : Type 0 where
   pub rest : after.rest ≡ digits.rest
   pub error : after.error ≡ judged before.error before.column stated MOST_POSITION count Position
 
--- The line that is named where a line as a whole is wrong: the last one, where the text ends behind all lines.
+-- The line that is reported if a line as a whole is wrong. At the end of the text, after a line feed, it is the line before.
 abbrev pub wrong_line : Place → ℕ
 wrong_line place = if (length place.rest == 0) && ((place.column == 1) && nat_lt 1 place.line) then place.line - 1 else place.line
 
--- What is named of a line that should end at the place, after any spaces: that something else follows, or that a piece was missing, at
--- column 1; or else its first error.
+-- The error that is reported if the line should end at the place: `BadText` at column 1 if something else follows or a piece is missing; otherwise
+-- the first error of the line.
 abbrev pub IsWrongEnd : Place → ℕ → ℕ → BuildReason → Type 0
 IsWrongEnd place line column reason =
     ((line ≡ wrong_line place) × (column ≡ 1) × (reason ≡ BadText) × ((IsLineEnd place.rest → ⊥) ⊎ (is_bad place.error ≡ true)))
     ⊎ ((line ≡ place.line) × IsLineEnd place.rest × IsSound place × (place.error ≡ Some (error_at column reason)))
 
--- What is named of a line that should end at the place: the same of where the spaces end that follow it.
+-- The error that is reported if the line should end at the place, once the spaces that follow it are passed.
 pub record IsNamed (place : Place) (line column : ℕ) (reason : BuildReason) : Type 0 where
   pub end : Place
   pub spaces : IsSpaceFront place.rest end.rest

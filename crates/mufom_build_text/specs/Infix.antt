@@ -1,4 +1,4 @@
--- An expression in infix form, of which a front is read.
+-- Reading an expression in infix form: what has been read when part of it is.
 use Rattle.std.specs.Prelude.{◌≡◌, ℕ, ◌==◌, nat_lt, Bool, true, false, List, [], ◌∷◌, ◌++◌, flat_map, map, codes, length, take, get_or}
 use Rattle.std.specs.Prelude.{Option, Some, None, if◌then◌else◌}
 use Rattle.mufom_expr.specs.declared.token.Function.{Function}
@@ -21,7 +21,7 @@ use Rattle.mufom_build_text.specs.Reads.{Place}
 use Rattle.mufom_build_text.specs.Errors.{IsSound}
 use Rattle.mufom_build_text.specs.Loosely.{Moves, Goes, ReadsLoosely, ReadsWords, NoFigure}
 
--- ---- functions by what comes before and between their operands
+-- ---- functions, by the text before and between their operands
 
 -- what comes between the two operands of a function
 abbrev pub middle_of : TwoOperands → Middle
@@ -40,7 +40,7 @@ middle_of and_bits = Comma functions.And
 middle_of or_bits = Comma functions.Or
 middle_of xor_bits = Comma functions.Xor
 
--- the function of a tree none of whose operands is read, where it has operands
+-- the frame of a tree's function before its first operand is read; none if the tree is a number or a variable
 abbrev pub frame_before : Tree → Option Frame
 frame_before (number n) = None
 frame_before (variable letter place) = None
@@ -52,7 +52,7 @@ abbrev pub letter_before : Tree → Option Letter
 letter_before (variable letter place) = Some letter
 letter_before _ = None
 
--- what is before the first operand
+-- the text before the first operand
 abbrev pub frame_text : Frame → List ℕ
 frame_text (First Operator) = codes "("
 frame_text (First (Comma f)) = opening_text f
@@ -86,20 +86,20 @@ has_one functions.Abs = true
 has_one functions.Neg = true
 has_one _ = false
 
--- the frame may be that of a function none of whose operands is read
+-- the frame can be that of a function before its first operand is read
 abbrev pub is_first : Frame → Bool
 is_first (First Operator) = true
 is_first (First (Comma f)) = has_comma f
 is_first (Last f) = has_one f
 
--- the function may be the one between whose operands this comes
+-- the function can have this between its operands
 abbrev pub FitsMiddle : Middle → Function → Type 0
 FitsMiddle Operator f = has_operator f ≡ true
 FitsMiddle (Comma g) f = f ≡ g
 
--- ---- what the first two bytes of a text tell
+-- ---- what the first two bytes of a text indicate
 
--- the function of which they begin what comes before the operands
+-- the frame of the function whose opening text begins with these two bytes
 abbrev pub frame_by : ℕ → ℕ → Option Frame
 frame_by first second =
     if first == 40 then Some (First Operator)
@@ -112,7 +112,7 @@ frame_by first second =
     else if first == 111 then Some (First (Comma functions.Or))
     else if first == 120 then Some (First (Comma functions.Xor)) else None
 
--- the function of the operator; where they are none, any of these functions
+-- the function whose operator begins with these two bytes; `Plus` if they begin no other operator
 abbrev pub operator_by : ℕ → ℕ → Function
 operator_by first second =
     if first == 45 then functions.Minus
@@ -122,7 +122,7 @@ operator_by first second =
     else if first == 62 then functions.Greater
     else if first == 61 then functions.Equal else functions.Plus
 
--- the letter of the variable
+-- the letter of the variable that begins with this byte
 abbrev pub letter_by : ℕ → Option Letter
 letter_by first =
     if first == 73 then Some letters.I
@@ -132,38 +132,38 @@ letter_by first =
     else if first == 83 then Some letters.S
     else if first == 88 then Some letters.X else None
 
--- the byte at a place of a text, or 0
+-- the byte at a position of a text, or 0 after its end
 abbrev pub byte_at : List ℕ → ℕ → ℕ
 byte_at text place = get_or text place 0
 
--- ---- trees that are read
+-- ---- reading trees
 
--- An expression is stated between the two places, or a piece of it is missing. The tree has as many tokens, and is that expression where
--- nothing is wrong.
+-- An expression is spelled between the two places, or a piece of it is missing. The tree has the same number of tokens as that expression, and is
+-- that expression if the line has no error.
 pub record ReadsTree (tree : Tree) (before after : Place) : Type 0 where
   pub reads : ReadsLoosely infix_pieces NoFigure tree before after
   pub count : length (tokens_of reads.value) ≡ length (tokens_of tree)
 
--- each tree whose pieces come next is that of a function of which none of the operands is read, or has no operands
+-- every tree whose pieces come next begins with this frame, or has no operands (`None`)
 abbrev pub Tells : Option Frame → Place → Type 0
 Tells frame place = (t : Tree) (more : List Piece) → Goes (infix_pieces t ++ more) place → frame_before t ≡ frame
 
--- some function has this between its operands
+-- a function has this between its operands
 abbrev pub IsMiddle : Middle → Type 0
 IsMiddle middle = (f : TwoOperands) × (middle_of f ≡ middle)
 
--- What is before the first operand of a function is read, and each tree whose pieces came next is that of such a function.
+-- The text before the first operand of a function is read, and every tree whose pieces came next has such a function.
 pub record Begins (frame : Frame) (before after : Place) : Type 0 where
   pub passed : ReadsWords (frame_text frame) before after
   pub tells : Tells (Some frame) before
 
--- What is between the operands of a function is read, and the function is the only one that could come there.
+-- The text between the operands of a function is read, and no other function could have its text there.
 pub record IsBetweenRead (f : TwoOperands) (before after : Place) : Type 0 where
   pub passed : ReadsWords (middle_text (function_of_two f)) before after
   pub tells : (g : TwoOperands) (more : List Piece) → middle_of g ≡ middle_of f
       → Goes (words (middle_text (function_of_two g)) ++ more) before → g ≡ f
 
--- A function of two operands of which this one is read, up to where the other begins.
+-- A function of two operands is read up to the beginning of its second operand; the first is `a`.
 pub record IsSecond (f : TwoOperands) (a : Tree) (before after : Place) : Type 0 where
   pub operand : Place
   pub middle : Place
@@ -173,26 +173,26 @@ pub record IsSecond (f : TwoOperands) (a : Tree) (before after : Place) : Type 0
 
 -- A function whose operands are being read.
 pub data Opened : Type 0 where
-  -- of two operands, of which none is read, by what comes between them
+  -- a function of two operands, neither of which is read, known by the text between them
   first : (middle : Middle) → Opened
-  -- of one operand
+  -- a function of one operand
   single : (f : OneOperand) → Opened
-  -- of two operands, of which this one is read, and what is between them
+  -- a function of two operands, of which the first is read, and so is the text between them
   second : (f : TwoOperands) → (a : Tree) → Opened
 
--- what has to come after the next operand
+-- the frame of the function: what has to follow its next operand
 abbrev pub frame_of : Opened → Frame
 frame_of (first middle) = First middle
 frame_of (single f) = Last (function_of_one f)
 frame_of (second f a) = Last (function_of_two f)
 
--- the tokens of what is read of it
+-- the tokens of its operands that are read
 abbrev pub opened_tokens : Opened → List Token
 opened_tokens (first middle) = []
 opened_tokens (single f) = []
 opened_tokens (second f a) = tokens_of a
 
--- all before its next operand is read
+-- everything before its next operand is read
 abbrev pub IsOpened : Opened → Place → Place → Type 0
 IsOpened (first middle) before after = Begins (First middle) before after × IsMiddle middle
 IsOpened (single f) before after = Begins (Last (function_of_one f)) before after
@@ -203,21 +203,21 @@ abbrev pub AreOpened : List Opened → Place → Place → Type 0
 AreOpened [] before after = before ≡ after
 AreOpened (o ∷ opened) before after = (next : Place) × IsOpened o before next × AreOpened opened next after
 
--- ---- an expression that is being read
+-- ---- an expression while it is read
 
--- what is kept of all tokens so far
+-- the tokens that are kept of all tokens so far: the first 255, and whether there are more
 pub record Keeps (all : List Token) (infix_read : Infix) : Type 0 where
   pub tokens : infix_read.tokens ≡ take 255 all
   pub long : infix_read.is_long ≡ nat_lt 255 (length all)
 
--- From the start of the expression all is read up to where an operand begins.
+-- The expression is read from its start to the beginning of an operand.
 pub record IsBefore (start now : Place) (infix_read : Infix) : Type 0 where
   pub opened : List Opened
   pub are : AreOpened opened start now
   pub frames : infix_read.frames.items ≡ map frame_of opened
   pub keeps : Keeps (flat_map opened_tokens opened) infix_read
 
--- From the start of the expression all is read up to the end of an operand.
+-- The expression is read from its start to the end of an operand.
 pub record IsBehind (start now : Place) (infix_read : Infix) : Type 0 where
   pub opened : List Opened
   pub tree : Tree
@@ -227,7 +227,7 @@ pub record IsBehind (start now : Place) (infix_read : Infix) : Type 0 where
   pub frames : infix_read.frames.items ≡ map frame_of opened
   pub keeps : Keeps (flat_map opened_tokens opened ++ tokens_of tree) infix_read
 
--- From the start of the expression all is read up to the end of the first operand of a function, after which this comes.
+-- The expression is read from its start to the end of the first operand of a function; `middle` follows it.
 pub record IsBetween (middle : Middle) (start now : Place) (infix_read : Infix) : Type 0 where
   pub opened : List Opened
   pub tree : Tree
@@ -246,18 +246,18 @@ pub record IsRead (start now : Place) (infix_read : Infix) : Type 0 where
   pub reads : ReadsTree tree start now
   pub keeps : Keeps (tokens_of tree) infix_read
 
--- the expression is read where nothing comes after an operand
+-- the whole expression is read if nothing follows the operand (`None`)
 abbrev pub IsClosed : Option Middle → Place → Place → Infix → Type 0
 IsClosed None start now infix_read = IsRead start now infix_read
 IsClosed (Some middle) start now infix_read = IsBetween middle start now infix_read
 
--- The expression is read, or a piece of it is missing; none is missing where a tree came next.
+-- The expression is read, or a piece of it is missing. No piece is missing if the pieces of a tree came next.
 pub record IsWhole (start now : Place) (infix_read : Infix) : Type 0 where
   pub moves : Moves start now
   pub read : IsSound now → IsRead start now infix_read
   pub takes : (t : Tree) (more : List Piece) → NoFigure more → Goes (infix_pieces t ++ more) start → IsSound now
 
--- A number or a variable is read, which has this token.
+-- A number or a variable is read, and this is its token.
 pub record IsLeaf (start now : Place) (token : Token) : Type 0 where
   pub tree : Tree
   pub reads : ReadsTree tree start now

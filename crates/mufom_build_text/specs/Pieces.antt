@@ -1,5 +1,5 @@
--- What a line of a listing is made of, and which bytes spell it. A line may be written with some liberty: more spaces
--- where there is one, digits of either case, leading zeros, and any byte of a name by its digits.
+-- The pieces of which a line of a listing consists, and the bytes that spell them. A line may be written with more spaces where there is one, digits
+-- of either case, leading zeros, and any byte of a name as its two digits.
 use Rattle.std.specs.Prelude.{◌≡◌, ℕ, ◌<◌, ◌-◌, ◌^◌, ◌/◌, ◌%◌, ◌==◌, List, [], ◌∷◌, ◌++◌, length, map, Some, codes, IsTrue, if◌then◌else◌, ◌⊎◌}
 use Rattle.std.specs.List.{AllByRecursion}
 use Rattle.std.specs.Str.Parse.{IsNumeral, digits_value}
@@ -12,9 +12,9 @@ use Rattle.mufom_text.specs.Words.{Text, stands_for_itself}
 pub data Piece : Type 0 where
   -- this byte
   byte : (value : ℕ) → Piece
-  -- a space or more
+  -- one or more spaces
   gap : Piece
-  -- a number, and the greatest that its field holds
+  -- a number, with the greatest number that its field holds
   figure : (most value : ℕ) → Piece
   -- the number of lines of this kind before the line
   position : (value : ℕ) → Piece
@@ -24,23 +24,23 @@ pub data Piece : Type 0 where
   name : (bytes : List ℕ) → Piece
   -- bytes by their hexadecimal digits, two for each
   digits : (bytes : List ℕ) → Piece
-  -- where an expression of so many tokens begins; no bytes
+  -- the beginning of an expression, with its number of tokens; no bytes
   expression : (tokens : ℕ) → Piece
-  -- where a block begins, with how many blocks are then open; no bytes
+  -- the beginning of a block, with the number of blocks that are then open; no bytes
   block : (opened : ℕ) → Piece
 
--- how the positions and counts of lines are read: each has to be the right one, or may be any number
+-- how positions and counts are read: each must be right (`exact`), or may be any number (`loose`)
 pub data Reading : Type 0 where
   exact : Reading
   loose : Reading
 
--- ---- what bytes spell a piece
+-- ---- the bytes that spell a piece
 
--- one digit or more, of this value
+-- one or more decimal digits, of this value
 abbrev pub SpellsNumber : ℕ → Text → Type 0
 SpellsNumber n text = IsNumeral 10 text × (digits_value 10 text ≡ n)
 
--- a number that has to be this one, where the reading is exact
+-- a number that must be this one if the reading is exact
 abbrev pub SpellsStated : Reading → ℕ → Text → Type 0
 SpellsStated exact n text = SpellsNumber n text
 SpellsStated loose n text = IsNumeral 10 text
@@ -53,7 +53,7 @@ abbrev pub SpellsDigits : List ℕ → Text → Type 0
 SpellsDigits [] text = text ≡ []
 SpellsDigits (b ∷ bytes) text = (high : ℕ) × (low : ℕ) × (rest : Text) × (text ≡ high ∷ low ∷ rest) × AreDigitsOf b high low × SpellsDigits bytes rest
 
--- a byte of a name: itself, where it may stand for itself, or a backslash, `x` and its two digits
+-- a byte of a name: itself, if it can be printed as itself, or a backslash, `x` and its two digits
 abbrev pub SpellsNameByte : ℕ → Text → Type 0
 SpellsNameByte b text = (IsTrue (stands_for_itself b) × (text ≡ b ∷ []))
     ⊎ ((high : ℕ) × (low : ℕ) × (text ≡ 0x5C ∷ 0x78 ∷ high ∷ low ∷ []) × AreDigitsOf b high low)
@@ -80,7 +80,7 @@ SpellsPiece reading (digits bytes) text = SpellsDigits bytes text
 SpellsPiece reading (expression tokens) text = text ≡ []
 SpellsPiece reading (block opened) text = text ≡ []
 
--- the bytes are those of the pieces, one after another
+-- the text spells the pieces, one after another
 abbrev pub Spells : Reading → List Piece → Text → Type 0
 Spells reading [] text = text ≡ []
 Spells reading (piece ∷ pieces) text = (first : Text) × (rest : Text) × (text ≡ first ++ rest)
@@ -88,11 +88,11 @@ Spells reading (piece ∷ pieces) text = (first : Text) × (rest : Text) × (tex
 
 -- ---- pieces of words and of expressions
 
--- a byte of a word: a space stands for one space or more
+-- the piece for a byte of a word: for a space, one or more spaces
 abbrev pub word_piece : ℕ → Piece
 word_piece b = if b == 32 then gap else byte b
 
--- words, with the spaces before, between and after them
+-- the pieces for words and for the spaces before, between and after them
 abbrev pub words : Text → List Piece
 words text = map word_piece text
 
@@ -119,7 +119,7 @@ small_piece n = figure MOST_BYTE n ∷ []
 abbrev pub name_piece : List ℕ → List Piece
 name_piece bytes = name bytes ∷ []
 
--- an expression in infix form, without the piece that marks its begin
+-- an expression in infix form, without the piece that marks its beginning
 abbrev pub infix_pieces : Tree → List Piece
 infix_pieces (number n) = number_piece n
 infix_pieces (variable letter place) = words (letter_text letter) ++ place_piece place

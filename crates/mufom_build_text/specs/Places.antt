@@ -8,8 +8,8 @@ use Rattle.mufom_build_text.specs.Pieces.{Piece, Reading, Spells, AreSpaces}
 abbrev pub AreBlank : Text → Type 0
 AreBlank text = AllByRecursion (λ b. (b ≡ 32) ⊎ (b ≡ 10)) text
 
--- The text is of these lines, in order, each ended by one byte 0A, which the last may lack. Spaces may stand before and
--- after a line, and lines of spaces alone anywhere.
+-- The text consists of these lines, in order, each ended by one byte 0A, which the last may lack. Spaces may come before and after a line, and lines
+-- of spaces alone anywhere.
 abbrev pub SpellsLines : Reading → List (List Piece) → Text → Type 0
 SpellsLines reading [] text = AreBlank text
 SpellsLines reading (pieces ∷ lines) text = (before : Text) × (body : Text) × (after : Text) × (rest : Text) × (text ≡ before ++ (body ++ (after ++ rest)))

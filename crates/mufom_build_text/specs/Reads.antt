@@ -20,20 +20,19 @@ beginning text = record { rest = text; line = 1; column = 1; error = None }
 abbrev pub IsRight : Place → Type 0
 IsRight place = place.error ≡ None
 
--- some spaces, or none, are before the rest
+-- any spaces come before the rest
 pub record IsSpaceFront (text rest : Text) : Type 0 where
   pub front : Text
   pub is : text ≡ front ++ rest
   pub spaces : AreSpaces front
 
--- spaces and ends of lines, or nothing, are before the rest
+-- any spaces and ends of lines come before the rest
 pub record IsBlankFront (text rest : Text) : Type 0 where
   pub front : Text
   pub is : text ≡ front ++ rest
   pub blank : AreBlank front
 
--- Where the line has no error before the second place, it has none before the first, and the bytes between the two spell the
--- pieces.
+-- The line has no error before the first place, and the bytes between the two places spell the pieces, with right positions and counts.
 pub record ReadsRight (pieces : List Piece) (before after : Place) : Type 0 where
   pub right : IsRight before
   pub front : Text
@@ -43,7 +42,7 @@ pub record ReadsRight (pieces : List Piece) (before after : Place) : Type 0 wher
 pub record Reads (pieces : List Piece) (before after : Place) : Type 0 where
   pub read : IsRight after → ReadsRight pieces before after
 
--- The bytes between the two places are digits, of this value where 64 bits hold it.
+-- The bytes between the two places are digits; `value` is their number if it fits in 64 bits.
 pub record ReadsNumeral (value : Option ℕ) (before after : Place) : Type 0 where
   pub front : Text
   pub is : before.rest ≡ front ++ after.rest
@@ -51,13 +50,13 @@ pub record ReadsNumeral (value : Option ℕ) (before after : Place) : Type 0 whe
   pub value_is : MatchOption value (2 ^ 64 ≤ digits_value 10 front) (λ n. digits_value 10 front ≡ n)
   pub error : after.error ≡ before.error
 
--- The text begins with the digits of these bytes, and ends with the rest.
+-- The text begins with the digits of these bytes, and the rest follows.
 pub record IsDigitsFront (bytes : List ℕ) (text rest : Text) : Type 0 where
   pub front : Text
   pub is : text ≡ front ++ rest
   pub spelled : SpellsDigits bytes front
 
--- The same of the bytes of a name, as they are between its quotes.
+-- The text begins with the bytes of a name, spelled as between its quotes, and the rest follows.
 pub record IsNameFront (bytes : List ℕ) (text rest : Text) : Type 0 where
   pub front : Text
   pub is : text ≡ front ++ rest
@@ -65,7 +64,7 @@ pub record IsNameFront (bytes : List ℕ) (text rest : Text) : Type 0 where
 
 -- ---- lines and columns
 
--- how many lines end in a text: the number of its bytes 0A
+-- the number of line feeds in a text
 abbrev pub feeds : Text → ℕ
 feeds [] = 0
 feeds (b ∷ text) = if b == 10 then feeds text + 1 else feeds text
@@ -79,7 +78,7 @@ column_after column (b ∷ text) = if b == 10 then column_after 1 text else colu
 abbrev pub IsPastBlanks : Text → Type 0
 IsPastBlanks text = (b : ℕ) (more : Text) → text ≡ b ∷ more → (b ≡ 32) ⊎ (b ≡ 10) → ⊥
 
--- Spaces and ends of lines, or nothing, are passed over from a line and a column to another line and column.
+-- Any spaces and ends of lines are passed over, from one line and column to another.
 pub record PassesBlanks (text : Text) (from_line from_column : ℕ) (rest : Text) (line column : ℕ) : Type 0 where
   pub front : Text
   pub is : text ≡ front ++ rest
@@ -87,7 +86,7 @@ pub record PassesBlanks (text : Text) (from_line from_column : ℕ) (rest : Text
   pub line_is : line ≡ from_line + feeds front
   pub column_is : column ≡ column_after from_column front
 
--- no text, or an end of a line
+-- the end of the text or of a line
 abbrev pub IsLineEnd : Text → Type 0
 IsLineEnd text = (text ≡ []) ⊎ ((more : Text) × (text ≡ 10 ∷ more))
 
@@ -110,11 +109,11 @@ pub record LeavesLine (before after : Place) : Type 0 where
   pub past : IsPastBlanks after.rest
   pub error : after.error ≡ before.error
 
--- The text is of these lines, and is not empty where there are any.
+-- The text consists of these lines, and is not empty if there are any.
 pub record Follow (lines : List (List Piece)) (text : Text) : Type 0 where
   pub spelled : SpellsLines exact lines text
   pub some : text ≡ [] → lines ≡ []
 
--- The lines are spelled at the front of the text, and the rest follows them.
+-- The text begins with these lines, and the rest follows them.
 pub record ReadsLines (lines : List (List Piece)) (text rest : Text) : Type 0 where
   pub followed : (more : List (List Piece)) → Follow more rest → Follow (lines ++ more) text

@@ -36,7 +36,7 @@ impl<'a> Model for Cursor<'a> {
     ghost invariant = { λ c. (c.line + length c.rest.now < 2 ^ 32) × (c.column + length c.rest.now < 2 ^ 32) × (0 < c.column) };
 }
 
-/// What follows the spaces at the front of a text.
+/// Returns the text after any spaces at its beginning.
 pub fn after_spaces(text: &[u8]) -> &[u8]
     ensures front { IsSpaceFront text.now result.now }
     ensures last { (more : List ℕ) → result.now ≡ 32 ∷ more → ⊥ }
@@ -93,7 +93,7 @@ fn after_blanks(text: &[u8], from_line: u32, from_column: u32) -> (&[u8], u32, u
     (rest, line, column)
 }
 
-// Whether a line may end before the text: at a line feed, or where there is no more text.
+// Whether a line may end before this text: at a line feed, or at the end of all text.
 fn is_line_end(text: &[u8]) -> bool
     ensures { IsTrue result ↔ IsLineEnd text.now }
 {
@@ -104,7 +104,7 @@ fn is_line_end(text: &[u8]) -> bool
 }
 
 impl<'a> Cursor<'a> {
-    /// The beginning of a text.
+    /// Returns the beginning of a text.
     pub fn new(text: &'a [u8]) -> Cursor<'a>
         requires { length text.now ≤ MOST_FILE_BYTES }
         ensures { result ≡ beginning text.now }
@@ -117,14 +117,14 @@ impl<'a> Cursor<'a> {
         }
     }
 
-    /// The bytes that are still to be read.
+    /// Returns the bytes that are still to be read.
     pub fn rest(&self) -> &'a [u8]
         ensures { result.now ≡ self.now.rest }
     {
         self.rest
     }
 
-    /// The column of the next byte, which counts bytes from 1.
+    /// Returns the column of the next byte; columns count bytes from 1.
     pub fn column(&self) -> u32
         ensures value { result ≡ self.now.column }
         ensures positive { 0 < result }
@@ -149,8 +149,8 @@ impl<'a> Cursor<'a> {
         }
     }
 
-    /// The error of the line as a whole: it is not one of a listing, or may not occur here. At the end of a
-    /// text this is its last line: none begins behind the last line feed.
+    /// Returns the error of the line as a whole: `BadText` at column 1. After the last line feed of a text it
+    /// names the last line, because no further line begins there.
     pub fn bad_line(&self) -> PieceStop
         ensures { result ≡ PieceStop.At (wrong_line self.now) 1 BuildReason.BadText }
     {
@@ -166,7 +166,7 @@ impl<'a> Cursor<'a> {
         }
     }
 
-    /// Moves on within the line, to what is left of it then.
+    /// Moves forward within the line. `rest` is what is left to read.
     pub fn advance_to(&mut self, rest: &'a [u8])
         requires { length rest.now ≤ length self.old.rest }
         ensures rest { self.new.rest ≡ rest.now }
@@ -178,7 +178,8 @@ impl<'a> Cursor<'a> {
         self.rest = rest;
     }
 
-    /// Notes an error within the line. Of two errors the one at the lesser column is kept.
+    /// Notes an error within the line. The error with the smallest column is kept, and of two at one column
+    /// the earlier.
     pub fn note(&mut self, column: u32, reason: BuildReason)
         ensures rest { self.new.rest ≡ self.old.rest }
         ensures line { self.new.line ≡ self.old.line }
@@ -228,7 +229,8 @@ impl<'a> Cursor<'a> {
         self.column = column;
     }
 
-    // Checks that the line may end here, and has no error. `BadText` if it may not, or a piece of it was missing.
+    // Checks that the line can end here and has no error. Returns `BadText` if something else follows or a
+    // piece was missing, and otherwise the first error of the line.
     fn check_end(&self) -> Result<(), PieceStop>
         ensures end { OnOk result (IsLineEnd self.now.rest) }
         ensures right { OnOk result (IsRight self.now) }
@@ -250,7 +252,8 @@ impl<'a> Cursor<'a> {
 
     /// Ends a line: passes over the spaces after it, its line feed, if any, and blank lines.
     ///
-    /// `BadText` if anything else follows on the line or a piece of it was missing, and else its first error.
+    /// Returns `BadText` if anything else follows on the line or a piece of it was missing, and otherwise the
+    /// line's first error.
     pub fn end_line(&mut self) -> Result<(), PieceStop>
         ensures right { OnOk result (IsRight self.old) }
         ensures ends { OnOk result (EndsLine self.old.rest self.new.rest) }

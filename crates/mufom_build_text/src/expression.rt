@@ -1,5 +1,5 @@
-//! Expressions in infix form, as a listing has them. The functions whose operands are still being read are
-//! kept on a stack of their own, so that no depth of a text is a depth of calls.
+//! Expressions in infix form, as they are written in a listing. The functions whose operands are still being
+//! read are on an explicit stack, so nested expressions need no nested calls.
 
 ghost use Rattle.std.specs.Prelude.{◌≡◌, ◌≤◌, ◌<◌, ◌+◌, ◌∷◌, ◌++◌, [], ℕ, List, true, length, IfOk, OnOk, IfSome, None};
 ghost use Rattle.mufom_expr.specs.declared.token.Token.{Token};
@@ -25,13 +25,13 @@ use std::alloc::Global;
 /// What comes between the two operands of a function.
 #[derive(Clone, Copy, Debug)]
 enum Middle {
-    /// An operator, which tells the function.
+    /// An operator, from which the function is known.
     Operator,
     /// The comma of this function.
     Comma(Function),
 }
 
-/// A function whose operands are being read, by what comes after the next one.
+/// A function whose operands are being read, known by what follows the next one.
 #[derive(Clone, Copy, Debug)]
 enum Frame {
     /// The next operand is the first of two.
@@ -45,13 +45,13 @@ enum Frame {
 struct Infix {
     /// The functions whose operands are being read, the innermost last.
     frames: Vec<Frame>,
-    /// The tokens of the operands that are read, up to the 255th.
+    /// The first 255 tokens of the operands that are read.
     tokens: Builder,
-    /// Whether there is a 256th token.
+    /// Whether there are more than 255 tokens.
     is_long: bool,
 }
 
-// The function whose text before its operands the first bytes of a text tell.
+// The frame of the function whose opening text begins this text. Its first two bytes tell which that is.
 fn frame_by(text: &[u8]) -> Option<Frame>
     ensures exact { result ≡ frame_by (byte_at text.now 0) (byte_at text.now 1) }
     ensures first { IfSome result (λ frame. is_first frame ≡ true) }
@@ -70,7 +70,7 @@ fn frame_by(text: &[u8]) -> Option<Frame>
     }
 }
 
-// The function that is opened here.
+// The frame of the function that begins at the cursor, if one does.
 fn opened(cursor: &Cursor) -> Option<Frame>
     ensures tells { Tells result cursor.now }
     ensures first { IfSome result (λ frame. is_first frame ≡ true) }
@@ -89,8 +89,8 @@ fn opening(frame: Frame) -> &'static str
     }
 }
 
-// The function whose operator a text begins with. Where it begins with none of them, any of these functions:
-// its operator is then missing.
+// The function whose operator begins the text. If the text begins with no operator, `Plus`: reading its
+// operator then fails.
 fn operator(text: &[u8]) -> Function
     ensures exact { result ≡ operator_by (byte_at text.now 0) (byte_at text.now 1) }
     ensures has { has_operator result ≡ true }
@@ -107,7 +107,7 @@ fn operator(text: &[u8]) -> Function
     }
 }
 
-// The function between whose operands this comes.
+// The function that comes next between two operands, if `middle` follows the first.
 fn function_of(cursor: &Cursor, middle: Middle) -> Function
     ensures fits { FitsMiddle middle result }
     ensures tells { (g : TwoOperands) (more : List Piece) → middle_of g ≡ middle
@@ -119,7 +119,7 @@ fn function_of(cursor: &Cursor, middle: Middle) -> Function
     }
 }
 
-// The letter that the first byte of a text tells.
+// The letter of the variable that begins with the first byte of the text, if one does.
 fn letter_by(text: &[u8]) -> Option<Letter>
     ensures { result ≡ letter_by (byte_at text.now 0) }
 {
@@ -134,7 +134,7 @@ fn letter_by(text: &[u8]) -> Option<Letter>
     }
 }
 
-// The letter of the variable that comes next.
+// The letter of the variable that comes next, if one does.
 fn letter(cursor: &Cursor) -> Option<Letter>
     ensures { (t : Tree) (more : List Piece) → Goes (infix_pieces t ++ more) cursor.now → frame_before t ≡ None
         → letter_before t ≡ result }
@@ -167,7 +167,7 @@ impl Infix {
         }
     }
 
-    // Adds a token. Of a long expression no more than the first 255 tokens are kept.
+    // Adds a token. Of a long expression only the first 255 tokens are kept.
     fn add(&mut self, token: Token) -> Result<(), NoMemory>
         ensures frames { self.new.frames.items ≡ self.old.frames.items }
         ensures keeps { (all : List Token) → Keeps all self.old → (FindsTooFew all token → ⊥) → OnOk result (Keeps (all ++ token ∷ []) self.new) }
@@ -185,7 +185,7 @@ impl Infix {
         }
     }
 
-    // Reads what comes before the next number or variable, if anything.
+    // Reads all opening texts before the next number or variable.
     fn open(&mut self, cursor: &mut Cursor) -> Result<(), NoMemory>
         ensures reads { (start : Place) → IsBefore start cursor.old self.old → OnOk result (IsBefore start cursor.new self.new) }
         ensures ends { OnOk result (Tells None cursor.new) }
@@ -201,7 +201,7 @@ impl Infix {
         Ok(())
     }
 
-    // Reads the next number or variable, and what comes before it.
+    // Reads the next number or variable, with the opening texts before it.
     fn operand(&mut self, cursor: &mut Cursor) -> Result<(), NoMemory>
         ensures reads { (start : Place) → IsBefore start cursor.old self.old → OnOk result (IsBehind start cursor.new self.new) }
         ensures within { OnOk result (length cursor.new.rest ≤ length cursor.old.rest) }
@@ -211,7 +211,7 @@ impl Infix {
         self.add(leaf(cursor))
     }
 
-    // Reads the closing brackets of the functions whose last operand has ended. Returns what comes after the
+    // Reads the closing brackets of the functions whose last operand has ended. Returns what follows the
     // first operand of the next function, if there is one.
     fn close(&mut self, cursor: &mut Cursor) -> Result<Option<Middle>, NoMemory>
         ensures reads { (start : Place) → IsBehind start cursor.old self.old → IfOk result (λ middle. IsClosed middle start cursor.new self.new) }
@@ -259,8 +259,8 @@ impl Infix {
 }
 
 impl<'a> Cursor<'a> {
-    /// Passes over an expression in infix form. Notes `TooLong` at its first byte where it has more than 255
-    /// tokens. Where the line is wrong, the result may be another expression.
+    /// Reads an expression in infix form. Notes `TooLong` at its first byte if it has more than 255 tokens.
+    /// If the line has an error, the result may be another expression.
     pub fn value(&mut self, alloc: Global) -> Result<Postfix, NoMemory>
         ensures reads { IfOk result (λ p. ReadsLoosely value_pieces NoFigure p self.old self.new) }
         ensures within { OnOk result (length self.new.rest ≤ length self.old.rest) }
@@ -283,7 +283,7 @@ impl<'a> Cursor<'a> {
         }
         match tokens.finish() {
             Ok(value) => Ok(value),
-            // The tokens are those of an expression.
+            // This cannot happen: the tokens are those of an expression.
             Err(_) => Postfix::constant(alloc, 0),
         }
     }

@@ -1,4 +1,4 @@
-//! Why no more of a text is read.
+//! Why reading a text stopped.
 
 use mufom_numbers::NoMemory;
 use std::alloc::{AllocError, AllocFailed};
@@ -10,9 +10,9 @@ pub enum BuildReason {
     BadText,
     /// A number is greater than its field holds.
     TooGreat,
-    /// A line states another position than it has.
+    /// A line states a wrong position.
     Position,
-    /// A line states another number of bytes than follow.
+    /// A line states a wrong number of bytes.
     Count,
     /// An expression has more than 255 tokens.
     TooLong,
@@ -20,7 +20,7 @@ pub enum BuildReason {
     Deep,
 }
 
-/// Why no more of a text is read.
+/// Why reading a text stopped.
 #[derive(Clone, Copy, Debug, PartialEq, Eq)]
 pub enum PieceStop {
     /// The text is wrong at this line and column, which count from 1; a column counts bytes.

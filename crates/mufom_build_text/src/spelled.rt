@@ -1,5 +1,5 @@
-//! The pieces of a line: words, numbers, names and bytes. Each call notes that the piece is missing where
-//! something else comes next, and passes over nothing then.
+//! Reads the pieces of a line: words, numbers, names and bytes. If something else comes next, a call notes
+//! that the piece is missing and passes over nothing.
 
 ghost use Rattle.std.specs.Prelude.{◌≡◌, ◌≤◌, ◌<◌, ◌+◌, ◌∷◌, ◌++◌, ◌↔◌, [], List, ℕ, length, take, drop, IsTrue, IfOk};
 ghost use Rattle.std.specs.Prelude.{OnOk, IfSome, Some, MatchOption, ◌^◌};
@@ -17,7 +17,7 @@ use crate::refusal::{BuildReason, PieceStop};
 use mufom_numbers::{Bytes, NoMemory};
 use std::alloc::Global;
 
-// How many decimal digits the text begins with.
+// The number of decimal digits at the beginning of the text.
 fn count_digits(text: &[u8]) -> usize
     ensures within { result ≤ length text.now }
     ensures digits { AllDigits 10 (take result text.now) }
@@ -31,7 +31,7 @@ fn count_digits(text: &[u8]) -> usize
     text.len()
 }
 
-// The number of these digits, where 64 bits hold it.
+// The value of these digits, if it fits in 64 bits.
 fn number_of(digits: &[u8]) -> Option<u64>
     requires { AllDigits 10 digits.now }
     ensures { MatchOption result (2 ^ 64 ≤ digits_value 10 digits.now) (λ n. digits_value 10 digits.now ≡ n) }
@@ -70,7 +70,7 @@ fn byte_of(high: u8, low: u8) -> Option<u8>
     Some(high * 16 + low)
 }
 
-// The byte by whose two digits the text begins, and what follows these.
+// The byte whose two hexadecimal digits begin the text, and the text after them.
 fn split_byte(text: &[u8]) -> Option<(u8, &[u8])>
     ensures front { IfSome result (λ r. (high : ℕ) × (low : ℕ) × (text.now ≡ high ∷ low ∷ r.1.now) × AreDigitsOf r.0 high low) }
     ensures takes { (b high low : ℕ) (rest : List ℕ) → text.now ≡ high ∷ low ∷ rest → AreDigitsOf b high low
@@ -83,7 +83,7 @@ fn split_byte(text: &[u8]) -> Option<(u8, &[u8])>
     Some((byte, rest))
 }
 
-// The bytes of the pairs of hexadecimal digits at the front of a text, and what follows them.
+// The bytes whose hexadecimal digits begin the text, and the text after them.
 fn split_hex(alloc: Global, text: &[u8]) -> Result<(Vec<u8>, &[u8]), NoMemory>
     ensures front { IfOk result (λ r. IsDigitsFront r.0.items text.now r.1.now) }
     ensures takes { IfOk result (λ r. TakesDigits r.0.items text.now r.1.now) }
@@ -98,14 +98,14 @@ fn split_hex(alloc: Global, text: &[u8]) -> Result<(Vec<u8>, &[u8]), NoMemory>
     Ok((bytes, rest))
 }
 
-// Whether the byte may be by itself in a name.
+// Whether the byte may be written as itself in a name.
 fn stands_for_itself(byte: u8) -> bool
     ensures { result ≡ stands_for_itself byte }
 {
     (0x20..=0x7E).contains(&byte) && byte != b'"' && byte != b'\\'
 }
 
-// The byte of a name at the front of a text, and what follows it: a byte by itself, or by its digits.
+// The byte of a name at the beginning of a text, written as itself or by its digits, and the text after it.
 fn split_name_byte(text: &[u8]) -> Option<(u8, &[u8])>
     ensures front { IfSome result (λ r. (front : List ℕ) × (text.now ≡ front ++ r.1.now) × SpellsNameByte r.0 front) }
     ensures takes { (b : ℕ) (front rest : List ℕ) → text.now ≡ front ++ rest → SpellsNameByte b front
@@ -127,7 +127,7 @@ fn split_name_byte(text: &[u8]) -> Option<(u8, &[u8])>
     Some((byte, rest))
 }
 
-// The bytes of a name up to its closing quote, and what follows that; nothing where there is none.
+// The bytes of a name up to its closing quote, and the text after that; `None` if the text begins otherwise.
 fn split_name(alloc: Global, text: &[u8]) -> Result<Option<(Vec<u8>, &[u8])>, NoMemory>
     ensures front { IfOk result (λ r. IfSome r (λ p. IsNameFront p.0.items text.now (0x22 ∷ p.1.now))) }
     ensures takes { (bytes inside rest : List ℕ) → text.now ≡ inside ++ 0x22 ∷ rest → SpellsNameBytes bytes inside
@@ -149,7 +149,7 @@ fn split_name(alloc: Global, text: &[u8]) -> Result<Option<(Vec<u8>, &[u8])>, No
     Ok(None)
 }
 
-// A name in quotes at the front of a text, and what follows it; nothing where there is none.
+// A name in quotes at the beginning of a text, and the text after it; `None` if the text begins otherwise.
 fn split_quoted(alloc: Global, text: &[u8]) -> Result<Option<(Vec<u8>, &[u8])>, NoMemory>
     ensures front { IfOk result (λ r. IfSome r (λ p. IsQuotedFront p.0.items text.now p.1.now)) }
     ensures takes { (bytes front rest : List ℕ) → text.now ≡ front ++ rest → SpellsName bytes front
@@ -200,7 +200,7 @@ impl<'a> Cursor<'a> {
         }
     }
 
-    /// Passes over words. Each space of these stands for one space or more.
+    /// Reads these words. Each space in them matches one or more spaces.
     pub fn words(&mut self, text: &[u8])
         ensures reads { ReadsWords text.now self.old self.new }
         ensures within { length self.new.rest ≤ length self.old.rest }
@@ -218,14 +218,15 @@ impl<'a> Cursor<'a> {
         self.rest().starts_with(bytes)
     }
 
-    /// The byte that comes next after any spaces, if one does.
+    /// Returns the first byte after any spaces, or `None` if the text ends there.
     pub fn after_gap(&self) -> Option<u8>
         ensures { IsAfterGap result self.now.rest }
     {
         after_spaces(self.rest()).first().copied()
     }
 
-    /// Passes over a number. Returns nothing where 64 bits do not hold it.
+    /// Reads a number. Returns `None` if it does not fit in 64 bits, or if there are no digits, which is
+    /// noted.
     pub fn numeral(&mut self) -> Option<u64>
         ensures reads { ReadsDigits result self.old self.new }
         ensures number { IsSound self.new → ReadsNumeral result self.old self.new }
@@ -242,7 +243,7 @@ impl<'a> Cursor<'a> {
         number_of(digits)
     }
 
-    // Passes over a number of at most `most`, and notes `TooGreat` where it is greater.
+    // Reads a number of at most `most`. If it is greater, notes `TooGreat` and returns 0.
     fn figure(&mut self, most: u64) -> u64
         ensures reads { ReadsFigure most result self.old self.new }
         ensures most { result ≤ most }
@@ -260,7 +261,7 @@ impl<'a> Cursor<'a> {
         }
     }
 
-    /// Passes over a number of 64 bits.
+    /// Reads a number of 64 bits.
     pub fn number(&mut self) -> u64
         ensures reads { ReadsFigure MOST_NUMBER result self.old self.new }
         ensures noted { IsSound self.new → NotesFigure MOST_NUMBER self.old self.new }
@@ -270,7 +271,7 @@ impl<'a> Cursor<'a> {
         self.figure(u64::MAX)
     }
 
-    /// Passes over the position of an entry that another line has.
+    /// Reads the position of another line's entry, of 32 bits.
     pub fn place(&mut self) -> u32
         ensures reads { ReadsFigure MOST_POSITION result self.old self.new }
         ensures noted { IsSound self.new → NotesFigure MOST_POSITION self.old self.new }
@@ -280,7 +281,7 @@ impl<'a> Cursor<'a> {
         self.figure(u32::MAX as u64) as u32
     }
 
-    /// Passes over a number of 8 bits.
+    /// Reads a number of 8 bits.
     pub fn small(&mut self) -> u8
         ensures reads { ReadsFigure MOST_BYTE result self.old self.new }
         ensures noted { IsSound self.new → NotesFigure MOST_BYTE self.old self.new }
@@ -290,8 +291,9 @@ impl<'a> Cursor<'a> {
         self.figure(u8::MAX as u64) as u8
     }
 
-    /// Notes what is wrong with a position or a count that the line states at this column: `TooGreat` where it
-    /// is above `most`, and the reason where it is not the right one.
+    /// Compares a position or a count that the line states at this column with the right one. Notes
+    /// `TooGreat` if it is above `most` or does not fit in 64 bits, and `reason` if it is another number than
+    /// `right`.
     pub fn judge(
         &mut self,
         column: u32,
@@ -316,7 +318,7 @@ impl<'a> Cursor<'a> {
         }
     }
 
-    /// Passes over the position of the line's entry, which is that of the count of such entries before it.
+    /// Reads the position of the line's own entry, which must be the number of such entries before it.
     pub fn position(&mut self, count: usize)
         ensures reads { ReadsPosition count self.old self.new }
         ensures noted { IsSound self.new → NotesPosition count self.old self.new }
@@ -334,7 +336,7 @@ impl<'a> Cursor<'a> {
         );
     }
 
-    /// Passes over a name in quotes.
+    /// Reads a name in quotes.
     pub fn name(&mut self, alloc: Global) -> Result<Bytes, NoMemory>
         ensures reads { IfOk result (λ bytes. ReadsName bytes self.old self.new) }
         ensures within { length self.new.rest ≤ length self.old.rest }
@@ -348,7 +350,7 @@ impl<'a> Cursor<'a> {
         Bytes::from_slice(alloc, &name)
     }
 
-    /// Passes over bytes by their digits, one byte or more.
+    /// Reads one or more bytes, each as two hexadecimal digits.
     pub fn hex(&mut self, alloc: Global) -> Result<Bytes, NoMemory>
         ensures reads { IfOk result (λ bytes. ReadsHex bytes self.old self.new) }
         ensures within { length self.new.rest ≤ length self.old.rest }

@@ -1,5 +1,4 @@
--- The table of commands: what the work of each is, from its inputs to its output. A run comes to what the arguments and the files state, and
--- to nothing else.
+-- The table of commands: the work of each, from its inputs to its output. The result of a run depends only on the arguments and the files.
 use Rattle.std.specs.Prelude.{◌≡◌, ℕ, ◌*◌, Bool, true, false, List, [], ◌∷◌, flat_map, length, nat_lt, not, unwrap_or, Option, Some, None, Result, Ok}
 use Rattle.std.specs.Prelude.{Err, if◌then◌else◌}
 use Rattle.mufom_host.specs.World.{NamedFile, file_named}
@@ -57,7 +56,7 @@ use Rattle.mufom_command.specs.Text.{Text, check_text, hit_text}
 
 -- ---- outputs
 
--- what a run puts out: a text that is printed, or a file with a name and bytes
+-- the output of a run: a text that is printed, or a file with a name and bytes
 pub data Output : Type 0 where
   printed : Text → Output
   made : (name bytes : List ℕ) → Output
@@ -65,38 +64,38 @@ pub data Output : Type 0 where
 abbrev pub prints : Text → Work Stop Output
 prints text = sure (printed text)
 
--- the bytes go into the file that `-o` names
+-- the bytes are written to the file named by `-o`
 abbrev pub writes : Option (List ℕ) → List ℕ → Work Stop Output
 writes None bytes = nowhere
 writes (Some name) bytes = sure (made name bytes)
 
--- The module is one that the program can hold: it has no defect, and its numbers and strings are such as their types hold. This is true of
--- each value of the type `Module`.
+-- The program can hold the module: it has no defect, and its numbers and strings fit the types of a module. This is true of each value of the type
+-- `Module`.
 pub record IsHeld (m : Parts) : Type 0 where
   pub valid : IsValid m
   pub made : IsMade m
 
--- The written form of a module that is held goes into the file that `-o` names. A later run reads the module from this file, if the file is
--- not too long.
+-- The written form of a module that the program can hold is written to the file named by `-o`. A later run reads the module from this file, if the
+-- file is not too long.
 --
--- Of a module that can't be held the work comes to nothing, so a run that would have to write it is not stated to be complete. No run comes to
--- one: the program writes values of the type `Module` alone, and the limits of a run bound the weights of the link of its files and of the
--- absolute module of their location, so that there are such values.
+-- If the program cannot hold the module, the work has no result, so nothing is claimed about a run that would have to write it. No run gets there:
+-- the program writes only values of the type `Module`, and the limits of a run bound the weights of the link of its files and of the absolute module
+-- of their location, so such values exist.
 abbrev pub writes_module : Option (List ℕ) → Parts → Work Stop Output
 writes_module out m reached = IsHeld m × writes out (written m) reached
 
 -- ---- inputs
 
--- the bytes of a file that is there
+-- the bytes of a file, if it exists
 abbrev pub file_in : List NamedFile → List ℕ → Work Stop (List ℕ)
 file_in files name = one_with (λ bytes. file_named name files ≡ Some bytes)
 
--- the plan, or why bytes are none
+-- the plan, or the error of bytes that are not a plan
 abbrev pub plan_by : Result Plan PlanRefusal → Work Stop Plan
 plan_by (Ok plan) = sure plan
 plan_by (Err r) = stop_at (plan_refused r)
 
--- the plan of a file, and the one without regions where no file is named
+-- the plan in a file, or the one without regions if no file is named
 abbrev pub plan_in : List NamedFile → Option (List ℕ) → Work Stop Plan
 plan_in files None = sure no_regions
 plan_in files (Some name) = do
@@ -110,7 +109,7 @@ modules_in files c (stops (file_refused n r)) = ComeTo (not c.no_debug) files c.
 modules_in files c (stops (past_limit n)) = ComeTo (not c.no_debug) files c.files (past n)
 modules_in files c (stops _) = ⊥
 
--- the bytes of a text, unless they are too many
+-- the bytes of a text, unless there are too many
 abbrev pub unless_past_limit : Bool → List ℕ → Work Stop (List ℕ)
 unless_past_limit true bytes = stop_at (past_limit 0)
 unless_past_limit false bytes = sure bytes
@@ -124,7 +123,7 @@ text_in files (name ∷ _) = do
 
 -- ---- locating
 
--- how many bytes an address has
+-- the length of an address in units
 abbrev pub maus_of : List Parts → ℕ
 maus_of [] = 0
 maus_of (m ∷ ms) = m.maus
@@ -133,19 +132,19 @@ abbrev pub located_unless : Option LocateFact → Plan → List Parts → Work S
 located_unless None plan ms = one_with (IsLocation ms plan)
 located_unless (Some f) plan ms = stop_at (locate_fact (maus_of ms) f)
 
--- the location of a list of modules by a plan, or the first locate fact against it
+-- the location of a list of modules by a plan, or the first error of locating it
 abbrev pub located : Plan → List Parts → Work Stop LocatedParts
 located plan ms = located_unless (locate_answer ms plan) plan ms
 
 -- ---- what is kept
 
--- What is kept of a list: the modules that are located in its place, and what of the list's link remains in them. Where nothing is said
--- of that, all of the list is kept.
+-- What is kept of a list: the modules that are located instead of it, and which entries of the list's link remain in them (`None` if the whole list
+-- is kept).
 pub record Kept : Type 0 where
   pub modules : List Parts
   pub rest : Option Remains
 
--- all of a list
+-- the whole list is kept
 abbrev pub all_of : List Parts → Kept
 all_of ms = record { modules = ms; rest = None }
 
@@ -159,80 +158,79 @@ rest_of_module name M = do
   marks ← one_with (IsKept M name)
   sure (rest_of M (remains M marks))
 
--- what remains of the partial link of a list for a name; the link is a module without a defect, under the name of the first module
+-- what remains for a name of the partial link of a list; the link is a module without a defect, under the name of the first module
 abbrev pub rest_of_link : List ℕ → List Parts → Work Stop Kept
 rest_of_link name ms = do
   M ← one_with (λ M. IsValid M × IsJoined M ms (first_name ms))
   rest_of_module name M
 
--- the same, where a public of the list has the name
+-- the same, if a public of the list has the name
 abbrev pub kept_unless : Bool → List ℕ → List Parts → Work Stop Kept
 kept_unless false name ms = stop_at (keep_unknown name)
 kept_unless true name ms = rest_of_link name ms
 
--- What is located of a list that can be linked: the list or, where a name is given, what remains of its link for the public of that
--- name.
+-- What is located of a list that can be linked: the list itself or, if a name is given, what remains of its link for the public with that name.
 abbrev pub kept_of : Option (List ℕ) → List Parts → Work Stop Kept
 kept_of None ms = sure (all_of ms)
 kept_of (Some name) ms = kept_unless (has_name (public_names ms) name) name ms
 
--- ---- what is put out of a list of modules that can be linked, by a plan
+-- ---- the output for a list of modules that can be linked, by a plan
 
--- the file of its partial link
+-- the file of the list's partial link
 abbrev pub linked_file : Command → Plan → List Parts → Work Stop Output
 linked_file c plan ms = do
   M ← with_stops link_fact (joined c.name ms)
   writes_module c.out M
 
--- what is put out of what is kept of it, and of the location of that
+-- the output for what is kept of a list, and for its location
 abbrev pub locating_kept : (Kept → Command → LocatedParts → Work Stop Output) → Command → Plan → List Parts → Work Stop Output
 locating_kept output c plan ms = do
   kept ← kept_of c.keep ms
   r ← located plan kept.modules
   output kept c r
 
--- the same, where what is put out depends on the location alone
+-- the same, if the output depends only on the location
 abbrev pub locating : (Command → LocatedParts → Work Stop Output) → Command → Plan → List Parts → Work Stop Output
 locating output c plan ms = locating_kept (λ kept. output) c plan ms
 
--- ---- what is put out of a location
+-- ---- the output for a location
 
--- the file of its absolute module
+-- the file of the location's absolute module
 abbrev pub absolute_file : Command → LocatedParts → Work Stop Output
 absolute_file c r = writes_module c.out (absolute_of r)
 
--- the text of its image
+-- the text of the location's image
 abbrev pub printed_image : Command → LocatedParts → Work Stop Output
 printed_image c r = prints (image_text r)
 
--- the file of the bytes, unless they are too many
+-- the file of the bytes, unless there are too many
 abbrev pub unless_too_long : Bool → Option (List ℕ) → List ℕ → Work Stop Output
 unless_too_long true out bytes = stop_at (raw_too_long (length bytes))
 unless_too_long false out bytes = writes out bytes
 
--- the file of its raw image, where that has no more bytes than a file of this kind may have
+-- the file of the location's raw image, unless it is longer than a file may be
 abbrev pub raw_file : Command → LocatedParts → Work Stop Output
 raw_file c r = unless_too_long (nat_lt MOST_FILE_BYTES (length (raw_image c.fill r.runs))) c.out (raw_image c.fill r.runs)
 
--- the file of the TI-TXT text of its image
+-- the file of the TI-TXT text of the location's image
 abbrev pub txt_file : Command → LocatedParts → Work Stop Output
 txt_file c r = writes c.out (txt_text r.runs)
 
--- the origins of the entries that are kept of a list whose modules have these: the modules stay, without the entries that go
+-- the origins of what is kept of a list, given those of the list: the same modules, with fewer entries
 abbrev pub kept_origins : Option Remains → List Origin → List Origin
 kept_origins None origins = origins
 kept_origins (Some c) origins = origins_left c.sections c.publics origins
 
--- what a map shows of what is kept of a list whose modules have these origins, and whose location this is
+-- the contents of the map of what is kept of a list; `r` is its location, and the list's modules have these origins
 abbrev pub mapped_kept : List Origin → Plan → Kept → LocatedParts → Mapped
 mapped_kept origins plan kept r =
     mapped_by (kept_origins kept.rest origins) plan (flat_sections kept.modules) (placed_commons kept.modules plan) r
 
--- its text
+-- the text of that map
 abbrev pub map_with : List Origin → Plan → Kept → Command → LocatedParts → Work Stop Output
 map_with origins plan kept c r = prints (map_text (mapped_kept origins plan kept r))
 
--- The map of what is kept of the flat list, with the files of all modules of the list. These are the modules in the order of the files.
+-- The map of what is kept of the flat list, with the files of all modules of the list. `ms` are the modules in the order of the files.
 abbrev pub printed_map : List Parts → Plan → Kept → Command → LocatedParts → Work Stop Output
 printed_map ms plan kept c r = do
   flat ← one_with (AreFlatFiles (tree_of c.marks) ms)
@@ -250,8 +248,8 @@ listing text files c = do
   ms ← modules_in files c
   prints (text ms)
 
--- The plan is read, where one is named, and the files; the flat list of their modules is linked; and this is put out of the modules
--- and the flat list.
+-- The plan, if one is named, and the files are read, and the flat list of their modules is linked. The output depends on the modules and the flat
+-- list.
 abbrev pub linking_of : (List Parts → Command → Plan → List Parts → Work Stop Output) → List NamedFile → Command → Work Stop Output
 linking_of output files c = do
   plan ← plan_in files c.plan
@@ -259,44 +257,44 @@ linking_of output files c = do
   flat ← with_stops link_fact (linked (tree_of c.marks) ms)
   output ms c plan flat
 
--- The same, where what is put out depends on the flat list alone.
+-- The same, if the output depends only on the flat list.
 abbrev pub linking : (Command → Plan → List Parts → Work Stop Output) → List NamedFile → Command → Work Stop Output
 linking output files c = linking_of (λ ms. output) files c
 
--- What is put out of what is kept of the flat list, of its location, and of the modules of the files.
+-- The map of what is kept of the flat list, from its location and the modules of the files.
 abbrev pub mapping : List NamedFile → Command → Work Stop Output
 mapping files c = linking_of (λ ms c plan flat. locating_kept (printed_map ms plan) c plan flat) files c
 
--- the rows of the bytes that a text gives to addresses, unless something is wrong with it
+-- the runs of the bytes that a text gives to addresses, unless the text has an error
 abbrev pub runs_unless : Option TxtRefusal → List ℕ → Work Stop (List Run)
 runs_unless None text = one_with (AreRowsOf (txt_cells text))
 runs_unless (Some r) text = stop_at (text_refused r)
 
--- the same of a text whose addresses have this many bytes
+-- the same, given the length of an address in units
 abbrev pub runs_of_text : ℕ → List ℕ → Work Stop (List Run)
 runs_of_text maus text = runs_unless (txt_refusal text (8 * maus)) text
 
--- the parts of the module of the rows of a text
+-- the parts of the module of a text's runs
 abbrev pub parts_of_txt : ℕ → List ℕ → Work Stop Parts
 parts_of_txt maus text = do
   runs ← runs_of_text maus text
   sure (text_parts maus runs)
 
--- the parts of the module that is built from a listing, or what is wrong with the listing
+-- the parts of the module that is built from a listing, or the error of the listing
 abbrev pub parts_of_listing : List ℕ → Work Stop Parts
 parts_of_listing text (gives m) = Build text m
 parts_of_listing text (stops (listing_refused (build.At row column reason))) = IsRefusedAt text row column reason
 parts_of_listing text (stops (listing_refused (build.Module defect))) = HasDefect text defect
 parts_of_listing text (stops _) = ⊥
 
--- A text is read, and the file of the module that it gives is made.
+-- A text is read, and the file of the module that it describes is written.
 abbrev pub module_of_text : (List ℕ → Work Stop Parts) → List NamedFile → Command → Work Stop Output
 module_of_text parts_of files c = do
   text ← text_in files c.files
   parts ← parts_of text
   writes_module c.out parts
 
--- The text is that of an image.
+-- The text is a TI-TXT image.
 abbrev pub reading_text : List NamedFile → Command → Work Stop Output
 reading_text files c = module_of_text (parts_of_txt c.maus) files c
 
@@ -314,7 +312,7 @@ making files c = do
 abbrev pub helping : List NamedFile → Command → Work Stop Output
 helping files c = prints (unwrap_or c.help [])
 
--- A text of the module is printed: the summary, or the listing.
+-- The form in which `show` prints a module: the summary, or the listing.
 abbrev pub form_of : Command → TextForm
 form_of c = if c.listing then form.Listing else form.Summary
 
@@ -337,10 +335,10 @@ work_of verb.FromTxt = reading_text
 work_of verb.Build = reading_listing
 work_of verb.Help = helping
 work_of verb.Version = helping
--- What `explain` comes to depends on the arguments after its name, which a command does not carry (`run_of`).
+-- The work of `explain` depends on the arguments after its name, which a command does not carry: see `run_of`.
 work_of verb.Explain = λ files c. nowhere
 
--- the work of arguments that give this, and do not ask for an explanation
+-- the work of arguments that give this command or error and do not ask for an explanation
 abbrev pub work_by : Result Command WordsStop → List NamedFile → Work Stop Output
 work_by (Ok c) files = work_of c.verb files c
 work_by (Err s) files = stop_at (words_refused s)

@@ -1,4 +1,4 @@
--- The status of each outcome, and the error line of each but Done.
+-- The exit status of each outcome, and the error line of each outcome except `Done`.
 use Rattle.std.specs.Prelude.{ℕ, Option, Some, None, [], ◌++◌, codes}
 use Rattle.std.specs.Fmt.{decimal}
 use Rattle.mufom_numbers.specs.declared.reason.Reason.{Reason}
@@ -105,7 +105,7 @@ link_text (link.Duplicate name) = codes "Duplicate " ++ quoted name
 link_text link.DuplicateStart = codes "DuplicateStart"
 link_text link.NoMemory = []
 
--- the part of a plan that has not the shape it must have
+-- the part of a plan that has the wrong shape
 abbrev pub field_text : PlanField → Text
 field_text field.Region = codes "region"
 field_text field.Extra = codes "extra"
@@ -115,7 +115,7 @@ field_text field.Size = codes "size"
 field_text field.Sections = codes "sections"
 field_text field.Common = codes "common"
 
--- the region, where there is one
+-- the region, if there is one
 abbrev pub region_text : Option ℕ → Text
 region_text None = []
 region_text (Some n) = codes " region " ++ decimal n
@@ -133,7 +133,7 @@ place_text (place.Misfit n region) = codes "Misfit section " ++ decimal n ++ reg
 place_text (place.Overlap n other) = codes "Overlap section " ++ decimal n ++ codes " section " ++ decimal other
 place_text place.NoMemory = []
 
--- where an expression stands; an address has the given number of units
+-- the site of an expression; an address has the given number of units
 abbrev pub site_text : ℕ → Site → Text
 site_text maus (site.Public name) = codes "public " ++ quoted name
 site_text maus (site.Counter n) = codes "counter of section " ++ decimal n
@@ -141,7 +141,7 @@ site_text maus (site.Field n a) = codes "field at " ++ address maus a ++ codes "
 site_text maus site.Start = codes "start"
 site_text maus (site.Debug n) = codes "debug " ++ decimal n
 
--- an address, and a value, has the given number of units
+-- the text of an error of locating; addresses and values have the given number of units
 abbrev pub locate_text : ℕ → LocateRefusal → Text
 locate_text maus (locate.Place p) = place_text p
 locate_text maus (locate.Undefined name) = codes "Undefined " ++ quoted name
@@ -156,7 +156,7 @@ locate_text maus (locate.LoadedTwice a) = codes "LoadedTwice " ++ address maus a
 locate_text maus (locate.ImageLimit count) = codes "ImageLimit " ++ decimal count
 locate_text maus locate.NoMemory = []
 
--- what is wrong with a line of a TI-TXT text
+-- the error of a line of a TI-TXT text
 abbrev pub txt_reason_text : TxtReason → Text
 txt_reason_text txt.BadLine = codes "BadLine"
 txt_reason_text txt.NoAddress = codes "NoAddress"
@@ -165,7 +165,7 @@ txt_reason_text (txt.Twice address) = codes "Twice " ++ decimal address
 txt_reason_text txt.AfterEnd = codes "AfterEnd"
 txt_reason_text txt.NoEnd = codes "NoEnd"
 
--- what is wrong with a line of a listing
+-- the error of a line of a listing
 abbrev pub build_reason_text : BuildReason → Text
 build_reason_text reasons.BadText = codes "BadText"
 build_reason_text reasons.TooGreat = codes "TooGreat"
@@ -190,7 +190,7 @@ defect_text defects.Attribute = codes "Attribute"
 defect_text defects.Nesting = codes "Nesting"
 defect_text defects.Weight = codes "Weight"
 
--- what is wrong with a listing, and where
+-- the error of a listing, and its place
 abbrev pub build_text : BuildRefusal → Text
 build_text (build.At row column reason) =
     codes " line " ++ decimal row ++ codes " column " ++ decimal column ++ codes ": " ++ build_reason_text reason
@@ -214,7 +214,7 @@ abbrev pub input_text : Input → Text
 input_text input.Plan = codes "plan"
 input_text (input.File n) = codes "file " ++ decimal n
 
--- The line of an outcome; of Done there is none.
+-- The error line of an outcome; none for `Done`.
 abbrev pub complaint : Outcome → Text
 complaint outcome.Done = []
 complaint (outcome.Refused r) = line (codes "refused: " ++ refusal_text r)

@@ -1,4 +1,4 @@
--- What opening and reading files returns.
+-- The results of opening and reading files.
 use Rattle.std.specs.Prelude.{◌≡◌, ℕ, ◌+◌, ◌≤◌, Bool, List, length, take, Option, Some, IfSome, OnSome}
 use Rattle.mufom_host.specs.World.{NamedFile, Faults, GrowsBy, Rose, file_named}
 use Rattle.mufom_module.specs.declared.module.Parts.{Parts}
@@ -13,22 +13,22 @@ use Rattle.mufom_command.specs.declared.outcome.Refusal.TheVariants as refusal
 use Rattle.mufom_command.specs.Inputs.{ComeTo, accepted, refused, past_limit}
 use Rattle.mufom_command.specs.Run.{Call}
 
--- the file with this name has bytes of which the fact holds; nothing is stated where the files are not known
+-- the file with this name exists, and the fact holds for its bytes; nothing is claimed if the files are not known
 abbrev pub FileHas : List ℕ → Option (List NamedFile) → (List ℕ → Type 0) → Type 0
 FileHas name files P = IfSome files (λ fs. (bytes : List ℕ) × (file_named name fs ≡ Some bytes) × P bytes)
 
--- the bytes are those of this module, their number is this, and no more than may be read
+-- the bytes are a file of this module, and `count` is their number, which is at most the limit
 abbrev pub HasModule : Bool → ℕ → Parts → ℕ → List ℕ → Type 0
 HasModule reads_debug limit m count bytes = IsModule reads_debug bytes m × (count ≡ length bytes) × (length bytes ≤ limit)
 
--- the outcome where the file with this number was not read
+-- the outcome if the file with this number could not be read
 abbrev pub outcome_of_source_stop : ℕ → SourceStop → Outcome
 outcome_of_source_stop number (stop.Refused r) = outcome.Refused (refusal.Read number r)
 outcome_of_source_stop number stop.Limit = outcome.Refused (refusal.InputLimit number)
 outcome_of_source_stop number stop.Fault = outcome.ReadFault (input.File number)
 outcome_of_source_stop number stop.NoMemory = outcome.NoMemory
 
--- Why the file with this name and number was not read.
+-- Why the file with this name and number could not be read.
 abbrev pub FileStops : Bool → List ℕ → ℕ → ℕ → Option (List NamedFile) → Faults → Faults → Outcome → Type 0
 FileStops reads_debug name number limit files before now (outcome.Refused (refusal.Read i r)) =
     (i ≡ number) × FileHas name files (λ bytes. IsRefusedWithin reads_debug limit bytes r.offset r.reason)
@@ -38,7 +38,7 @@ FileStops reads_debug name number limit files before now (outcome.ReadFault (inp
 FileStops reads_debug name number limit files before now outcome.NoMemory = Unit {0}
 FileStops reads_debug name number limit files before now _ = ⊥
 
--- Why the files with these names were not all read.
+-- Why not all files with these names could be read.
 abbrev pub FilesStop : Bool → List (List ℕ) → Call → Outcome → Type 0
 FilesStop reads_debug names call (outcome.Refused (refusal.Read n r)) = IfSome call.old.files (λ files. ComeTo reads_debug files names (refused n r))
 FilesStop reads_debug names call (outcome.Refused (refusal.InputLimit n)) = IfSome call.old.files (λ files. ComeTo reads_debug files names (past_limit n))
@@ -47,7 +47,7 @@ FilesStop reads_debug names call (outcome.ReadFault (input.File n)) =
 FilesStop reads_debug names call outcome.NoMemory = Unit {0}
 FilesStop reads_debug names call _ = ⊥
 
--- How many of the files were opened: up to the one that the outcome names; where memory ran out, any number.
+-- The number of files that are opened: up to the one that the outcome names; any number if memory ran out.
 abbrev pub IsFileCount : Outcome → ℕ → Type 0
 IsFileCount (outcome.Refused (refusal.Read n r)) count = count ≡ n + 1
 IsFileCount (outcome.Refused (refusal.InputLimit n)) count = count ≡ n + 1
@@ -55,7 +55,7 @@ IsFileCount (outcome.ReadFault (input.File n)) count = count ≡ n + 1
 IsFileCount outcome.NoMemory count = Unit {0}
 IsFileCount _ count = ⊥
 
--- the first of the files were opened, in their order
+-- the first of the files are opened, in their order
 pub record OpensFiles (names : List (List ℕ)) (call : Call) (result : Outcome) : Type 0 where
   pub count : ℕ
   pub exact : IsFileCount result count

@@ -1,4 +1,4 @@
--- The lines of what the outcome of a command names: files, the plan, sections, regions, and the modules that have a name.
+-- The lines about what the outcome of a command names: files, the plan, sections, regions, and the modules that mention a name.
 use Rattle.std.specs.Prelude.{◌≡◌, ◌⊎◌, ℕ, ◌<◌, List, [], length, Option, Some, IfSome}
 use Rattle.mufom_host.specs.World.{NamedFile}
 use Rattle.mufom_module.specs.declared.module.Parts.{Parts}
@@ -32,7 +32,7 @@ pub record HasFileLine (c : Command) (n : ℕ) (details : Text) : Type 0 where
   pub there : n < length c.files
   pub are : details ≡ file_line c.files n
 
--- the line of the plan of the command, which names one
+-- the line of the command's plan, if it names one
 pub record HasPlanLine (c : Command) (details : Text) : Type 0 where
   pub name : List ℕ
   pub named : c.plan ≡ Some name
@@ -49,12 +49,12 @@ HasInputLine c (input.File n) details = HasFileLine c n details
 abbrev pub files_at : List Parts → List ℕ → List FileModule
 files_at ms files = at_positions (numbered ms) files
 
--- The modules of the list that is refused with this link fact, with their files. In the lines that follow, modules are counted in it: in
--- that of the first group that can't be linked, not in that of the whole command.
+-- The modules of the list that cannot be linked because of this error, with their files. In the lines that follow, modules are counted in that list:
+-- if a group cannot be linked, in the group, not in the whole command.
 abbrev pub IsRefusedFlat : Command → List Parts → LinkFact → List FileModule → Type 0
 IsRefusedFlat c ms f flat = (files : List ℕ) × IsRefusedList c ms files f × (flat ≡ files_at ms files)
 
--- the lines of a link fact
+-- the lines about a link error
 abbrev pub lines_of_link : List NamedFile → Command → LinkFact → Work Stop Text
 lines_of_link files c f = do
   ms ← modules_in files c
@@ -63,7 +63,7 @@ lines_of_link files c f = do
 
 -- ---- what is kept
 
--- the lines of a name that is to be kept and that no public of the flat list has
+-- the lines about a name that should be kept and that no public of the flat list has
 abbrev pub lines_of_name : List NamedFile → Command → List ℕ → Work Stop Text
 lines_of_name files c name = do
   ms ← modules_in files c
@@ -72,8 +72,8 @@ lines_of_name files c name = do
 
 -- ---- locating
 
--- What a locate fact is explained by: sections, sizes of commons and undefined names are those of what is kept of the flat list, and the
--- modules of a name, and those that ask for a common, are all those of the flat list. An address has this many bytes.
+-- The context in which an error of locating is explained. Sections, sizes of commons and undefined names are those of what is kept of the flat list;
+-- the modules that mention a name or request a common are looked up in the whole flat list. `maus` is the length of an address in units.
 abbrev pub explained_by : Command → Plan → List FileModule → Kept → ℕ → Explained
 explained_by c plan flat kept maus = record {
   names = c.files;
@@ -84,7 +84,7 @@ explained_by c plan flat kept maus = record {
   plan = plan;
 }
 
--- the lines of a locate fact against what is kept of the flat list
+-- the lines about an error of locating what is kept of the flat list
 abbrev pub lines_of_locate : List NamedFile → Command → ℕ → LocateFact → Work Stop Text
 lines_of_locate files c maus f = do
   plan ← plan_in files c.plan
@@ -95,7 +95,7 @@ lines_of_locate files c maus f = do
 
 -- ---- any end
 
--- These are the lines of what an end of the command's work names. What can be told only of files is told where they are known. Ends that
+-- The lines about what an error of the command names. If they depend on the files, this claims something only if the files are known. Errors that
 -- name no file, section, region or symbol have no lines.
 abbrev pub HasDetails : Option (List NamedFile) → Command → Stop → Text → Type 0
 HasDetails files c (plan_refused r) details = HasPlanLine c details
@@ -109,7 +109,8 @@ HasDetails files c (locate_fact maus f) details = IfSome files (λ fs. lines_of_
 HasDetails files c (raw_too_long count) details = details ≡ []
 HasDetails files c (words_refused s) details = details ≡ []
 
--- These are the lines of the input that an outcome of the command names, where the command has that input; and none where it names none.
+-- The lines about the input that an outcome of the command names; none if the outcome names no input. For a plan, this claims something only if the
+-- command has one.
 abbrev pub IsInputDetail : Command → Outcome → Text → Type 0
 IsInputDetail c (outcome.ReadFault input.Plan) details = (name : List ℕ) → c.plan ≡ Some name → details ≡ plan_line name
 IsInputDetail c (outcome.ReadFault (input.File n)) details = details ≡ file_line c.files n

@@ -1,4 +1,4 @@
--- What reading the inputs of a command returns: its plan, and then the modules of its files; or its text.
+-- The results of reading the inputs of a command: its plan and then the modules of its files, or its text.
 use Rattle.std.specs.Prelude.{◌≡◌, ◌≢◌, ◌⊎◌, ℕ, ◌<◌, List, [], ◌∷◌, ◌++◌, length, Option, Result, Err, IfSome, IsSome, true}
 use Rattle.mufom_host.specs.World.{NamedFile, Rose}
 use Rattle.mufom_module.specs.declared.module.Parts.{Parts}
@@ -15,11 +15,11 @@ use Rattle.mufom_command.specs.Stop.{Stop, past_limit, plan_refused}
 use Rattle.mufom_command.specs.Commands.{modules_in, plan_in, text_in}
 use Rattle.mufom_command.specs.Run.{Call, IsInputReached, IsStopped}
 
--- how many bytes a plan has at most
+-- the greatest length of a plan, in bytes
 abbrev pub most_plan_bytes : ℕ
 most_plan_bytes = 65536
 
--- the bytes are all there are, or the prefix of them and more than the limit
+-- the bytes are the whole file, or a prefix of it that is longer than the limit
 abbrev pub IsEnoughOf : ℕ → List ℕ → List ℕ → Type 0
 IsEnoughOf limit all bytes = (all ≡ bytes) ⊎ ((limit < length bytes) × ((rest : List ℕ) × (all ≡ bytes ++ rest)))
 
@@ -30,13 +30,13 @@ inputs_in files c = do
   ms ← modules_in files c
   sure (plan, ms)
 
--- the outcome to bytes that are no plan, or out of memory
+-- the outcome for bytes that are not a plan, or out of memory
 abbrev pub IsPlanAnswer : Result Plan PlanRefusal → Outcome → Type 0
 IsPlanAnswer plan (outcome.Refused (refusal.Plan r)) = (plan ≡ Err r) × (r ≢ plan_refusal.NoMemory)
 IsPlanAnswer plan outcome.NoMemory = Unit {0}
 IsPlanAnswer plan _ = ⊥
 
--- Why the plan with this name was not read; none may be named.
+-- Why the plan with this name could not be read; there may be no plan.
 abbrev pub PlanStops : Option (List ℕ) → Call → Outcome → Type 0
 PlanStops name call (outcome.Refused (refusal.Plan r)) =
     IsSome name × (r ≢ plan_refusal.NoMemory) × IfSome call.old.files (λ files. plan_in files name (stops (plan_refused r)))
@@ -44,24 +44,24 @@ PlanStops name call (outcome.ReadFault input.Plan) = IsSome name × Rose call.be
 PlanStops name call outcome.NoMemory = Unit {0}
 PlanStops name call _ = ⊥
 
--- The outcome names the plan only where a plan is named.
+-- The outcome names the plan only if the command has one.
 abbrev pub NamesPlan : Option (List ℕ) → Outcome → Type 0
 NamesPlan plan (outcome.Refused (refusal.Plan r)) = IsSome plan
 NamesPlan plan (outcome.ReadFault input.Plan) = IsSome plan
 NamesPlan plan _ = Unit {0}
 
--- Why not all was read of what a command reads, where reading it is this work.
+-- Why the inputs of a command could not all be read; `reading` is the work of reading them.
 abbrev pub ReadingStops : {A : Type 0} → (List NamedFile → Work Stop A) → Command → Call → Outcome → Type 0
 ReadingStops reading c call (outcome.Refused r) = IsStopped true reading call.old.files (outcome.Refused r)
 ReadingStops reading c call (outcome.ReadFault at) = Rose call.before.reads call.now.reads × IsInputReached call.old.files c at
 ReadingStops reading c call outcome.NoMemory = Unit {0}
 ReadingStops reading c call _ = ⊥
 
--- Why the inputs of the command were not all read.
+-- Why the inputs of the command could not all be read.
 abbrev pub InputsStop : Command → Call → Outcome → Type 0
 InputsStop c call result = ReadingStops (λ files. inputs_in files c) c call result
 
--- Why the text with this name, the first file of the command, was not read, or not kept.
+-- Why the text with this name, the command's first file, could not be read or was too long.
 abbrev pub TextStops : List ℕ → Call → Outcome → Type 0
 TextStops name call (outcome.Refused (refusal.InputLimit n)) =
     (n ≡ 0) × IfSome call.old.files (λ files. text_in files (name ∷ []) (stops (past_limit 0)))

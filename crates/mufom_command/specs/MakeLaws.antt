@@ -1,4 +1,4 @@
--- What holds of runs of `make`: none is refused, whatever the number of modules.
+-- A law about runs of `make`: none is refused, whatever the number of modules.
 use Rattle.std.specs.Prelude.{◌≡◌, ◌⊎◌, ℕ, List, Ok}
 use Rattle.mufom_host.specs.World.{Rose}
 use Rattle.mufom_words.specs.declared.command.Command.{Command}
@@ -15,8 +15,8 @@ LacksWritesOrMemory call outcome.WriteFault = Rose call.before.writes call.now.w
 LacksWritesOrMemory call outcome.NoMemory = Unit {0}
 LacksWritesOrMemory call _ = ⊥
 
--- A run of `make` is done, unless a write failed or memory ran out. The arguments of `make` that are accepted give 1 to 65,536 modules,
--- so this is so for each of these numbers.
+-- A run of `make` is `Done` unless a write failed or memory ran out. This holds for each number of modules that the arguments can give, from 1 to
+-- 65,536.
 abbrev pub MakeIsDone : Type 0
 MakeIsDone = (words : List (List ℕ)) (call : Call) (result : Outcome) (c : Command) → Answers words call result → answer_of words ≡ Ok c → c.verb ≡ verb.Make
     → (result ≡ outcome.Done) ⊎ LacksWritesOrMemory call result

@@ -1,4 +1,4 @@
--- What a map is printed from, as the code holds it.
+-- The values from which a map is printed, as the code holds them.
 use Rattle.std.specs.Prelude.{◌≡◌, ℕ, List, [], ◌∷◌, Option}
 use Rattle.mufom_module.specs.declared.module.Parts.{Parts}
 use Rattle.mufom_plan.specs.declared.plan.Plan.{Plan}
@@ -26,14 +26,14 @@ pub record AreOriginsOf (c : Command) (ms : List Parts) (origins : List Origin) 
   pub files : AreFlatFiles (tree_of c.marks) ms flat
   pub are : origins ≡ origins_of flat
 
--- The module is what is kept of the whole one, and its entries come from the modules that they came from there.
+-- The module is what is kept of the whole one, and its entries come from the same modules as in the whole one.
 pub record IsKeptPart (keep : Option (List ℕ)) (whole part : TracedModule) : Type 0 where
   pub kept : Kept
   pub keeps : own_kept keep whole.object (gives kept)
   pub modules : kept.modules ≡ part.object ∷ []
   pub origins : part.origins ≡ kept_origins kept.rest whole.origins
 
--- what is shown of the inputs
+-- the contents of the map
 abbrev pub shown_of : MapInputs → Mapped
 shown_of m = mapped_by m.origins m.plan (flat_sections (m.object ∷ [])) (placed_commons (m.object ∷ []) m.plan) m.located
 
@@ -42,7 +42,7 @@ pub record AreLocated (m : MapInputs) : Type 0 where
   pub sound : IsSoundPlan m.plan
   pub located : IsLocation (m.object ∷ []) m.plan m.located
 
--- The location is that of what is kept of the flat list, and what is shown is the map of that with the files of the list.
+-- The location is that of what is kept of the flat list, and the map is of that, with the files of the list.
 pub record AreMapped (c : Command) (plan : Plan) (ms : List Parts) (m : MapInputs) : Type 0 where
   pub are_located : AreLocated m
   pub list : List Parts

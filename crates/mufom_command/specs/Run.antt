@@ -1,5 +1,5 @@
--- What the contract of the top call speaks of: the outcome of a command and its cause, what was put out, which inputs were opened, and
--- which error line was printed.
+-- The terms of the contract of the top call: the outcome of a command and its cause, the output, the inputs that are opened, and the error line that
+-- is printed.
 use Rattle.std.specs.Prelude.{◌≡◌, ◌≢◌, ◌⊎◌, ℕ, ◌+◌, ◌<◌, ◌≤◌, Bool, true, false, not, List, [], ◌∷◌, ◌++◌, length, take, Option, Some, None, Result}
 use Rattle.std.specs.Prelude.{Ok, Err, IfSome, IsSome, OnSome, option_to_list}
 use Rattle.mufom_host.specs.World.{Meaning, Faults, NamedFile, Rose, GrowsBy, GrowsByPrefix}
@@ -26,18 +26,18 @@ use Rattle.mufom_command.specs.Stop.{Stop, words_refused, plan_refused, file_ref
 use Rattle.mufom_command.specs.Stop.{text_refused, listing_refused}
 use Rattle.mufom_command.specs.Commands.{Output, printed, made, plan_in}
 
--- What was outside before a call and after it, and how often calls of the outside had failed.
+-- The outside world before and after a call, and the numbers of failed calls of the host before and after it.
 pub record Call : Type 0 where
   pub old : Meaning
   pub new : Meaning
   pub before : Faults
   pub now : Faults
 
--- the call by which a world came from another
+-- the call that changed one world into another
 abbrev pub call_of : {W : Type 0} → (W → Meaning) → (W → Faults) → W → W → Call
 call_of meaning faults old new = record { old = meaning old; new = meaning new; before = faults old; now = faults new }
 
--- ---- the outcome that a run comes to
+-- ---- the outcome of a run
 
 -- the outcome of arguments that are not a command
 abbrev pub stop_answer : WordsStop → Outcome
@@ -64,49 +64,48 @@ outcome_of (stops s) = stop_outcome s
 
 -- ---- causes
 
--- Where files are read, the fact holds of those that are known, and nothing is stated where they are not. Where none is read, it holds of
--- all lists of files.
+-- If the command reads files, the fact holds for the files, if they are known. If it reads none, the fact holds for any list of files.
 abbrev pub OverFiles : Bool → Option (List NamedFile) → (List NamedFile → Type 0) → Type 0
 OverFiles true files P = IfSome files P
 OverFiles false files P = (fs : List NamedFile) → P fs
 
--- the end is not that of words, and is never for lack of memory
+-- the end is not an error in the arguments, and is not due to a lack of memory
 abbrev pub IsOfInputs : Stop → Type 0
 IsOfInputs (words_refused s) = ⊥
 IsOfInputs (plan_refused r) = r ≢ plan_refusal.NoMemory
 IsOfInputs (locate_fact maus f) = f ≢ placement place_refusal.NoMemory
 IsOfInputs _ = Unit {0}
 
--- The refusal is an end to which the work comes, which reads files or reads none.
+-- The outcome is a refusal that the work can end with. `reads` says whether the work reads files.
 pub record IsStopped {A : Type 0} (reads : Bool) (work : List NamedFile → Work Stop A) (files : Option (List NamedFile)) (result : Outcome) : Type 0 where
   pub stop : Stop
   pub is : result ≡ stop_outcome stop
   pub of_inputs : IsOfInputs stop
   pub cause : OverFiles reads files (λ fs. work fs (stops stop))
 
--- the name of the file that is made; none where a text is printed
+-- the name of the file that is written; none if a text is printed
 abbrev pub file_name : Output → Option (List ℕ)
 file_name (printed text) = None
 file_name (made name bytes) = Some name
 
--- This is the output to which the work of the command comes. A file has the name that the arguments give.
+-- The work of the command can have this output. If the output is a file, it has the name in the arguments.
 pub record IsOutput (c : Command) (work : List NamedFile → Work Stop Output) (files : Option (List NamedFile)) (output : Output) : Type 0 where
   pub place : file_name output ≡ c.out
   pub cause : OverFiles (reads_files c.verb) files (λ fs. work fs (gives output))
 
--- the input is one of the command, and each that is read before it is accepted
+-- the input is one of the command's, and each input that is read before it is accepted
 abbrev pub IsInputReached : Option (List NamedFile) → Command → Input → Type 0
 IsInputReached files c input.Plan = IsSome c.plan
 IsInputReached files c (input.File n) = (n < length c.files)
     × IfSome files (λ fs. ((plan : Plan) × plan_in fs c.plan (gives plan)) × ((ms : List Parts) × ComeTo (not c.no_debug) fs (take n c.files) (accepted ms)))
 
--- ---- what was put out
+-- ---- the output
 
--- nothing was put out
+-- there is no output
 abbrev pub PutsOutNothing : Call → Type 0
 PutsOutNothing call = call.new ≡ record call.old { left = call.new.left; err = call.new.err; opened = call.new.opened }
 
--- the file is made whole, and its name is the only one that was created
+-- the whole file is written, and no other name is created
 pub record MakesFile (name bytes : List ℕ) (call : Call) : Type 0 where
   pub added : IfSome call.old.made (λ files. call.new.made ≡ Some (files ++ (name, bytes) ∷ []))
   pub finished : IfSome call.old.making (λ before. call.new.making ≡ Some None)
@@ -120,17 +119,17 @@ pub record MakesFile (name bytes : List ℕ) (call : Call) : Type 0 where
     created = call.new.created;
   }
 
--- the text is printed whole
+-- the whole text is printed
 pub record PrintsText (text : List ℕ) (call : Call) : Type 0 where
   pub added : GrowsBy call.old.out call.new.out text
   pub stays : call.new ≡ record call.old { left = call.new.left; err = call.new.err; opened = call.new.opened; out = call.new.out }
 
--- The output, and nothing else.
+-- The call makes exactly this output.
 abbrev pub PutsOut : Output → Call → Type 0
 PutsOut (printed text) call = PrintsText text call
 PutsOut (made name bytes) call = MakesFile name bytes call
 
--- no file is finished; the one that is being made is that from before, or this one with a prefix of its bytes
+-- no file is finished; the file that is being written is the one from before the call, or this one with a prefix of its bytes
 pub record BeginsFile (name bytes : List ℕ) (call : Call) : Type 0 where
   pub begun : IfSome call.old.making (λ before. (call.new.making ≡ Some before) ⊎ ((n : ℕ) × (call.new.making ≡ Some (Some (name, take n bytes)))))
   pub created : OnSome call.new.created (GrowsBy call.old.created call.new.created (name ∷ []))
@@ -147,14 +146,14 @@ pub record BeginsText (text : List ℕ) (call : Call) : Type 0 where
   pub added : GrowsByPrefix call.old.out call.new.out text
   pub stays : call.new ≡ record call.old { left = call.new.left; err = call.new.err; opened = call.new.opened; out = call.new.out }
 
--- A prefix of the output, and nothing else.
+-- The call makes a prefix of this output, and nothing else.
 abbrev pub PutsOutPrefix : Output → Call → Type 0
 PutsOutPrefix (printed text) call = BeginsText text call
 PutsOutPrefix (made name bytes) call = BeginsFile name bytes call
 
 -- ---- the parts of the contract
 
--- The outcome of a command whose work this is has its cause, and exactly its output was made.
+-- The outcome of a command with this work has its cause, and exactly its output is made.
 abbrev pub AnswersFor : Command → (List NamedFile → Work Stop Output) → Call → Outcome → Type 0
 AnswersFor c work call outcome.Done = (output : Output) × IsOutput c work call.old.files output × PutsOut output call
 AnswersFor c work call (outcome.Refused r) = IsStopped (reads_files c.verb) work call.old.files (outcome.Refused r) × PutsOutNothing call
@@ -164,12 +163,12 @@ AnswersFor c work call outcome.WriteFault =
     Rose call.before.writes call.now.writes × ((output : Output) × IsOutput c work call.old.files output × PutsOutPrefix output call)
 AnswersFor c work call outcome.NoMemory = PutsOutNothing call
 
--- arguments that are not a command have this outcome, or memory ran out; nothing but the error output was touched
+-- arguments that are not a command have this outcome, or memory ran out; only the error output changes
 pub record RefusesWords (stop : WordsStop) (call : Call) (result : Outcome) : Type 0 where
   pub is : (result ≡ stop_answer stop) ⊎ (result ≡ outcome.NoMemory)
   pub stays : call.new ≡ record call.old { err = call.new.err }
 
--- memory ran out, or a call of the outside failed
+-- memory ran out, or a call of the host failed
 abbrev pub IsForced : Call → Outcome → Type 0
 IsForced call outcome.Done = ⊥
 IsForced call (outcome.Refused r) = ⊥
@@ -182,12 +181,12 @@ IsForced call outcome.NoMemory = Unit {0}
 abbrev pub inputs_of : Command → List (List ℕ)
 inputs_of c = option_to_list c.plan ++ c.files
 
--- how many inputs are read before this one
+-- the number of inputs that are read before this one
 abbrev pub input_place : Command → Input → ℕ
 input_place c input.Plan = 0
 input_place c (input.File n) = length (option_to_list c.plan) + n
 
--- How many inputs were opened: up to the one that the outcome names, and else all; where memory ran out, any number.
+-- The number of inputs that are opened: up to the one that the outcome names, otherwise all; any number if memory ran out.
 abbrev pub IsOpenedCount : Command → Outcome → ℕ → Type 0
 IsOpenedCount c (outcome.Refused (refusal.Plan r)) count = count ≡ input_place c input.Plan + 1
 IsOpenedCount c (outcome.Refused (refusal.Read n r)) count = count ≡ input_place c (input.File n) + 1
@@ -196,7 +195,7 @@ IsOpenedCount c (outcome.ReadFault at) count = count ≡ input_place c at + 1
 IsOpenedCount c outcome.NoMemory count = Unit {0}
 IsOpenedCount c _ count = count ≡ length (inputs_of c)
 
--- the first of the inputs were opened, in their order
+-- the first of the inputs are opened, in their order
 pub record OpensInputs (c : Command) (call : Call) (result : Outcome) : Type 0 where
   pub count : ℕ
   pub exact : IsOpenedCount c result count
@@ -207,7 +206,7 @@ abbrev pub OpensBy : Result Command WordsStop → Call → Outcome → Type 0
 OpensBy (Ok c) call result = OpensInputs c call result
 OpensBy (Err s) call result = call.new.opened ≡ call.old.opened
 
--- the line is added to the error output, or a prefix of it where printing it failed in this call
+-- the line is added to the error output, or a prefix of it if printing it failed in this call
 abbrev pub AddsErrorLine : Call → List ℕ → Type 0
 AddsErrorLine call text = GrowsBy call.old.err call.new.err text
     ⊎ (Rose call.before.complaints call.now.complaints × GrowsByPrefix call.old.err call.new.err text)

@@ -1,4 +1,4 @@
--- What ends a run before it has an output.
+-- The errors that end a run before it has an output.
 use Rattle.std.specs.Prelude.{ℕ, List}
 use Rattle.mufom_words.specs.declared.stop.WordsStop.{WordsStop}
 use Rattle.mufom_plan.specs.declared.refusal.PlanRefusal.{PlanRefusal}
@@ -7,10 +7,9 @@ use Rattle.mufom_titxt.specs.declared.refusal.TxtRefusal.{TxtRefusal}
 use Rattle.mufom_build.specs.declared.refusal.BuildRefusal.{BuildRefusal}
 use Rattle.mufom_meaning.specs.Facts.{LinkFact, LocateFact}
 
--- The arguments; the bytes of the plan's file; a file, by its number, whose bytes are refused, or in which the files have too many bytes; a
--- link fact; a name that is to be kept and that no public has; a locate fact, with the number of bytes of an address; a raw image with this
--- many bytes, which are too many; bytes that are no TI-TXT text;
--- or bytes that are not the listing of a module.
+-- An error in the arguments; an error in the plan's file; an error in the file with this number; the file with this number, in which the total length
+-- of the files exceeds the limit; a link error; a name that should be kept and that no public has; an error of locating, with the length of an
+-- address in units; a raw image with this many bytes, which are too many; an error in a TI-TXT text; or an error in a listing.
 pub data Stop : Type 0 where
   words_refused : WordsStop → Stop
   plan_refused : PlanRefusal → Stop

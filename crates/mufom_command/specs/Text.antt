@@ -1,4 +1,4 @@
--- The lines on files that were checked, and those of an address that is looked up.
+-- The lines about files that are checked, and those about an address that is looked up.
 use Rattle.std.specs.Prelude.{ℕ, ◌+◌, Bool, true, false, List, [], ◌∷◌, ◌++◌, length, filter, codes, Option, Some, None}
 use Rattle.std.specs.Fmt.{decimal}
 use Rattle.mufom_debug.specs.Marks.{DebugMark, block_begin, block_end, name_mark, note_mark, value_mark, marks_of}
@@ -9,7 +9,7 @@ use Rattle.mufom_addr.specs.declared.hit.Hit.{Hit}
 use Rattle.mufom_text.specs.Image.{address}
 pub use Rattle.mufom_text.specs.Words.{Text, line, quoted, quoted_byte, stands_for_itself}
 
--- a mark that is an item of its own: each but the end of a block
+-- the record is a debug item by itself: any record except the end of a block
 abbrev pub is_item : DebugMark → Bool
 is_item (block_begin head name) = true
 is_item (block_end end) = false
@@ -17,21 +17,21 @@ is_item (name_mark name) = true
 is_item (note_mark name note) = true
 is_item (value_mark name value) = true
 
--- the debug items at all depths
+-- the number of debug items at all depths
 abbrev pub item_count : List DebugMark → ℕ
 item_count marks = length (filter is_item marks)
 
--- what a line states after the name
+-- the text of a line after the name
 abbrev pub counts_text : Parts → Text
 counts_text m = codes ": sections " ++ decimal (length m.sections) ++ codes " publics " ++ decimal (length m.names.publics)
     ++ codes " references " ++ decimal (length m.names.references) ++ codes " loads " ++ decimal (length m.loads)
     ++ codes " debug " ++ decimal (item_count (marks_of m.debug))
 
--- the line of a file with this number, and this module
+-- the line of this module, from the file with this number
 abbrev pub check_line : ℕ → Parts → Text
 check_line number m = line (codes "file " ++ decimal number ++ codes " " ++ quoted m.name ++ counts_text m)
 
--- the lines of files that are numbered from here on
+-- the lines of files that are numbered from `number` on
 abbrev pub check_lines : ℕ → List Parts → Text
 check_lines number [] = []
 check_lines number (m ∷ ms) = check_line number m ++ check_lines (number + 1) ms
@@ -40,9 +40,9 @@ check_lines number (m ∷ ms) = check_line number m ++ check_lines (number + 1) 
 abbrev pub check_text : List Parts → Text
 check_text ms = check_lines 0 ms
 
--- ---- the lines of an address
+-- ---- the lines about an address
 
--- a name, and none where there is none
+-- the name of a source file, or `none`
 abbrev pub source_text : Option (List ℕ) → Text
 source_text None = codes "none"
 source_text (Some name) = quoted name

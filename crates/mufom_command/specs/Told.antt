@@ -1,4 +1,4 @@
--- What `explain` prints, as the code has it.
+-- The text that `explain` prints, from the values that the code has for it.
 use Rattle.std.specs.Prelude.{List, [], ◌++◌, Option, option_map, IfSome}
 use Rattle.mufom_text.specs.Words.{Text}
 use Rattle.mufom_explain.specs.Explained.{link_text, locate_text, name_text}
@@ -8,7 +8,7 @@ use Rattle.mufom_command.specs.declared.explanation.Details.TheVariants as detai
 use Rattle.mufom_command.specs.declared.explanation.Explanation.{Explanation}
 use Rattle.mufom_command.specs.ExplainText.{topic_part}
 
--- the lines of what an outcome names
+-- the lines about what an outcome names
 abbrev pub told_text : Details → Text
 told_text details.Nothing = []
 told_text (details.File names number) = file_line names.now number
@@ -17,6 +17,6 @@ told_text (details.Link d) = link_text d
 told_text (details.Name d) = name_text d
 told_text (details.Locate d) = locate_text d
 
--- all that is printed
+-- the whole text
 abbrev pub explanation_text : Explanation → Text
 explanation_text e = e.line.now ++ (told_text e.details.now ++ topic_part (option_map (λ text. text.now) e.topic))

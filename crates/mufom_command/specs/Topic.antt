@@ -1,4 +1,4 @@
--- The topic of help that an error line has: the name of the error, or for wrong arguments the command that they name.
+-- The help topic for an error line: the name of the error or, for wrong arguments, the command that they name.
 use Rattle.std.specs.Prelude.{List, [], ◌∷◌, Option, Some, None, codes, unwrap_or}
 use Rattle.mufom_help.specs.Topics.{commands, topic_in, topics}
 use Rattle.mufom_help.specs.declared.commands.TheConstants.{LIST}
@@ -83,26 +83,27 @@ refusal_name (refusal.Bin count) = codes "TooLong"
 refusal_name (refusal.Text r) = txt_name r.reason
 refusal_name (refusal.Build r) = build_name r
 
--- ---- the command that arguments name
+-- ---- the command that the arguments name
 
--- the name of the command that a word stands for, where it stands for one that prints a text of the program
+-- the name of the command that a word stands for, if it is one that prints a text of the program; the word itself otherwise
 abbrev pub name_by : Option Verb → Text → Text
 name_by (Some verb.Help) word = codes "help"
 name_by (Some verb.Version) word = codes "version"
 name_by _ word = word
 
--- the name of the command that a first word stands for; the word itself where it stands for none
+-- the name of the command that a first word stands for; the word itself if it stands for none
 abbrev pub command_name : Text → Text
 command_name word = name_by (own_verb word) word
 
--- the text of the command that arguments name, and the list of commands where they name none
+-- the text of the command that the arguments name, or the list of commands if they name none
 abbrev pub usage_topic : List Text → Text
 usage_topic [] = LIST.now
 usage_topic (word ∷ words) = unwrap_or (topic_in commands (command_name word)) LIST.now
 
 -- ---- the topic
 
--- The text of help on the outcome of a run with these arguments. There is none of a run that is done, and of an input that was not read.
+-- The help text on the outcome of a run with these arguments. A run that is `Done` has none, nor has one in which an input could not be read, a write
+-- failed, or memory ran out.
 abbrev pub topic_of : List Text → Outcome → Option Text
 topic_of words (outcome.Refused r) = topic_in topics (refusal_name r)
 topic_of words (outcome.Usage f) = Some (usage_topic words)

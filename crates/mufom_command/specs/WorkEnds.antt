@@ -1,4 +1,4 @@
--- The outcome if modules are not linked or not located.
+-- The outcome if modules cannot be linked or located.
 use Rattle.std.specs.Prelude.{◌≡◌, ◌≢◌, ◌⊎◌, ℕ, ◌≤◌, List, [], ◌∷◌, length, Option, Some, None, Bool, true, false}
 use Rattle.mufom_image.specs.declared.refusal.LocateRefusal.{LocateRefusal}
 use Rattle.mufom_image.specs.declared.refusal.LocateRefusal.TheVariants as locate
@@ -44,7 +44,7 @@ abbrev pub outcome_of_prune : PruneRefusal → Outcome
 outcome_of_prune prune.NoMemory = outcome.NoMemory
 outcome_of_prune (prune.Unknown name) = outcome.Refused (refusal.Keep name)
 
--- what linking asks of a command and of the modules of its files
+-- the conditions of linking on a command and the modules of its files
 pub record AreLinkable (c : Command) (ms : List Parts) : Type 0 where
   pub sound : IsSound c
   pub of_files : reads_files c.verb ≡ true
@@ -52,7 +52,7 @@ pub record AreLinkable (c : Command) (ms : List Parts) : Type 0 where
   pub valid : AreValid ms
   pub light : total_weight ms ≤ most_weight
 
--- what remains of a module for a name, where one of its publics has it
+-- what remains of a module for a name, if one of its publics has it
 abbrev pub own_rest : Bool → List ℕ → Parts → Work Stop Kept
 own_rest false name M = stop_at (keep_unknown name)
 own_rest true name M = rest_of_module name M
@@ -62,7 +62,7 @@ abbrev pub own_kept : Option (List ℕ) → Parts → Work Stop Kept
 own_kept None M = sure (all_of (M ∷ []))
 own_kept (Some name) M = own_rest (has_name (public_names (M ∷ [])) name) name M
 
--- its location by a plan
+-- the location, by a plan, of what is kept of one module
 abbrev pub own_location : Option (List ℕ) → Plan → Parts → Work Stop LocatedParts
 own_location keep plan M = do
   kept ← own_kept keep M
@@ -75,11 +75,11 @@ location_of c plan ms = do
   kept ← kept_of c.keep flat
   located plan kept.modules
 
--- the files come to this location
+-- the work over the files gives this location
 abbrev pub LocatesTo : List NamedFile → Command → LocatedParts → Type 0
 LocatesTo files c r = (plan : Plan) × (ms : List Parts) × inputs_in files c (gives (plan, ms)) × location_of c plan ms (gives r)
 
--- the end is a fact about the modules, or about the text that was read, and no lack of memory
+-- the end is an error in the modules or in the text that was read, and is not due to a lack of memory
 abbrev pub IsOfModules : Stop → Type 0
 IsOfModules (link_fact f) = Unit {0}
 IsOfModules (keep_unknown name) = Unit {0}
@@ -89,6 +89,6 @@ IsOfModules (text_refused r) = Unit {0}
 IsOfModules (listing_refused r) = Unit {0}
 IsOfModules _ = ⊥
 
--- the outcome is out of memory, or that of such a fact that ends the work
+-- the outcome is out of memory, or that of such an error, with which the work ends
 abbrev pub EndsAt : {A : Type 0} → Work Stop A → Outcome → Type 0
 EndsAt work result = (result ≡ outcome.NoMemory) ⊎ ((s : Stop) × IsOfModules s × (result ≡ stop_outcome s) × work (stops s))

@@ -69,20 +69,20 @@ fn answer<H: Host>(alloc: Global, words: &[String], host: &mut H) -> Outcome
     }
 }
 
-/// Runs the command that the arguments name: `show FILE`, `check FILE ...`, `link -o OUT FILES`,
-/// `locate -o OUT FILES`, `dump FILES`, `map FILES`, `make COUNT`, `addr --at ADDRESS FILES`, `bin -o OUT FILES`,
-/// `txt -o OUT FILES`, `fromtxt -o OUT FILE`, `build -o OUT FILE`, `help` or `version`, each with its options; or `explain` before
-/// any of these.
+/// Runs the command that the arguments name: `show FILE`, `check FILE ...`, `link -o OUT FILES`, `locate -o
+/// OUT FILES`, `dump FILES`, `map FILES`, `make COUNT`, `addr --at ADDRESS FILES`, `bin -o OUT FILES`, `txt
+/// -o OUT FILES`, `fromtxt -o OUT FILE`, `build -o OUT FILE`, `help` or `version`, each with its options; or
+/// `explain` before any of these.
 ///
-/// `words` are the command line's arguments without the program's name, fewer than 2^32. If a plan is
-/// named, it is read first, and then the files. Every outcome except `Done` prints one error line; if
-/// printing fails, the outcome stays the same. A file is created only after its whole contents are known.
+/// `words` are the arguments of the command line without the program's name, fewer than 2^32. The plan, if
+/// one is named, is read first, and then the files. Every outcome except `Done` prints one error line; if
+/// printing it fails, the outcome does not change. A file is created only once its whole contents are known.
 ///
-/// What is proved of a run is the record `IsRun` of specs/Contract.antt. Its fields: each outcome has its
-/// cause, and exactly its output was made (`answers`); the arguments and the files determine the outcome,
+/// The record `IsRun` of specs/Contract.antt states what is proved about a run. Its fields: each outcome has
+/// its cause, and exactly its output was made (`answers`); the arguments and the files determine the outcome,
 /// unless an I/O call failed or memory ran out (`complete`); the inputs were opened in order, and nothing
-/// else was (`opens`); the error line was printed, or failing to do so was counted (`line`); no count of
-/// I/O errors fell (`counts`); and `help` and `version` never run out of memory (`memory`).
+/// else was (`opens`); the error line was printed, or the failure to print it was counted (`line`); no count
+/// of I/O errors fell (`counts`); and `help` and `version` never run out of memory (`memory`).
 pub fn run<H: Host>(alloc: Global, words: &[String], host: &mut H) -> Outcome
     requires { length words.now < 2 ^ 32 }
     ensures { IsRun (map (λ word. string_bytes word) words.now) (call_of H.meaning H.faults host.old host.new) result }

@@ -1,4 +1,4 @@
-//! The error line of each outcome but `Done`.
+//! The error line of each outcome except `Done`.
 
 ghost use Rattle.std.specs.Prelude.{◌≡◌, ◌++◌, IfOk, OnOk};
 ghost use Rattle.std.specs.String.{string_bytes};
@@ -91,7 +91,7 @@ fn read_line(alloc: Global, file: u32, refusal: ReadRefusal) -> Result<String, N
     Ok(format!(in alloc; "refused: file {file} at {offset}: {reason}\n")?)
 }
 
-// The line of the file in which the total length of all files passes the limit.
+// The line for the file in which the total length of all files exceeds the limit.
 fn limit_line(alloc: Global, file: u32) -> Result<String, NoMemory>
     ensures { IfOk result (λ text. string_bytes text ≡ complaint (Outcome.Refused (Refusal.InputLimit file))) }
 {
@@ -225,14 +225,14 @@ fn keep_line(alloc: Global, name: &Bytes) -> Result<Vec<u8>, NoMemory>
     Ok(line)
 }
 
-// The line of a raw image with too many bytes.
+// The line for a raw image with too many bytes.
 fn raw_line(alloc: Global, count: u128) -> Result<String, NoMemory>
     ensures { IfOk result (λ text. string_bytes text ≡ complaint (Outcome.Refused (Refusal.Bin count))) }
 {
     Ok(format!(in alloc; "refused: bin: TooLong {count}\n")?)
 }
 
-// Adds what is wrong with a line of a text.
+// Adds the error of a line of a text.
 fn push_text_reason(alloc: Global, text: &mut Vec<u8>, reason: TxtReason) -> Result<(), NoMemory>
     ensures { OnOk result (text.new.items ≡ text.old.items ++ txt_reason_text reason) }
 {

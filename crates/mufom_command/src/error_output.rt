@@ -12,7 +12,7 @@ use mufom_host::{Failed, Host};
 use mufom_numbers::NoMemory;
 use std::alloc::Global;
 
-// Prints a line on the error output; where that fails the line, or its end, is lost.
+// Prints a line on the error output. If that fails, the line or its end is lost.
 fn print_line<H: Host>(line: &[u8], host: &mut H)
     ensures added { AddsErrorLine (call_of H.meaning H.faults host.old host.new) line.now }
     ensures only { OnlyPrintsErrors (H.meaning host.old) (H.meaning host.new) (H.faults host.old) (H.faults host.new) }
@@ -23,7 +23,7 @@ fn print_line<H: Host>(line: &[u8], host: &mut H)
     }
 }
 
-// Prints that there is no memory.
+// Prints the error line of out of memory.
 fn out_of_memory<H: Host>(host: &mut H) -> Outcome
     ensures same { result ≡ Outcome.NoMemory }
     ensures added { AddsErrorLine (call_of H.meaning H.faults host.old host.new) (complaint Outcome.NoMemory) }
@@ -33,8 +33,8 @@ fn out_of_memory<H: Host>(host: &mut H) -> Outcome
     Outcome::NoMemory
 }
 
-/// Prints the error line of an outcome that is not `Done`, which then stays what it is. Where there is no
-/// memory for the line of a refusal or of a read fault, that is the outcome.
+/// Prints the error line of an outcome, unless it is `Done`, and returns the outcome. If there is no memory
+/// for the line of a `Refused` or a `ReadFault`, the outcome is `NoMemory` instead.
 pub(crate) fn print_error_line<H: Host>(alloc: Global, outcome: Outcome, host: &mut H) -> Outcome
     ensures same { IsPrintedAs outcome result }
     ensures line { PrintsErrorLine (call_of H.meaning H.faults host.old host.new) result }

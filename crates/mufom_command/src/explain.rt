@@ -1,4 +1,4 @@
-//! The command that explains how other arguments end: `explain`.
+//! The command that explains the outcome of other arguments: `explain`.
 
 ghost use Rattle.std.specs.Prelude.{◌≡◌, ◌⊎◌, ◌<◌, ◌^◌, ℕ, List as list, Some, Ok, false, true, length, map};
 ghost use Rattle.std.specs.String.{string_bytes};
@@ -22,7 +22,7 @@ use mufom_host::Host;
 use mufom_words::{Command, Verb, read_words};
 use std::alloc::Global;
 
-// The line of the plan that the command names; nothing if it names none.
+// The line of the plan that the command names; nothing if it has no plan.
 fn plan_details(command: &Command) -> Details<'_>
     ensures { (name : list ℕ) → command.now.plan ≡ Some name → told_text result ≡ plan_line name }
 {
@@ -42,7 +42,7 @@ fn file_details(command: &Command, number: u32) -> Details<'_>
     }
 }
 
-/// The line of the input that an outcome of the command names; nothing if it names none.
+/// Returns the line about the input that an outcome of the command names; nothing if it names none.
 pub(crate) fn input_details<'a>(command: &'a Command, answer: &Outcome) -> Details<'a>
     ensures { IsInputDetail command.now answer.now (told_text result) }
 {
@@ -183,10 +183,10 @@ fn explain_command<H: Host>(
     }
 }
 
-/// Carries out what these arguments ask for, up to the first file that it would create or the first text
-/// that it would print, and prints how that ended, what its error line names, and the text of help on it.
-/// Returns the outcome of this, whose error line is not printed yet: `Done`, whatever the arguments end
-/// with.
+/// Carries out these arguments, up to the first file that they would create or the first text that they would
+/// print, and prints their outcome: the error line, what it names, and the help text on it. Returns the
+/// outcome of the explanation, whose error line is not printed yet: `Done`, whatever the outcome of the
+/// arguments is, unless printing failed or memory ran out.
 pub(crate) fn explain<H: Host>(alloc: Global, words: &[String], host: &mut H) -> Outcome
     requires few { length words.now < 2 ^ 32 }
     requires others { may_be_explained (map (λ word. string_bytes word) words.now) ≡ true }

@@ -1,4 +1,4 @@
-//! Explaining the commands that link modules.
+//! Explains the commands that link modules.
 
 ghost use Rattle.std.specs.Prelude.{◌≡◌, ◌⊎◌, ◌<◌, ◌+◌, ◌^◌, ◌∷◌, [], ℕ, List as list, Option as option, Ok, length, map, All, IfErr, IfOk};
 ghost use Rattle.std.specs.String.{string_bytes};
@@ -52,7 +52,7 @@ use std::alloc::Global;
 
 // ---- linking
 
-// The link of copies of the modules of the command, with its members, or the outcome of the run.
+// Links copies of the modules of the command, with its members, or returns the outcome of the run.
 fn link_copies(
     alloc: Global,
     command: &Command,
@@ -73,7 +73,7 @@ fn link_copies(
     }
 }
 
-// The modules of the list that the command can't link, with their files.
+// The modules of the list that the command cannot link, with their files.
 fn refused_list<'a>(
     alloc: Global,
     command: &Command,
@@ -88,7 +88,7 @@ fn refused_list<'a>(
     flat_modules(alloc, modules, files.as_slice())
 }
 
-// Explains that the modules of the command are not linked.
+// Explains that the modules of the command cannot be linked.
 fn explain_unlinked<H: Host>(
     alloc: Global,
     words: &[String],
@@ -152,7 +152,7 @@ fn traced(alloc: Global, modules: &[Module], linked: LinkedModules) -> Result<Tr
     }
 }
 
-// Explains that no public symbol has the name that is to be kept.
+// Explains that no public symbol has the name that should be kept.
 fn explain_unknown<H: Host>(
     alloc: Global,
     words: &[String],
@@ -178,7 +178,7 @@ fn explain_unknown<H: Host>(
 
 // ---- locating
 
-// Explains that what is kept is not located.
+// Explains that what is kept cannot be located.
 fn explain_obstacle<H: Host>(
     alloc: Global,
     words: &[String],
@@ -212,7 +212,7 @@ fn explain_obstacle<H: Host>(
     }
 }
 
-// How a command ends that located its files, before it puts anything out.
+// The outcome of a command that has located its files, before it has an output.
 fn located_outcome(alloc: Global, command: &Command, located: &Located) -> Outcome
     requires light { weight (absolute_of located.now) < 2 ^ 32 }
     ensures { IsLocatedOutcome command.now located.now result }
@@ -237,7 +237,7 @@ fn located_outcome(alloc: Global, command: &Command, located: &Located) -> Outco
     }
 }
 
-// Explains how what is kept of the flat list is located.
+// Explains the outcome of locating what is kept of the flat list.
 fn explain_part<H: Host>(
     alloc: Global,
     words: &[String],
@@ -267,7 +267,7 @@ fn explain_part<H: Host>(
     }
 }
 
-// Explains a command that locates, whose modules are linked.
+// Explains a command that locates and whose modules are linked.
 fn explain_linked<H: Host>(
     alloc: Global,
     words: &[String],

@@ -1,4 +1,4 @@
-//! Printing how a run ended, what its error line names, and the text of help on it.
+//! Prints the outcome of a run, what its error line names, and the help text on it.
 
 ghost use Rattle.std.specs.Prelude.{◌≡◌, ◌≢◌, [], map, option_map, IfOk, Some};
 ghost use Rattle.std.specs.String.{string_bytes};
@@ -17,33 +17,33 @@ use mufom_numbers::{NoMemory, Text};
 use mufom_text::{Lines, Output, PrintStop, print_lines};
 use std::alloc::Global;
 
-/// The lines of what an outcome names.
+/// The lines about what an outcome names.
 #[derive(Drop)]
 pub(crate) enum Details<'a> {
     Nothing,
-    /// The file with this number, of files with these names.
+    /// The file with this number; `names` are the names of all files.
     File { names: &'a [Text], number: u32 },
     /// The plan, by the name of its file.
     Plan(&'a Text),
-    /// What an error in linking names.
+    /// The things that a link error names.
     Link(LinkDetails<'a>),
-    /// The modules that refer to a name that is to be kept and that none defines.
+    /// The modules that refer to a name that should be kept and that no module defines.
     Name(NameDetails<'a>),
-    /// What an error in locating names.
+    /// The things that an error of locating names.
     Locate(LocateDetails<'a>),
 }
 
-/// All that `explain` prints.
+/// The whole text that `explain` prints.
 #[derive(Drop)]
 struct Explanation<'a> {
     /// The error line, with its line end.
     line: &'a [u8],
     details: &'a Details<'a>,
-    /// The text of help, if there is one.
+    /// The help text, if there is one.
     topic: Option<&'static str>,
 }
 
-// The lines of what an outcome names.
+// Puts the lines about what an outcome names.
 fn put_details<K: Output>(out: &mut K, details: &Details<'_>)
     ensures { K.takes out.old out.new (told_text details.now) }
 {
@@ -57,7 +57,7 @@ fn put_details<K: Output>(out: &mut K, details: &Details<'_>)
     }
 }
 
-// An empty line and a text of help.
+// Puts an empty line and a help text.
 fn put_help<K: Output>(out: &mut K, text: &str)
     ensures { K.takes out.old out.new (topic_part (Some text.now)) }
 {
@@ -65,7 +65,7 @@ fn put_help<K: Output>(out: &mut K, text: &str)
     out.put(text.as_bytes());
 }
 
-// The same, if there is a text.
+// Puts an empty line and the help text, if there is one.
 fn put_topic<K: Output>(out: &mut K, topic: Option<&'static str>)
     ensures { K.takes out.old out.new (topic_part (option_map (λ text. text.now) topic.entry)) }
 {
@@ -87,7 +87,7 @@ impl<'a> Lines for Explanation<'a> {
     }
 }
 
-// The error line of an outcome, or that there is none.
+// The error line of an outcome, or `done` if it has none.
 fn first_line(alloc: Global, answer: &Outcome) -> Result<Vec<u8>, NoMemory>
     ensures line { IfOk result (λ text. text.items ≡ line_of answer.now) }
     ensures told { IfOk result (λ text. (answer.now ≢ Outcome.WriteFault) × (answer.now ≢ Outcome.NoMemory)) }
@@ -101,9 +101,9 @@ fn first_line(alloc: Global, answer: &Outcome) -> Result<Vec<u8>, NoMemory>
     }
 }
 
-/// Prints how a run with these arguments ended: its error line, what that names, and the text of help on
-/// it. Returns the outcome, whose error line is not printed yet: out of memory if memory ran out, also if
-/// it did in that run, and nothing is printed then.
+/// Prints the outcome of a run with these arguments: its error line, what that names, and the help text on
+/// it. Returns the outcome of the explanation, whose error line is not printed yet. It is out of memory if
+/// memory runs out here or ran out in that run; then nothing is printed.
 pub(crate) fn print_explanation<H: Host>(
     alloc: Global,
     words: &[String],
@@ -131,7 +131,7 @@ pub(crate) fn print_explanation<H: Host>(
     }
 }
 
-/// Prints that a run with these arguments would be done.
+/// Prints that a run with these arguments would be `Done`.
 pub(crate) fn print_done<H: Host>(alloc: Global, words: &[String], host: &mut H) -> Outcome
     ensures answer { IsPrinted (explain_text (map (λ word. string_bytes word) words.now) Outcome.Done [])
         (call_of H.meaning H.faults host.old host.new) result }

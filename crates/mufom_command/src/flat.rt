@@ -1,4 +1,5 @@
-//! The modules of the files of a run, as they are explained: copies to link, and lists of them by their files.
+//! The modules of the files of a run, prepared for explaining: copies to link, and lists of modules with
+//! their files.
 
 ghost use Rattle.std.specs.Prelude.{◌≡◌, ◌++◌, ◌+◌, ◌≤◌, ◌∷◌, [], length, option_map, option_to_list, slice_get, IfOk, OnOk};
 ghost use Rattle.mufom_origins.specs.Origins.{numbered};
@@ -29,7 +30,7 @@ fn module_at(modules: &[Module], file: u32) -> Option<&Module>
     modules.get(file as usize)
 }
 
-// Appends a module, which is that of the file with this number.
+// Appends a module, which was read from the file with this number.
 fn push_module<'a>(
     flat: &mut Vec<FlatModule<'a>>,
     file: u32,
@@ -45,7 +46,7 @@ fn push_module<'a>(
     Ok(())
 }
 
-// The same, if there is one.
+// Appends a module, if there is one, which was read from the file with this number.
 fn push_file<'a>(
     flat: &mut Vec<FlatModule<'a>>,
     file: u32,

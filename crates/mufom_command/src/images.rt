@@ -1,4 +1,4 @@
-//! The commands that put out what files are located as: `locate`, `dump`, `bin` and `txt`.
+//! The commands whose output is the location of files: `locate`, `dump`, `bin` and `txt`.
 
 ghost use Rattle.std.specs.Prelude.{◌≡◌, ◌<◌, ◌^◌, None, Some, IfErr, IfOk, IsSome, true, ℕ, List as list, length};
 ghost use Rattle.mufom_numbers.specs.declared.limits.TheConstants.{MOST_FILE_BYTES as most};
@@ -26,7 +26,7 @@ use mufom_words::Command;
 use mufom_write::raw_length;
 use std::alloc::Global;
 
-// Prints the image of a location; returns the outcome, whose error line is not printed yet.
+// Prints the image of a location. Returns the outcome, whose error line is not printed yet.
 fn print_located<H: Host>(alloc: Global, located: &Located, host: &mut H) -> Outcome
     ensures answer { IsPrinted (image_text located.now) (call_of H.meaning H.faults host.old host.new) result }
     ensures only { OnlyPrints (H.meaning host.old) (H.meaning host.new) (H.faults host.old) (H.faults host.new) }
@@ -38,7 +38,7 @@ fn print_located<H: Host>(alloc: Global, located: &Located, host: &mut H) -> Out
     }
 }
 
-// Makes the file that the command names, of the raw image of a location.
+// Writes the raw image of a location to the file that the command names.
 fn make_raw<H: Host>(command: &Command, located: &Located, host: &mut H) -> Outcome
     requires { IsSome command.now.out }
     ensures { (name : list ℕ) → command.now.out ≡ Some name
@@ -51,7 +51,7 @@ fn make_raw<H: Host>(command: &Command, located: &Located, host: &mut H) -> Outc
     }
 }
 
-// Makes the file that the command names, of the TI-TXT text of a location.
+// Writes the TI-TXT text of a location to the file that the command names.
 fn make_text<H: Host>(command: &Command, located: &Located, host: &mut H) -> Outcome
     requires { IsSome command.now.out }
     ensures { (name : list ℕ) → command.now.out ≡ Some name
@@ -64,7 +64,7 @@ fn make_text<H: Host>(command: &Command, located: &Located, host: &mut H) -> Out
     }
 }
 
-/// Locates the files of the command, and makes a file of the absolute module.
+/// Locates the files of the command, and writes the absolute module to a file.
 pub(crate) fn locate_files<H: Host>(alloc: Global, command: &Command, host: &mut H) -> Outcome
     requires sound { IsSound command.now }
     requires of_files { reads_files command.now.verb ≡ true }
@@ -96,8 +96,8 @@ pub(crate) fn dump<H: Host>(alloc: Global, command: &Command, host: &mut H) -> O
     }
 }
 
-/// Locates the files of the command, and makes a file of the raw image, where that has no more bytes
-/// than a file may have.
+/// Locates the files of the command, and writes the raw image to a file, unless it has more bytes than a file
+/// may have.
 pub(crate) fn bin<H: Host>(alloc: Global, command: &Command, host: &mut H) -> Outcome
     requires sound { IsSound command.now }
     requires of_files { reads_files command.now.verb ≡ true }
@@ -116,7 +116,7 @@ pub(crate) fn bin<H: Host>(alloc: Global, command: &Command, host: &mut H) -> Ou
     make_raw(command, &located, host)
 }
 
-/// Locates the files of the command, and makes a file of the TI-TXT text of the image.
+/// Locates the files of the command, and writes the TI-TXT text of the image to a file.
 pub(crate) fn txt<H: Host>(alloc: Global, command: &Command, host: &mut H) -> Outcome
     requires sound { IsSound command.now }
     requires of_files { reads_files command.now.verb ≡ true }

@@ -1,4 +1,4 @@
-//! Reading the inputs of a run: its plan, and then its module files in their order.
+//! Reads the inputs of a run: its plan, and then its module files in their order.
 
 ghost use Rattle.std.specs.Prelude.{◌≡◌, ◌*◌, ◌<◌, ◌≤◌, ◌^◌, ◌∷◌, [], length, IfErr, IfOk, IfSome, OnSome};
 ghost use Rattle.mufom_module.specs.Defects.{IsValid};
@@ -25,10 +25,10 @@ use mufom_read::{SourceStop, read_module};
 use mufom_words::Command;
 use std::alloc::Global;
 
-// How many bytes the module files of a run have at most, all together.
+// The greatest total length of the module files of a run, in bytes.
 const MOST_INPUT_BYTES: u64 = MOST_FILE_BYTES as u64;
 
-// The outcome if the file with this number was not read.
+// The outcome if the file with this number could not be read.
 fn outcome_of_source_stop(file: u32, stop: SourceStop) -> Outcome
     ensures { result ≡ outcome_of_source_stop file stop }
 {
@@ -115,7 +115,7 @@ fn read_files<H: Host>(
 /// The inputs of a command.
 #[derive(Drop)]
 pub(crate) struct Inputs {
-    /// The plan; the one without regions if the command names none.
+    /// The plan, or the one without regions if the command has none.
     pub plan: Plan,
     /// The modules of the files.
     pub modules: List<Module>,

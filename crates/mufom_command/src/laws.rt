@@ -5,7 +5,7 @@ ghost use Rattle.mufom_command.specs.MakeLaws.{MakeIsDone};
 ghost use Rattle.mufom_command.specs.RunLaws.{AbsoluteFilesStand, AnswersAreDetermined, LinkedFilesStand, LocatingIsDone, MapsAreAlike, MapsOfStages};
 ghost use Rattle.mufom_command.specs.RunLaws.{RunsAreSingle, RunsOfStages, StagesMakeNoDifference};
 
-/// Files that are read in order have one verdict, if they hold bytes.
+/// Reading files in order has only one result, if the files hold bytes.
 pub fn files_have_one_verdict()
     ensures { HaveOneVerdict }
 {}
@@ -28,8 +28,8 @@ pub fn locating_is_done()
     ensures { LocatingIsDone }
 {}
 
-/// A list that earlier runs linked in stages is put out as the list that the stages began with: its
-/// link, its absolute module and its image.
+/// For a list that earlier runs linked in stages, each command that links and does not print a map has the
+/// same output as for the list that the stages began with.
 pub fn stages_make_no_difference()
     ensures { StagesMakeNoDifference }
 {}
@@ -58,8 +58,8 @@ pub fn linked_files_stand()
     ensures { LinkedFilesStand }
 {}
 
-/// What locating puts out is the file of an absolute module that, located alone by the plan without
-/// regions, is located as itself. The file, if it is not too long, is read as that module.
+/// The output of `locate` is the file of an absolute module that has the same location if it is located
+/// alone, by the plan without regions. The file, if it is not too long, is read as that module.
 pub fn absolute_files_stand()
     ensures { AbsoluteFilesStand }
 {}

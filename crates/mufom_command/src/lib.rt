@@ -1,16 +1,17 @@
-//! The top call of the program: it runs the command that the arguments name over a host, and returns how
-//! it ended.
+//! The top call of the program: it runs the command that the arguments name over a host, and returns the
+//! outcome.
 //!
-//! `show FILE` prints the text of a module, and `check FILE ...` a line for each module. `link`
-//! makes a file of the module into which modules are linked, with groups and members; `locate` makes a
-//! file of the absolute module of its location by a plan, `dump` prints the image, `bin` makes a file of
-//! its raw bytes and `txt` one of its TI-TXT text, `map` prints what is at which address, and `addr` the
-//! function and the source line at an address. `fromtxt` makes a file of the module of a TI-TXT text, and
-//! `build` one of the module of a listing. `make` generates modules, locates
-//! them and prints a summary. `help` and `version` print texts of the program. `explain` before any of these
-//! prints how it would end, and what its error line names. The main clause is the
-//! contract of [`run`]: each outcome has its cause in the arguments, the files or the counts of faults, and
-//! what was put out, printed as errors and opened is stated exactly.
+//! `show FILE` prints the text of a module, and `check FILE ...` a line for each module. `link` writes a file
+//! of the module into which modules are linked, with groups and members. `locate` writes a file of the
+//! absolute module of their location by a plan, `dump` prints the image, `bin` writes a file of its raw bytes
+//! and `txt` one of its TI-TXT text, `map` prints the sections and symbols with their addresses, and `addr`
+//! prints the function and the source line at an address. `fromtxt` writes a file of the module of a TI-TXT
+//! text, and `build` one of the module of a listing. `make` generates modules, locates them and prints a
+//! summary. `help` and `version` print texts of the program. `explain` before any of these prints their
+//! outcome, and what its error line names.
+//!
+//! The main clause is the contract of [`run`]: each outcome has its cause in the arguments, the files or the
+//! counts of I/O errors, and it states exactly what is output, printed as errors, and opened.
 #![tactic(auto)]
 
 mod command;

@@ -12,7 +12,7 @@ use mufom_numbers::NoMemory;
 use mufom_text::quoted_name;
 use std::alloc::Global;
 
-// How many items an item is, with those inside of it. Counts stop at the greatest of 64 bits.
+// The number of debug items in an item, itself included. Counts stop at 2^64 - 1.
 #[cycle(counting)]
 fn item_total(item: &DebugItem) -> u64
     ensures { result ≡ capped (item_count (marks_of_item item.now)) }
@@ -36,7 +36,7 @@ fn items_total(items: &[DebugItem]) -> u64
     total
 }
 
-// The debug items of a module at all depths.
+// The number of debug items of a module at all depths.
 fn debug_total(object: &Module) -> u64
     ensures { result ≡ item_count (marks_of object.now.debug) }
 {
@@ -74,7 +74,7 @@ fn push_line(
     Ok(())
 }
 
-/// A line for each module, by the number of its file.
+/// Returns a line for each module, with the number of its file.
 pub(crate) fn module_lines(alloc: Global, modules: &[Module]) -> Result<Vec<u8>, NoMemory>
     ensures { IfOk result (λ text. text.items ≡ check_text modules.now) }
 {

@@ -1,4 +1,4 @@
-//! Linking and locating the files of a command, and the command `link`.
+//! Links and locates the files of a command, and runs the command `link`.
 
 ghost use Rattle.std.specs.Prelude.{◌≡◌, ◌≤◌, ◌<◌, ◌+◌, ◌^◌, ◌∷◌, [], ℕ, length, None, Some, List as list, IfErr, IfOk, IfSome, IsSome, true};
 ghost use Rattle.mufom_host.specs.World.{GrowsBy, OnlyOpens};
@@ -39,7 +39,7 @@ use mufom_prune::{PruneRefusal, prune};
 use mufom_words::Command;
 use std::alloc::Global;
 
-/// The outcome if modules are not linked.
+/// The outcome if modules cannot be linked.
 pub(crate) fn outcome_of_link(refusal: LinkRefusal) -> Outcome
     ensures { result ≡ outcome_of_link refusal }
 {
@@ -49,7 +49,7 @@ pub(crate) fn outcome_of_link(refusal: LinkRefusal) -> Outcome
     }
 }
 
-/// The outcome if modules whose addresses have this number of units are not located.
+/// The outcome if modules cannot be located. `maus` is the length of an address in units.
 pub(crate) fn outcome_of_locate(maus: u8, refusal: LocateRefusal) -> Outcome
     ensures { result ≡ outcome_of_locate maus refusal }
 {
@@ -59,7 +59,7 @@ pub(crate) fn outcome_of_locate(maus: u8, refusal: LocateRefusal) -> Outcome
     }
 }
 
-/// The outcome if a module is not pruned.
+/// The outcome if a module cannot be pruned.
 pub(crate) fn outcome_of_prune(refusal: PruneRefusal) -> Outcome
     ensures { result ≡ outcome_of_prune refusal }
 {
@@ -69,7 +69,7 @@ pub(crate) fn outcome_of_prune(refusal: PruneRefusal) -> Outcome
     }
 }
 
-// The module into which the modules of the command are linked, or the outcome of the run.
+// Links the modules of the command into one, or returns the outcome of the run.
 fn linked(alloc: Global, command: &Command, modules: List<Module>) -> Result<Module, Outcome>
     requires { AreLinkable command.now modules }
     ensures ok { IfOk result (λ M. linked_module command.now modules (gives M)) }
@@ -86,7 +86,7 @@ fn linked(alloc: Global, command: &Command, modules: List<Module>) -> Result<Mod
     }
 }
 
-/// The location of a module by a plan, or the outcome of the run.
+/// Locates a module by a plan, or returns the outcome of the run.
 pub(crate) fn located(alloc: Global, object: &Module, plan: &Plan) -> Result<Located, Outcome>
     requires names { AreDistinct (names_of object.now.names.publics) }
     requires plan { IsSoundPlan plan.now }
@@ -101,7 +101,7 @@ pub(crate) fn located(alloc: Global, object: &Module, plan: &Plan) -> Result<Loc
     }
 }
 
-// The location of what remains of a module for the public symbol of a name, or the outcome of the run.
+// Locates what remains of a module for the public symbol with a name, or returns the outcome of the run.
 fn pruned_location(
     alloc: Global,
     object: &Module,
@@ -121,8 +121,8 @@ fn pruned_location(
     }
 }
 
-// The location of the module into which the files of the command are linked, or of what remains of it
-// where the command names a public symbol to keep; or the outcome of the run.
+// Locates the module into which the files of the command are linked, or what remains of it if the command
+// names a public symbol to keep; or returns the outcome of the run.
 fn kept_location(
     alloc: Global,
     command: &Command,
@@ -142,7 +142,7 @@ fn kept_location(
     }
 }
 
-// The location of the modules of the command, or the outcome of the run.
+// Links and locates the modules of the command, or returns the outcome of the run.
 fn location(alloc: Global, command: &Command, inputs: Inputs) -> Result<Located, Outcome>
     requires linkable { AreLinkable command.now inputs.modules }
     requires unnamed { command.now.name ≡ None }
@@ -158,7 +158,7 @@ fn location(alloc: Global, command: &Command, inputs: Inputs) -> Result<Located,
     }
 }
 
-/// Makes the file that the command names, of a module.
+/// Writes a module to the file that the command names.
 pub(crate) fn make_output<H: Host>(command: &Command, object: &Module, host: &mut H) -> Outcome
     requires { IsSome command.now.out }
     ensures held { IsHeld object.now }
@@ -172,7 +172,7 @@ pub(crate) fn make_output<H: Host>(command: &Command, object: &Module, host: &mu
     }
 }
 
-/// Reads the files of the command, links their modules, and makes a file of the link.
+/// Reads the files of the command, links their modules, and writes the link to a file.
 pub(crate) fn link<H: Host>(alloc: Global, command: &Command, host: &mut H) -> Outcome
     requires sound { IsSound command.now }
     requires of_files { reads_files command.now.verb ≡ true }
@@ -189,8 +189,8 @@ pub(crate) fn link<H: Host>(alloc: Global, command: &Command, host: &mut H) -> O
     }
 }
 
-/// Reads the plan and the files of the command, links their modules and locates the link; or the outcome
-/// of the run, whatever would be put out of the location.
+/// Reads the plan and the files of the command, links their modules and locates the link, or returns the
+/// outcome of the run. The output of the command does not matter here.
 pub(crate) fn locate_inputs<H: Host>(
     alloc: Global,
     command: &Command,

@@ -1,4 +1,4 @@
-//! The texts of refusals of locating.
+//! The texts of errors of locating.
 
 ghost use Rattle.std.specs.Prelude.{◌≡◌, ◌++◌, IfOk, OnOk};
 ghost use Rattle.std.specs.Fmt.{decimal};
@@ -16,7 +16,7 @@ use mufom_place::PlaceRefusal;
 use mufom_text::quoted_name;
 use std::alloc::Global;
 
-// The byte at a place of a number, the least significant at 0.
+// The byte at a position of a number; position 0 is the least significant.
 fn byte_of(number: u64, place: u8) -> u8
     ensures { result ≡ byte_at place number }
 {
@@ -48,7 +48,7 @@ fn push_address(alloc: Global, text: &mut Vec<u8>, maus: u8, at: u64) -> Result<
     Ok(())
 }
 
-// Adds words and a number.
+// Adds a text and a number.
 fn push_number(alloc: Global, text: &mut Vec<u8>, words: &[u8], number: u32) -> Result<(), NoMemory>
     ensures { OnOk result (text.new.items ≡ text.old.items ++ (words.now ++ decimal number)) }
 {
@@ -57,7 +57,7 @@ fn push_number(alloc: Global, text: &mut Vec<u8>, words: &[u8], number: u32) -> 
     Ok(())
 }
 
-/// Adds words and an address of `maus` units.
+/// Adds a text and an address of `maus` units.
 pub(crate) fn push_at(
     alloc: Global,
     text: &mut Vec<u8>,
@@ -79,7 +79,7 @@ pub(crate) fn push_quoted(alloc: Global, text: &mut Vec<u8>, name: &Bytes) -> Re
     Ok(())
 }
 
-// Adds words and a name in double quotes.
+// Adds a text and a name in double quotes.
 fn push_named(alloc: Global, text: &mut Vec<u8>, words: &str, name: &Bytes) -> Result<(), NoMemory>
     ensures { OnOk result (text.new.items ≡ text.old.items ++ (words.now ++ quoted_text name.now)) }
 {
@@ -87,7 +87,7 @@ fn push_named(alloc: Global, text: &mut Vec<u8>, words: &str, name: &Bytes) -> R
     push_quoted(alloc, text, name)
 }
 
-/// Adds the number of a region, where there is one.
+/// Adds the number of a region, if there is one.
 pub(crate) fn push_region(
     alloc: Global,
     text: &mut Vec<u8>,
@@ -101,7 +101,7 @@ pub(crate) fn push_region(
     }
 }
 
-// Adds the text of sections that can't be placed.
+// Adds the text of an error of placing sections.
 fn push_place(alloc: Global, text: &mut Vec<u8>, refusal: PlaceRefusal) -> Result<(), NoMemory>
     ensures { OnOk result (text.new.items ≡ text.old.items ++ place_text refusal) }
 {
@@ -146,7 +146,7 @@ fn kind_name(kind: FieldKind) -> &'static str
     }
 }
 
-/// Adds the text of a refusal of locating, in which an address has `maus` units.
+/// Adds the text of an error of locating, in which an address has `maus` units.
 pub(crate) fn push_locate(
     alloc: Global,
     text: &mut Vec<u8>,

@@ -21,10 +21,10 @@ use mufom_make::{made, summary_text};
 use mufom_words::Command;
 use std::alloc::Global;
 
-// How many addressable units an address of the generated modules has.
+// The length of an address of the generated modules, in addressable units.
 const UNITS: u8 = 4;
 
-/// The location of `count` generated modules, or the outcome of the run.
+/// Generates and locates `count` modules, or returns the outcome of the run.
 pub(crate) fn generated(alloc: Global, count: u32) -> Result<Located, Outcome>
     requires some { 1 ≤ count }
     requires few { count ≤ MOST_MODULES }

@@ -1,4 +1,4 @@
-//! The command that tells what is at which address: `map`.
+//! The command that prints the sections and symbols with their addresses: `map`.
 
 ghost use Rattle.std.specs.Prelude.{◌≡◌, ◌≤◌, ◌<◌, ◌+◌, ◌^◌, None, Some, length, true, IfErr, IfOk, List as list};
 ghost use Rattle.mufom_host.specs.World.{OnlyPrints};
@@ -43,14 +43,13 @@ use std::alloc::Global;
 /// A module with the origins of its entries.
 #[derive(Drop)]
 pub(crate) struct TracedModule {
-    /// The modules of the flat list, with their files and the numbers of those of their entries that the
-    /// module has.
+    /// The modules of the flat list, with their files and the numbers of their entries that the module has.
     pub(crate) origins: Origins,
     /// The link of the flat list, or what is kept of it.
     pub(crate) object: Module,
 }
 
-/// What a map is printed from.
+/// The values from which a map is printed.
 #[derive(Drop)]
 struct MapInputs {
     /// The modules of the flat list, as in [`TracedModule`].
@@ -61,7 +60,7 @@ struct MapInputs {
     located: Located,
 }
 
-/// The module into which the modules of the command are linked, with the members that it contains, or the
+/// Links the modules of the command into one, and returns it with the members that it contains, or the
 /// outcome of the run.
 pub(crate) fn linked_members(
     alloc: Global,
@@ -86,7 +85,7 @@ pub(crate) fn linked_members(
     }
 }
 
-/// The origins of those modules that are linked.
+/// Returns the origins of the modules that are linked.
 pub(crate) fn flat_origins(
     alloc: Global,
     origins: &Origins,
@@ -101,7 +100,7 @@ pub(crate) fn flat_origins(
     }
 }
 
-// The origins of what is left of a module, whose own these are.
+// The origins of what is left of a module, given those of the module.
 fn left_origins(alloc: Global, origins: &Origins, left: &Pruned) -> Result<Origins, Outcome>
     ensures ok { IfOk result (λ few. few ≡ origins_left left.now.sections.items left.now.publics.items origins.now) }
     ensures err { IfErr result (λ stop. stop ≡ Outcome.NoMemory) }
@@ -112,7 +111,7 @@ fn left_origins(alloc: Global, origins: &Origins, left: &Pruned) -> Result<Origi
     }
 }
 
-// What remains of a module for the public symbol of a name, with the origins of what remains; or the
+// What remains of a module for the public symbol with a name, with the origins of what remains; or the
 // outcome of the run.
 fn pruned_part(alloc: Global, whole: &TracedModule, name: &[u8]) -> Result<TracedModule, Outcome>
     requires names { AreDistinct (names_of whole.now.object.names.publics) }
@@ -135,7 +134,7 @@ fn pruned_part(alloc: Global, whole: &TracedModule, name: &[u8]) -> Result<Trace
     }
 }
 
-/// The module, or what remains of it where the command names a public symbol to keep; or the outcome of
+/// Returns the module, or what remains of it if the command names a public symbol to keep; or the outcome of
 /// the run.
 pub(crate) fn kept_part(
     alloc: Global,
@@ -155,8 +154,8 @@ pub(crate) fn kept_part(
     }
 }
 
-// The module into which the modules of the command are linked, with the origins of its entries, where
-// those of the modules are these; or the outcome of the run.
+// Links the modules of the command into one, and returns it with the origins of its entries, given those of
+// the modules; or the outcome of the run.
 fn traced_link(
     alloc: Global,
     command: &Command,
@@ -184,8 +183,8 @@ fn traced_link(
     }
 }
 
-// What the map of the modules of the command is printed from, whose origins are these; or the outcome of
-// the run.
+// The values from which the map of the command's modules is printed, given the origins of the modules; or the
+// outcome of the run.
 fn located_map(
     alloc: Global,
     command: &Command,
@@ -219,7 +218,7 @@ fn located_map(
     }
 }
 
-// The same, with the origins of the modules.
+// The same, without given origins.
 fn map_inputs(alloc: Global, command: &Command, inputs: Inputs) -> Result<MapInputs, Outcome>
     requires linkable { AreLinkable command.now inputs.modules }
     requires unnamed { command.now.name ≡ None }
@@ -254,7 +253,7 @@ fn print_mapped<H: Host>(alloc: Global, inputs: &MapInputs, host: &mut H) -> Out
 }
 
 /// Locates the files of the command, and prints the map: the modules with their files, the regions of the
-/// plan, and what is at which address.
+/// plan, and the sections and symbols with their addresses.
 pub(crate) fn map<H: Host>(alloc: Global, command: &Command, host: &mut H) -> Outcome
     requires sound { IsSound command.now }
     requires of_files { reads_files command.now.verb ≡ true }

@@ -1,4 +1,4 @@
-//! How a run ends, and what it refuses.
+//! The outcome of a run, and the reasons for which it is refused.
 
 ghost use Rattle.std.specs.Prelude.{◌≡◌};
 ghost use Rattle.mufom_command.specs.Complaint.{status_of};
@@ -22,26 +22,26 @@ pub enum Input {
     File(u32),
 }
 
-/// What a run refuses.
+/// Why a run is refused.
 #[derive(Debug, Drop)]
 pub enum Refusal {
     /// The file with this number is not a valid module.
     Read(u32, ReadRefusal),
-    /// With the file with this number, the files have too many bytes.
+    /// The total length of the files exceeds the limit in the file with this number.
     InputLimit(u32),
-    /// The arguments name this many files, which are too many.
+    /// The arguments name this many files, which is too many.
     TooManyFiles(u32),
-    /// This number of groups is open at once, more than a run may have.
+    /// This many groups are open at once, which is more than a run may have.
     TooDeep(u32),
     /// The file of the plan is not a valid plan.
     Plan(PlanRefusal),
-    /// The files, or those of a group, can't be linked.
+    /// The files, or those of a group, cannot be linked.
     Link(LinkRefusal),
-    /// The files can't be located, with the number of units in an address.
+    /// The files cannot be located. The number is the length of an address in units.
     Locate(LocateRefusal, u8),
-    /// No public symbol of the modules that are linked has this name, which is to be kept.
+    /// No public symbol of the linked modules has this name, which should be kept.
     Keep(Bytes),
-    /// The raw image would have this many bytes, which are too many.
+    /// The raw image would have this many bytes, which is too many.
     Bin(u128),
     /// The file is not a valid TI-TXT text.
     Text(TxtRefusal),
@@ -49,7 +49,7 @@ pub enum Refusal {
     Build(BuildRefusal),
 }
 
-/// How a run ended.
+/// The outcome of a run.
 #[derive(Debug, Drop)]
 pub enum Outcome {
     /// The command succeeded.

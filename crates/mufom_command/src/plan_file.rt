@@ -1,4 +1,4 @@
-//! Reading the plan that a command names.
+//! Reads the plan that a command names.
 
 ghost use Rattle.std.specs.Prelude.{◌≡◌, ◌∷◌, [], IfErr, IfOk, IfSome, OnSome, Ok, Some, option_to_list};
 ghost use Rattle.mufom_host.specs.World.{GrowsBy, OnlyOpens};
@@ -18,7 +18,7 @@ use mufom_plan::{Plan, PlanRefusal, read_plan};
 use mufom_words::Command;
 use std::alloc::Global;
 
-// The plan that the bytes state, or the outcome of the run.
+// The plan in these bytes, or the outcome of the run.
 fn plan_of(alloc: Global, text: &[u8]) -> Result<Plan, Outcome>
     ensures ok { IfOk result (λ plan. plan_of_text text.now ≡ Ok plan) }
     ensures sound { IfOk result IsSoundPlan }
@@ -46,7 +46,7 @@ fn read_plan_file<H: Host>(alloc: Global, name: &str, host: &mut H) -> Result<Pl
     }
 }
 
-/// Reads the plan that the command names; the one without regions if it names none.
+/// Reads the plan that the command names, or returns the one without regions if it names none.
 pub(crate) fn command_plan<H: Host>(
     alloc: Global,
     command: &Command,

@@ -21,7 +21,7 @@ use mufom_numbers::{Bytes, NoMemory};
 use mufom_words::Command;
 use std::alloc::Global;
 
-// Adds the name of a source file, or that there is none.
+// Adds the name of a source file, or `none`.
 fn push_source(alloc: Global, text: &mut Vec<u8>, source: &Option<Bytes>) -> Result<(), NoMemory>
     ensures { OnOk result (text.new.items ≡ text.old.items ++ source_text source.now) }
 {
@@ -32,7 +32,7 @@ fn push_source(alloc: Global, text: &mut Vec<u8>, source: &Option<Bytes>) -> Res
     Ok(())
 }
 
-// Adds the line of a function, or that there is none. Addresses have `maus` units.
+// Adds the line of a function, or of no function. Addresses have `maus` units.
 fn push_function(
     alloc: Global,
     text: &mut Vec<u8>,
@@ -54,7 +54,7 @@ fn push_function(
     Ok(())
 }
 
-// Adds the line of a source line, or that there is none. Addresses have `maus` units.
+// Adds the line of a source line, or of no line. Addresses have `maus` units.
 fn push_line(
     alloc: Global,
     text: &mut Vec<u8>,

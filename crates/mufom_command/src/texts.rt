@@ -1,4 +1,4 @@
-//! The commands that make a module of a text: `fromtxt` of a TI-TXT text, and `build` of a listing.
+//! The commands that make a module from a text: `fromtxt` from a TI-TXT text, and `build` from a listing.
 
 ghost use Rattle.std.specs.Prelude.{◌≡◌, ◌≤◌, ◌∷◌, [], ◌*◌, length, None, IfErr, IfOk, IfSome, IsSome, OnSome, true};
 ghost use Rattle.mufom_host.specs.World.{GrowsBy, OnlyOpens};
@@ -34,7 +34,8 @@ pub(crate) fn only_file(command: &Command) -> &str
     command.files.as_slice()[0].as_str()
 }
 
-/// The bytes of the text with this name, or the outcome of the run if they are not read or are too many.
+/// Reads the bytes of the text with this name, or returns the outcome of the run if they cannot be read or
+/// are too many.
 pub(crate) fn read_text<H: Host>(
     alloc: Global,
     name: &str,
@@ -56,7 +57,7 @@ pub(crate) fn read_text<H: Host>(
     }
 }
 
-// The rows of the bytes of a text, or the outcome of the run. An address has `maus` units.
+// The runs of a text, or the outcome of the run. An address has `maus` units.
 fn runs_of(alloc: Global, text: &[u8], maus: u8) -> Result<List<Run>, Outcome>
     requires low { 1 ≤ maus }
     requires high { maus ≤ 8 }
@@ -72,7 +73,7 @@ fn runs_of(alloc: Global, text: &[u8], maus: u8) -> Result<List<Run>, Outcome>
     }
 }
 
-/// The module of a text, or the outcome of the run. An address has `maus` units.
+/// Makes the module of a text, or returns the outcome of the run. An address has `maus` units.
 pub(crate) fn module_of(alloc: Global, text: &[u8], maus: u8) -> Result<Module, Outcome>
     requires low { 1 ≤ maus }
     requires high { maus ≤ 8 }
@@ -90,7 +91,7 @@ pub(crate) fn module_of(alloc: Global, text: &[u8], maus: u8) -> Result<Module, 
     }
 }
 
-/// The module that is built from a listing, or the outcome of the run.
+/// Builds a module from a listing, or returns the outcome of the run.
 pub(crate) fn built_from(alloc: Global, text: &[u8]) -> Result<Module, Outcome>
     requires { length text.now ≤ most }
     ensures ok { IfOk result (λ object. parts_of_listing text.now (gives object)) }
@@ -116,7 +117,7 @@ pub(crate) fn built_from(alloc: Global, text: &[u8]) -> Result<Module, Outcome>
     }
 }
 
-/// Reads the TI-TXT text that the command names, and makes a file of its module.
+/// Reads the TI-TXT text that the command names, and writes its module to a file.
 pub(crate) fn fromtxt<H: Host>(alloc: Global, command: &Command, host: &mut H) -> Outcome
     requires sound { IsSound command.now }
     requires of_files { reads_files command.now.verb ≡ true }
@@ -135,7 +136,7 @@ pub(crate) fn fromtxt<H: Host>(alloc: Global, command: &Command, host: &mut H) -
     }
 }
 
-/// Reads the listing that the command names, and makes a file of the module that is built from it.
+/// Reads the listing that the command names, and writes the module that is built from it to a file.
 pub(crate) fn build<H: Host>(alloc: Global, command: &Command, host: &mut H) -> Outcome
     requires sound { IsSound command.now }
     requires of_files { reads_files command.now.verb ≡ true }

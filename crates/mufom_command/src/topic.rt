@@ -1,4 +1,4 @@
-//! The topic of help that an outcome has.
+//! The help topic for an outcome.
 
 ghost use Rattle.std.specs.Prelude.{◌≡◌, map, option_map};
 ghost use Rattle.std.specs.String.{string_bytes};
@@ -128,7 +128,7 @@ fn command_name(word: &str) -> &str
     }
 }
 
-// The text of the command that arguments name; the list of commands if they name none.
+// The text of the command that the arguments name, or the list of commands if they name none.
 fn usage_topic(words: &[String]) -> &'static str
     ensures { result.now ≡ usage (map (λ word. string_bytes word) words.now) }
 {
@@ -141,8 +141,8 @@ fn usage_topic(words: &[String]) -> &'static str
     }
 }
 
-/// The text of help on the outcome of a run with these arguments. There is none of a run that is done, and
-/// of an input that was not read.
+/// Returns the help text on the outcome of a run with these arguments: that of the error for `Refused`, that
+/// of the command for `Usage`. Other outcomes have none.
 pub(crate) fn topic_of(words: &[String], answer: &Outcome) -> Option<&'static str>
     ensures { option_map (λ text. text.now) result ≡ topic (map (λ word. string_bytes word) words.now) answer.now }
 {

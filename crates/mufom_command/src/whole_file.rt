@@ -1,4 +1,4 @@
-//! Reading a whole file of a limited length.
+//! Reads a whole file of a limited length.
 
 ghost use Rattle.std.specs.Prelude.{◌≡◌, ◌⊎◌, ◌<◌, ◌∷◌, ◌++◌, [], length, take, IfErr, IfOk, IfSome, OnOk, OnSome, Ok, Err};
 ghost use Rattle.mufom_host.specs.World.{GrowsBy, OnlyOpens, OnlyReads, Reads, Rose};
@@ -9,10 +9,10 @@ use crate::outcome::{Input, Outcome};
 use mufom_host::{Failed, Host, Source};
 use std::alloc::{AllocError, Global};
 
-// How many bytes are asked for at once.
+// The number of bytes that one read requests.
 const CHUNK: usize = 16_384;
 
-/// Why bytes were not read.
+/// Why bytes could not be read.
 #[derive(Clone, Copy, Debug, PartialEq, Eq)]
 pub(crate) enum Halt {
     Fault,
@@ -29,7 +29,7 @@ impl From<AllocError> for Halt {
     }
 }
 
-// Reads once, and returns how many bytes were added.
+// Reads once, and returns the number of bytes that were added.
 fn read_chunk<S: Source>(
     source: &mut S,
     buffer: &mut [u8],
@@ -49,7 +49,7 @@ fn read_chunk<S: Source>(
     }
 }
 
-// Reads the bytes that the source has left, or more of them than the limit.
+// Reads all bytes that the source has left, or a prefix of them that is longer than the limit.
 fn read_bytes<S: Source>(
     source: &mut S,
     buffer: &mut [u8],
@@ -72,8 +72,8 @@ fn read_bytes<S: Source>(
     Ok(())
 }
 
-/// Opens the file with this name, and reads its bytes, or more of them than the limit. A read fault is
-/// that of `input`.
+/// Opens the file with this name, and reads all its bytes, or a prefix of them that is longer than the limit.
+/// A read fault is reported for `input`.
 pub(crate) fn read_whole<H: Host>(
     alloc: Global,
     name: &str,

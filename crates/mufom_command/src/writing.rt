@@ -1,4 +1,4 @@
-//! Making the file of a module, of a raw image, or of a TI-TXT text.
+//! Writes the file of a module, of a raw image, or of a TI-TXT text.
 
 ghost use Rattle.std.specs.Prelude.{flat_map, All, OnErr, OnOk};
 ghost use Rattle.mufom_host.specs.World.{MakingGrowsBy, MakingGrowsByPrefix, OnlyWrites, Rose};
@@ -17,7 +17,7 @@ use mufom_module::Module;
 use mufom_titxt::{write_end, write_run};
 use mufom_write::{write_module, write_raw};
 
-/// Makes a file with this name, which holds the module; returns the outcome, whose error line is not printed yet.
+/// Writes the module to a file with this name. Returns the outcome, whose error line is not printed yet.
 pub(crate) fn make_file<H: Host>(name: &str, object: &Module, host: &mut H) -> Outcome
     ensures { IsMadeAlone name.now (written object.now) (call_of H.meaning H.faults host.old host.new) result }
 {
@@ -33,8 +33,8 @@ pub(crate) fn make_file<H: Host>(name: &str, object: &Module, host: &mut H) -> O
     }
 }
 
-/// Makes a file with this name, which holds the raw image of the runs; returns the outcome, whose error line is
-/// not printed yet.
+/// Writes the raw image of the runs to a file with this name. Returns the outcome, whose error line is not
+/// printed yet.
 pub(crate) fn make_raw_file<H: Host>(name: &str, runs: &[Run], fill: u8, host: &mut H) -> Outcome
     ensures { IsMadeAlone name.now (raw_image fill runs.now) (call_of H.meaning H.faults host.old host.new) result }
 {
@@ -51,7 +51,7 @@ pub(crate) fn make_raw_file<H: Host>(name: &str, runs: &[Run], fill: u8, host: &
     }
 }
 
-// Writes the lines of runs to the file being made.
+// Writes the lines of runs to the file that is being written.
 fn write_runs<K: Sink>(runs: &[Run], sink: &mut K) -> Result<(), Failed>
     requires some { All HasByte runs.now }
     requires within { All FitsIn runs.now }
@@ -65,7 +65,7 @@ fn write_runs<K: Sink>(runs: &[Run], sink: &mut K) -> Result<(), Failed>
     Ok(())
 }
 
-// Writes the TI-TXT text of runs to the file being made. Allocates nothing.
+// Writes the TI-TXT text of runs to the file that is being written. Does not allocate.
 fn write_txt<K: Sink>(runs: &[Run], sink: &mut K) -> Result<(), Failed>
     requires some { All HasByte runs.now }
     requires within { All FitsIn runs.now }
@@ -80,8 +80,8 @@ fn write_txt<K: Sink>(runs: &[Run], sink: &mut K) -> Result<(), Failed>
     write_end(sink)
 }
 
-/// Makes a file with this name, which holds the TI-TXT text of the runs; returns the outcome, whose error line is
-/// not printed yet.
+/// Writes the TI-TXT text of the runs to a file with this name. Returns the outcome, whose error line is not
+/// printed yet.
 pub(crate) fn make_text_file<H: Host>(name: &str, runs: &[Run], host: &mut H) -> Outcome
     requires some { All HasByte runs.now }
     requires within { All FitsIn runs.now }

@@ -1,4 +1,4 @@
--- Debug marks whose expressions are replaced.
+-- Replacing the expressions of debug marks.
 use Rattle.std.specs.Prelude.{option_map}
 use Rattle.mufom_expr.specs.Tree.{Tree}
 use Rattle.mufom_debug.specs.declared.item.BlockHead.{BlockHead}

@@ -87,7 +87,7 @@ fn map_end<M: ExpressionMap>(
     }
 }
 
-// A copy of a block with these items, in which the other expressions are replaced.
+// A copy of a block with these items, in which the expressions of the head and the end are replaced.
 fn map_block<M: ExpressionMap>(
     alloc: Global,
     map: &M,

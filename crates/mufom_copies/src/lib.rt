@@ -1,9 +1,9 @@
-//! Copies of what a module states, and of modules.
+//! Copies of modules and of their parts.
 //!
 //! Linking or locating modules that are to stay unchanged needs copies of what stays the same.
 //! Debug items are copied unchanged, or with other expressions by an [`ExpressionMap`]. The crate
-//! depends on `mufom_module` and the crates of a module's values. Each clause states that the copy
-//! equals the original; out of memory is the only error.
+//! depends on `mufom_module` and the crates of a module's values. The clauses state that each copy
+//! equals the original, apart from the expressions that are replaced; out of memory is the only error.
 #![tactic(auto)]
 
 mod debug;

@@ -21,11 +21,11 @@ abbrev pub joined : {X : Type 0} → List (List X) → List X
 joined [] = []
 joined (xs ∷ more) = xs ++ joined more
 
--- one level of a block, with each item inside already seen as its marks
+-- the marks of a block, given the marks of each of its items
 abbrev pub block_step : Block-F (List DebugMark) (List DebugMark) → List DebugMark
 block_step b = (block_begin b.head b.name ∷ joined b.items) ++ block_end b.end ∷ []
 
--- one level of an item, with the block inside already seen as its marks
+-- the marks of an item; those of a block are given
 abbrev pub item_step : DebugItem-F (List DebugMark) (List DebugMark) → List DebugMark
 item_step (DebugItem-F.Block marks) = marks
 item_step (DebugItem-F.Name name) = name_mark name ∷ []
@@ -40,7 +40,7 @@ marks_of_item = fold-DebugItem (List DebugMark) (List DebugMark) item_step block
 abbrev pub marks_of : List DebugItem → List DebugMark
 marks_of items = joined (map marks_of_item items)
 
--- how many blocks are open after a mark
+-- the number of open blocks after a mark
 abbrev pub open_after : ℕ → DebugMark → ℕ
 open_after opened (block_begin head name) = opened + 1
 open_after opened (block_end end) = opened - 1
@@ -48,7 +48,7 @@ open_after opened (name_mark name) = opened
 open_after opened (note_mark name note) = opened
 open_after opened (value_mark name value) = opened
 
--- how many debug names are declared after a mark, if `n` are declared before it
+-- the number of debug names declared after a mark, if `n` are declared before it
 abbrev pub names_after : ℕ → DebugMark → ℕ
 names_after n (block_begin head name) = n
 names_after n (block_end end) = n
@@ -81,7 +81,7 @@ closes n (name_mark name ∷ marks) = closes n marks
 closes n (note_mark name note ∷ marks) = closes n marks
 closes n (value_mark name value ∷ marks) = closes n marks
 
--- after these marks as many blocks are open as before them, and their depth adds to that before them
+-- after these marks, as many blocks are open as before, and their depth is counted from that number
 pub record IsBalanced (marks : List DebugMark) : Type 0 where
   pub deep : (opened : ℕ) (rest : List DebugMark) → depth_from opened (marks ++ rest) ≡ max (opened + depth_of marks) (depth_from opened rest)
 

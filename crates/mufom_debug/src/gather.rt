@@ -48,7 +48,7 @@ fn gather<'a>(items: &'a [DebugItem], list: &mut Vec<&'a Postfix>) -> Result<(),
     Ok(())
 }
 
-/// All expressions of the items, in order. Those of a block are its offset, then those of its items, then
+/// All expressions of the items, in order: for a block its offset, then the expressions of its items, then
 /// its end. The items must be at most 32 deep.
 pub fn addresses(alloc: Global, items: &[DebugItem]) -> Result<Addresses<'_>, NoMemory>
     requires { depth_of (marks_of items.now) ≤ 32 }

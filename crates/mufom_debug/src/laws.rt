@@ -1,4 +1,4 @@
-//! Laws of the marks, each the contract of a function that does nothing.
+//! Laws about marks. Each law is the contract of a function with an empty body.
 
 ghost use Rattle.std.specs.Prelude.{◌≡◌, true, List};
 ghost use Rattle.mufom_debug.specs.declared.item.DebugItem.{DebugItem};

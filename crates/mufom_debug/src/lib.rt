@@ -3,7 +3,7 @@
 //! Blocks contain items, some of which are blocks. Contracts read the items as one flat list of marks, in
 //! the order of the file: a block is its start, its items and its end. The crate depends on
 //! `mufom_numbers`, `mufom_expr`, `mufom_names` and `arrayvec`. Its main clause is that [`addresses`]
-//! gives every expression once, in the order of the marks: those of a block are its offset, then those
+//! returns every expression once, in the order of the marks: for a block its offset, then the expressions
 //! of its items, then its end.
 #![tactic(auto)]
 

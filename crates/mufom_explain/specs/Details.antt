@@ -1,4 +1,4 @@
--- The lines that follow an error line of linking or locating: what is behind each number and name in it.
+-- The lines that follow an error line of linking or locating. They say what the numbers and names in it refer to.
 use Rattle.std.specs.Prelude.{ℕ, ◌-◌, List, [], ◌∷◌, ◌++◌, filter, find, flat_map, length}
 use Rattle.std.specs.Prelude.{take, Option, Some, None, option_to_list, Bool, false, not, is_some, slice_get}
 use Rattle.std.specs.List.{enumerate_from}
@@ -27,7 +27,7 @@ use Rattle.mufom_explain.specs.Region.{region_line, taken_in}
 
 -- ---- linking
 
--- lines of modules with their positions
+-- the lines of modules at their positions
 abbrev pub listed : FileNames → List (ℕ × FileModule) → Text
 listed names modules = flat_map (λ p. module_line names p.0 p.1) modules
 
@@ -47,7 +47,7 @@ first_line names flat = listed names (take 1 (enumerate_from 0 flat))
 abbrev pub other_line : FileNames → List FileModule → Text
 other_line names flat = listed names (option_to_list (find (differs_from flat) (enumerate_from 0 flat)))
 
--- both
+-- the first module, and the first with another descriptor
 abbrev pub mismatch_lines : FileNames → List FileModule → Text
 mismatch_lines names flat = first_line names flat ++ other_line names flat
 
@@ -55,23 +55,23 @@ mismatch_lines names flat = first_line names flat ++ other_line names flat
 abbrev pub start_lines : FileNames → List FileModule → Text
 start_lines names flat = listed names (take 2 (filter has_start (enumerate_from 0 flat)))
 
--- What follows the line of a list of modules that is not linked.
+-- The lines after the error line of a list of modules that cannot be linked.
 abbrev pub link_details : FileNames → List FileModule → LinkRefusal → Text
 link_details names flat (link.Mismatch first other) = mismatch_lines names flat
 link_details names flat (link.Duplicate name) = mention_text names flat (name ∷ [])
 link_details names flat link.DuplicateStart = start_lines names flat
 link_details names flat link.NoMemory = []
 
--- ---- a name that is to be kept
+-- ---- a name that should be kept
 
--- What follows the line of a name that no module defines: the modules that refer to it.
+-- The lines after the error line of a name that no module defines: the modules that refer to it.
 abbrev pub name_details : FileNames → List FileModule → List ℕ → Text
 name_details names flat name = mention_text names flat (name ∷ [])
 
 -- ---- locating
 
--- What explains an error of locating: the names of the files, the flat list, and what is located of it: the origins of its entries,
--- the length of an address in units, the modules, which are the list, its link or what is kept of that, and the plan.
+-- The context in which an error of locating is explained: the names of the files, the flat list, the origins of the located entries, the length of an
+-- address in units, the located modules (the flat list, its link, or what is kept of the link), and the plan.
 pub record Explained : Type 0 where
   pub names : FileNames
   pub flat : List FileModule
@@ -86,13 +86,13 @@ sections_of e = flat_sections e.modules
 abbrev pub commons_of : Explained → List Section
 commons_of e = placed_commons e.modules e.plan
 
--- the section, or else the common, with a number
+-- the lines of the section with a number, or otherwise of the common
 abbrev pub numbered_lines : Explained → ℕ → Option Section → Option Section → Text
 numbered_lines e n (Some s) common = section_line e.maus e.names e.origins n s
 numbered_lines e n None (Some s) = common_lines e.names e.flat n s
 numbered_lines e n None None = []
 
--- what is said of the section or common with a number; the commons are numbered after the sections
+-- the lines of the section or common with a number; the commons are numbered after the sections
 abbrev pub entry_lines : Explained → ℕ → Text
 entry_lines e n = numbered_lines e n (slice_get (sections_of e) n) (slice_get (commons_of e) (n - length (sections_of e)))
 
@@ -122,7 +122,7 @@ site_details e (site.Debug n) = []
 abbrev pub undefined_names : List Parts → List (List ℕ)
 undefined_names ms = filter (λ name. not (has_name (common_names ms) name)) (needs ms)
 
--- What follows the line of modules that are not located. Of undefined names all are told.
+-- The lines after the error line of modules that cannot be located. All undefined names are listed.
 abbrev pub locate_details : Explained → LocateRefusal → Text
 locate_details e (locate.Place r) = placement_details e r
 locate_details e (locate.Undefined name) = mention_text e.names e.flat (undefined_names e.modules)

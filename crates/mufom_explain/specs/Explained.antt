@@ -1,4 +1,4 @@
--- What an error is explained by, as the code has it, and the lines that are put of it.
+-- The values with which the code explains an error, and the lines that it makes of them.
 use Rattle.std.specs.Prelude.{ℕ, ◌-◌, ◌&&◌, Bool, List, [], ◌∷◌, ◌++◌, Option, Some, None, nat_lt, slice_get, if◌then◌else◌}
 use Rattle.mufom_plan.specs.declared.plan.Region.{Region}
 use Rattle.mufom_text.specs.Words.{Text}
@@ -19,15 +19,15 @@ use Rattle.mufom_explain.specs.Region.{region_line}
 
 -- ---- linking
 
--- a line is left to put, and the module has a start
+-- a line is left, and the module has a start
 abbrev pub is_told : ℕ → ℕ × FileModule → Bool
 is_told left p = nat_lt 0 left && has_start p
 
--- how many lines are left to put after the module
+-- the number of lines that are left after the module
 abbrev pub left_after : ℕ → ℕ × FileModule → ℕ
 left_after left p = if is_told left p then left - 1 else left
 
--- the line of the module, if it is told
+-- the line of the module, if a line is left and it has a start
 abbrev pub start_line : FileNames → ℕ → ℕ × FileModule → Text
 start_line names left p = if is_told left p then module_line names p.0 p.1 else []
 
@@ -40,7 +40,7 @@ link_lines names flat link.Nothing = []
 abbrev pub link_text : LinkDetails → Text
 link_text d = link_lines d.names.now (flat_of d.flat.now) d.kind
 
--- ---- a name that is to be kept
+-- ---- a name that should be kept
 
 abbrev pub name_text : NameDetails → Text
 name_text d = mention_text d.names.now (flat_of d.mentions.flat.now) (wanted_names d.mentions.wanted)
@@ -61,7 +61,7 @@ abbrev pub taken_at : Explained → ℕ → ℕ → Option Region → Text
 taken_at e n taken None = []
 taken_at e n taken (Some region) = region_line e.maus n region taken
 
--- the line of the region with a number, whose sections reach so far
+-- the line of the region with a number, whose sections take this much space
 abbrev pub taken_text : Explained → ℕ → ℕ → Text
 taken_text e n taken = taken_at e n taken (slice_get e.plan.regions n)
 

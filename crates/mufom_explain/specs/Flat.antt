@@ -11,7 +11,7 @@ file_module m = (m.file, m.parts.now)
 abbrev pub flat_of : List FlatModule → List FileModule
 flat_of modules = map file_module modules
 
--- the modules alone
+-- the modules, without their files
 abbrev pub parts_of : List FlatModule → List Parts
 parts_of modules = map (λ (m : FlatModule). m.parts.now) modules
 

@@ -1,15 +1,15 @@
--- What holds of explanations.
+-- Laws about explanations.
 use Rattle.std.specs.Prelude.{◌≡◌, List}
 use Rattle.mufom_module.specs.declared.module.Parts.{Parts}
 use Rattle.mufom_image.specs.declared.refusal.LocateRefusal.{LocateRefusal}
 use Rattle.mufom_meaning.specs.StagingLaws.{MeansTheSame}
 use Rattle.mufom_explain.specs.Details.{Explained, locate_details}
 
--- the same of other modules
+-- the same context with other modules
 abbrev pub with_modules : Explained → List Parts → Explained
 with_modules e ms = record e { modules = ms }
 
--- An error in locating is explained alike for lists of modules that mean the same. So it doesn't matter whether the list or its link is
+-- An error of locating is explained in the same way for lists of modules that mean the same. So it does not matter whether the list or its link is
 -- located.
 abbrev pub ExplanationsAreAlike : Type 0
 ExplanationsAreAlike =

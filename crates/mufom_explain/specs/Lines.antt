@@ -1,4 +1,4 @@
--- The lines that tell what the numbers of an error line are: a file, the plan, a module, a section or a common.
+-- The lines that say what the numbers of an error line refer to: a file, the plan, a module, a section or a common.
 use Rattle.std.specs.Prelude.{ℕ, List, [], ◌++◌, map, Option, Some, None, Bool, ◌&&◌, slice_get, slice_index_or, codes, if◌then◌else◌}
 use Rattle.std.specs.List.{list_any}
 use Rattle.std.specs.Str.{bytes_eq}
@@ -44,7 +44,7 @@ abbrev pub base_text : ℕ → Option ℕ → Text
 base_text maus None = []
 base_text maus (Some base) = codes " base " ++ hex maus base
 
--- after a comma, the module with this position
+-- the module at this position, after a comma
 abbrev pub origin_text : FileNames → ℕ → Option Origin → Text
 origin_text names j None = []
 origin_text names j (Some o) = codes ", " ++ module_text names j o.file o.name
@@ -54,29 +54,29 @@ abbrev pub place_text : FileNames → List Origin → Option ℕ → Text
 place_text names origins None = []
 place_text names origins (Some j) = origin_text names j (slice_get origins j)
 
--- what a section or a common is, after a word and its number
+-- the description of a section or a common, after a word and its number
 abbrev pub described : Text → ℕ → Section → Text
 described word n s = counted word n ++ (codes ": " ++ (quoted s.name ++ (counted (codes " size ") s.size ++ counted (codes " align ") s.align)))
 
--- a section with its number, in a list of modules of these origins
+-- the line of a section with its number; the modules have these origins
 abbrev pub section_line : ℕ → FileNames → List Origin → ℕ → Section → Text
 section_line maus names origins n s = line (described (codes "section ") n s
     ++ (base_text maus s.base ++ place_text names origins (module_in (map (λ (o : Origin). o.sections) origins) n)))
 
 -- ---- commons
 
--- a weak reference of the name asks for room
+-- a weak reference with the name requests space
 abbrev pub asks_by : List ℕ → Reference → Bool
 asks_by name r = is_common r && bytes_eq r.name name
 
--- one of the module does
+-- a weak reference of the module does
 abbrev pub asks_for : List ℕ → Parts → Bool
 asks_for name m = list_any (asks_by name) m.names.references
 
 abbrev pub asking_line : FileNames → List ℕ → ℕ → FileModule → Text
 asking_line names name j f = if asks_for name f.1 then codes "  " ++ module_line names j f else []
 
--- a common with its number, and the modules of the flat list that ask for it
+-- a common with its number, and the modules of the flat list that request space for it
 abbrev pub common_lines : FileNames → List FileModule → ℕ → Section → Text
 common_lines names flat n s =
     line (described (codes "common ") n s) ++ each (asking_line names s.name) flat

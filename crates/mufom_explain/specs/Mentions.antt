@@ -1,4 +1,4 @@
--- Which modules of a flat list define a name or refer to it, and the lines that tell it.
+-- The modules of a flat list that define a name or refer to it, and the lines that list them.
 use Rattle.std.specs.Prelude.{ℕ, ◌+◌, List, [], ◌∷◌, ◌++◌, flat_map, map, Bool, ◌||◌, codes, if◌then◌else◌}
 use Rattle.std.specs.List.{list_any}
 use Rattle.std.specs.Str.{bytes_eq}
@@ -22,7 +22,7 @@ defines_among publics name = list_any (λ (p : Public). bytes_eq p.name name) pu
 abbrev pub refers_among : List Reference → List ℕ → Bool
 refers_among references name = list_any (λ (r : Reference). bytes_eq r.name name) references
 
--- the module with this position mentions a name by an entry of this kind
+-- a mention of a name by the module at this position, with an entry of this kind
 abbrev pub mention : ℕ → MentionKind → Mention
 mention j kind = record { position = j; kind = kind }
 
@@ -30,17 +30,17 @@ mention j kind = record { position = j; kind = kind }
 abbrev pub mention_if : Bool → ℕ → MentionKind → List Mention
 mention_if b j kind = if b then mention j kind ∷ [] else []
 
--- how a module mentions a name: by a public, and by a reference, each once
+-- the mentions of a name by a module: one if a public has the name, and one if a reference has it
 abbrev pub mentions_by : List ℕ → ℕ → Parts → List Mention
 mentions_by name j m = mention_if (defines_among m.names.publics name) j kinds.Public
     ++ mention_if (refers_among m.names.references name) j kinds.Reference
 
--- the same of all modules, if the first has this position
+-- the mentions by all modules, if the first has this position
 abbrev pub mentions_from : ℕ → List Parts → List ℕ → List Mention
 mentions_from j [] name = []
 mentions_from j (m ∷ ms) name = mentions_by name j m ++ mentions_from (j + 1) ms name
 
--- how the modules of a list mention a name, in their order
+-- the mentions of a name by the modules of a list, in their order
 abbrev pub mentions_of : List Parts → List ℕ → List Mention
 mentions_of ms name = mentions_from 0 ms name
 
@@ -63,6 +63,6 @@ mentions_any wanted m = list_any (λ (p : Public). has_name wanted p.name) m.nam
 abbrev pub named_line : FileNames → List (List ℕ) → ℕ → FileModule → Text
 named_line names wanted j f = if mentions_any wanted f.1 then module_line names j f else []
 
--- The lines of the mentions of some names, one name after another, and then a line for each module that has one of them.
+-- The lines of the mentions of these names, one name after another, followed by a line for each module that mentions one of them.
 abbrev pub mention_text : FileNames → List FileModule → List (List ℕ) → Text
 mention_text names flat wanted = flat_map (name_lines (map (λ (f : FileModule). f.1) flat)) wanted ++ each (named_line names wanted) flat

@@ -1,4 +1,4 @@
--- Adding mentions of names one after another, for each name in a list of its own, if no mention is told twice in a row.
+-- Adding mentions one after another, to a list for each name. A mention is not added twice in a row.
 use Rattle.std.specs.Prelude.{ℕ, ◌-◌, ◌==◌, ◌&&◌, List, [], ◌∷◌, ◌++◌, length, slice_get, Option, Some, None, Bool, true, false, if◌then◌else◌, ◌≡◌}
 use Rattle.std.specs.Str.{bytes_eq}
 use Rattle.mufom_explain.specs.declared.mention.Mention.{Mention}
@@ -22,7 +22,7 @@ is_mention (Some n) m = same_mention n m
 abbrev pub ends_with : List Mention → Mention → Bool
 ends_with mentions m = is_mention (slice_get mentions (length mentions - 1)) m
 
--- one mention more, unless it is the last already
+-- the mentions with one more, unless it is already the last one
 abbrev pub noted : List Mention → Mention → List Mention
 noted mentions m = if ends_with mentions m then mentions else mentions ++ m ∷ []
 
@@ -30,11 +30,11 @@ noted mentions m = if ends_with mentions m then mentions else mentions ++ m ∷ 
 abbrev pub Told : Type 0
 Told = List ℕ → List Mention
 
--- the same with one more for one of the names, unless it is the last already
+-- the same with one more for this name, unless it is already the last one
 abbrev pub noted_for : Told → List ℕ → Mention → Told
 noted_for told name m w = if bytes_eq name w then noted (told w) m else told w
 
--- the same with one more for each name of which this holds
+-- the same with one more for each name for which the test holds
 abbrev pub told_with : Told → (List ℕ → Bool) → Mention → Told
 told_with told holds m w = if holds w then told w ++ m ∷ [] else told w
 

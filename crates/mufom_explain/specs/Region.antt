@@ -1,4 +1,4 @@
--- How far the sections that a plan places in a region reach, and the line of that region. All numbers are exact.
+-- The space that the sections placed in a region take, and the line of that region. All numbers are exact.
 use Rattle.std.specs.Prelude.{ℕ, ◌+◌, ◌-◌, ◌==◌, max, List, [], ◌∷◌, ◌++◌, Option, Some, None, slice_get, codes, if◌then◌else◌}
 use Rattle.mufom_sections.specs.declared.section.Section.{Section}
 use Rattle.mufom_plan.specs.declared.plan.Plan.{Plan}
@@ -12,16 +12,16 @@ abbrev pub size_of : Option Section → ℕ
 size_of None = 0
 size_of (Some s) = s.size
 
--- the end of a section that the region with this position places, and 0 for a section of another region
+-- the end of a section that the region with this position places, or 0 for a section of another region
 abbrev pub end_in : List Section → ℕ → Placing → ℕ
 end_in all region p = if p.region == region then p.base + size_of (slice_get all p.section) else 0
 
--- the greatest end of them
+-- the greatest of these ends
 abbrev pub greatest_end : List Section → ℕ → List Placing → ℕ
 greatest_end all region [] = 0
 greatest_end all region (p ∷ placed) = max (end_in all region p) (greatest_end all region placed)
 
--- how far the sections and commons of a region reach above its base
+-- the distance from a region's base to the greatest end of the sections and commons that it places
 abbrev pub taken_in : Plan → (sections commons : List Section) → ℕ → Region → ℕ
 taken_in plan sections commons n region = greatest_end (sections ++ commons) n (placings plan sections commons) - region.base
 

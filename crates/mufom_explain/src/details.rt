@@ -1,4 +1,4 @@
-//! The lines that follow an error line, as they were found.
+//! The lines that follow an error line, as values from which they are printed.
 
 ghost use Rattle.std.specs.Prelude.{◌≡◌, ◌∷◌, []};
 ghost use Rattle.mufom_meaning.specs.Placed.{placed_commons};
@@ -12,7 +12,7 @@ use mufom_origins::Origins;
 use mufom_plan::Plan;
 use mufom_sections::Section;
 
-// Which lines are put.
+// The lines to put.
 #[derive(Drop)]
 pub(crate) enum LinkKind<'a> {
     // The first module, and the first with another descriptor.
@@ -23,7 +23,7 @@ pub(crate) enum LinkKind<'a> {
     Nothing,
 }
 
-/// The lines that follow the error line of a list of modules that is not linked.
+/// The lines that follow the error line of a list of modules that cannot be linked.
 #[derive(Drop)]
 pub struct LinkDetails<'a> {
     pub(crate) names: &'a [Text],
@@ -31,33 +31,34 @@ pub struct LinkDetails<'a> {
     pub(crate) kind: LinkKind<'a>,
 }
 
-/// The lines that follow the error line of a name that is to be kept and that no module defines.
+/// The lines that follow the error line of a name that should be kept and that no module defines.
 #[derive(Drop)]
 pub struct NameDetails<'a> {
     pub(crate) names: &'a [Text],
     pub(crate) mentions: Mentions<'a>,
 }
 
-/// What the error of a module that is not located is explained by.
+/// The context in which the error of a module that cannot be located is explained.
 #[derive(Clone, Copy)]
 pub struct LocateContext<'a> {
     /// The names of the files, as they were given.
     pub names: &'a [Text],
     /// The modules of the flat list.
     pub flat: &'a [FlatModule<'a>],
-    /// What is left of their origins in the module that is located.
+    /// The origins of the entries of the module that is located.
     pub origins: &'a Origins,
     /// The module that is located: the link of the flat list, or what is left of it.
     pub object: &'a Module,
     pub plan: &'a Plan,
 }
 
-// Which lines are put. Sections and commons are given by their numbers.
+// The lines to put. Sections and commons are given by their numbers.
 #[derive(Drop)]
 pub(crate) enum LocateKind<'a> {
     Entry(u32),
     Entries(u32, u32),
-    // A section that does not fit, and its region, with how far the region's sections reach above its base.
+    // A section that does not fit, and its region, with the space that the region's sections take from its
+    // base on.
     Misfit {
         section: u32,
         region: u32,
@@ -67,7 +68,7 @@ pub(crate) enum LocateKind<'a> {
     Nothing,
 }
 
-/// The lines that follow the error line of a module that is not located.
+/// The lines that follow the error line of a module that cannot be located.
 #[derive(Drop)]
 pub struct LocateDetails<'a> {
     pub(crate) context: LocateContext<'a>,

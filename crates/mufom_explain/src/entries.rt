@@ -56,7 +56,7 @@ fn origin_at<K: Output>(out: &mut K, names: &[Text], origins: &[Origin], positio
     }
 }
 
-// The module of a place, if there is one.
+// The module of a place, if there is a place.
 fn place_text<K: Output>(out: &mut K, names: &[Text], origins: &Origins, place: Option<Place>)
     ensures { K.takes out.old out.new (place_text names.now origins.now (option_map (λ p. p.«module») place)) }
 {
@@ -66,7 +66,7 @@ fn place_text<K: Output>(out: &mut K, names: &[Text], origins: &Origins, place: 
     }
 }
 
-// What a section or a common is, after a word and its number.
+// The description of a section or a common, after a word and its number.
 fn described<K: Output>(out: &mut K, word: &[u8], number: u32, section: &Section)
     ensures { K.takes out.old out.new (described word.now number section.now) }
 {
@@ -96,7 +96,7 @@ pub(crate) fn section_line<K: Output>(
     out.put(b"\n");
 }
 
-// Whether a reference of this name asks for room.
+// Whether a reference has this name and requests space.
 fn asks_by(name: &[u8], reference: &Reference) -> bool
     ensures { result ≡ asks_by name.now reference.now }
 {
@@ -106,7 +106,7 @@ fn asks_by(name: &[u8], reference: &Reference) -> bool
     }
 }
 
-// Whether one of a module does.
+// Whether a reference of a module has this name and requests space.
 fn asks_for(name: &[u8], parts: &Parts) -> bool
     ensures { result ≡ asks_for name.now parts.now }
 {
@@ -114,7 +114,7 @@ fn asks_for(name: &[u8], parts: &Parts) -> bool
     references.iter().any(|r| asks_by(name, r))
 }
 
-// The line of a module that asks for room.
+// The line of a module that requests space.
 fn indented_line<K: Output>(out: &mut K, names: &[Text], position: usize, module: &FlatModule<'_>)
     ensures { K.takes out.old out.new (codes "  " ++ module_line names.now position (file_module «module».now)) }
 {
@@ -122,7 +122,7 @@ fn indented_line<K: Output>(out: &mut K, names: &[Text], position: usize, module
     module_line(out, names, position, module);
 }
 
-// The line of a module, if it asks for room for the name.
+// The line of a module, if it requests space for the name.
 fn asking_line<K: Output>(
     out: &mut K,
     names: &[Text],
@@ -138,7 +138,7 @@ fn asking_line<K: Output>(
     }
 }
 
-// The lines of those modules that ask for room for the name.
+// The lines of the modules that request space for the name.
 fn asking_lines<K: Output>(out: &mut K, names: &[Text], flat: &[FlatModule<'_>], name: &[u8])
     ensures { K.takes out.old out.new (each (asking_line names.now name.now) (flat_of flat.now)) }
 {
@@ -147,7 +147,7 @@ fn asking_lines<K: Output>(out: &mut K, names: &[Text], flat: &[FlatModule<'_>],
     }
 }
 
-/// The line of a common with its number, and those of the modules that ask for room for its name.
+/// Puts the line of a common with its number, and those of the modules that request space for its name.
 pub(crate) fn common_lines<K: Output>(
     out: &mut K,
     names: &[Text],

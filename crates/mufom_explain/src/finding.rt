@@ -1,4 +1,4 @@
-//! Finding the modules of a flat list that define some names or refer to them.
+//! Finds the modules of a flat list that define names or refer to them.
 
 ghost use Rattle.std.specs.Prelude.{◌≡◌, ◌+◌, ◌<◌, ◌^◌, [], IfOk, OnOk, length, map, replicate, take};
 ghost use Rattle.mufom_explain.specs.Flat.{parts_of, wanted_names};
@@ -35,7 +35,7 @@ fn is_last(mentions: &[Mention], mention: Mention) -> bool
     }
 }
 
-// Adds a mention, unless it is the last already.
+// Adds a mention, unless it is already the last one.
 fn note(mentions: &mut List<Mention>, mention: Mention) -> Result<(), NoMemory>
     ensures { OnOk result (mentions.new ≡ noted mentions.old mention) }
 {
@@ -45,7 +45,7 @@ fn note(mentions: &mut List<Mention>, mention: Mention) -> Result<(), NoMemory>
     mentions.push(mention)
 }
 
-// Adds a mention to the list of a name, if that is one of the names that are looked for.
+// Adds a mention to the list of a name, if the name is wanted.
 fn note_name(
     lists: &mut Vec<List<Mention>>,
     wanted: &Wanted<'_>,
@@ -64,7 +64,7 @@ fn note_name(
     Ok(())
 }
 
-// Adds a mention to the lists of those names that publics have.
+// Adds a mention to the lists of the wanted names that publics have.
 fn note_publics(
     lists: &mut Vec<List<Mention>>,
     wanted: &Wanted<'_>,
@@ -86,7 +86,7 @@ fn note_publics(
     Ok(())
 }
 
-// Adds a mention to the lists of those names that references have.
+// Adds a mention to the lists of the wanted names that references have.
 fn note_references(
     lists: &mut Vec<List<Mention>>,
     wanted: &Wanted<'_>,
@@ -152,8 +152,8 @@ fn all_mentions(
     Ok(lists)
 }
 
-/// The mentions of some names by the modules of a flat list. Time is proportional to the names of the
-/// modules, and memory to the mentions.
+/// Finds the mentions of the wanted names by the modules of a flat list. The time is proportional to the
+/// number of names in the modules, and the memory to the number of mentions.
 pub(crate) fn find_mentions<'a>(
     alloc: Global,
     wanted: Wanted<'a>,

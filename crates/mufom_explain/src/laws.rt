@@ -1,9 +1,9 @@
-//! What holds of explanations, the contract of a function that does nothing.
+//! A law about explanations, the contract of a function that does nothing.
 
 ghost use Rattle.mufom_explain.specs.Laws.{ExplanationsAreAlike};
 
-/// An error in locating is explained alike for lists of modules that mean the same, as the link of a list
-/// and the list do.
+/// An error of locating is explained in the same way for lists of modules that mean the same, as a list and
+/// its link do.
 pub fn explanations_are_alike()
     ensures { ExplanationsAreAlike }
 {}

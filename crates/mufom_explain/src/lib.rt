@@ -1,10 +1,11 @@
-//! Explains error lines of linking and locating: names the sections, modules and files behind the numbers
-//! of a line, and the modules that define a name or refer to it.
+//! Explains error lines of linking and locating: gives the sections, modules and files to which the numbers
+//! of a line refer, and the modules that define a name or refer to it.
 //!
 //! It depends on `mufom_link` and `mufom_image` for the errors, on `mufom_place` for the regions, on
-//! `mufom_origins` for the modules that sections come from, and on `mufom_text` and `mufom_map` for the
-//! words of texts. Its main clauses are those of [`explain_link`], [`explain_locate`] and [`explain_name`]: the lines that
-//! are put are exactly those that `link_details`, `locate_details` and `name_details` define.
+//! `mufom_origins` for the modules from which sections come, and on `mufom_text` and `mufom_map` for numbers
+//! and names in text. Its main clauses are those of [`explain_link`], [`explain_locate`] and
+//! [`explain_name`]: the lines are exactly those that `link_details`, `locate_details` and `name_details`
+//! define.
 #![tactic(auto)]
 
 mod details;

@@ -7,7 +7,7 @@ use mufom_map::counted;
 use mufom_numbers::Text;
 use mufom_text::{Output, quoted};
 
-/// The name of the file with a number, as it was given; no bytes past the last file.
+/// Returns the name of the file with a number, as it was given; empty past the last file.
 pub(crate) fn file_name(names: &[Text], number: u32) -> &[u8]
     ensures { result.now ≡ file_name names.now number }
 {
@@ -17,7 +17,7 @@ pub(crate) fn file_name(names: &[Text], number: u32) -> &[u8]
     }
 }
 
-/// The line of the file with a number, of files with these names, as in `file 2: "b.695"`.
+/// Puts the line of the file with a number, as in `file 2: "b.695"`. `names` are the names of all files.
 pub fn file_line<K: Output>(out: &mut K, names: &[Text], number: u32)
     ensures { K.takes out.old out.new (file_line names.now number) }
 {
@@ -27,7 +27,7 @@ pub fn file_line<K: Output>(out: &mut K, names: &[Text], number: u32)
     out.put(b"\n");
 }
 
-/// The line of the plan, by the name of its file, as in `plan: "plan.toml"`.
+/// Puts the line of the plan with the name of its file, as in `plan: "plan.toml"`.
 pub fn plan_line<K: Output>(out: &mut K, name: &Text)
     ensures { K.takes out.old out.new (plan_line name.now) }
 {

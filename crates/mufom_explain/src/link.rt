@@ -1,4 +1,4 @@
-//! What the error of a list of modules that is not linked names.
+//! Explains the error of a list of modules that cannot be linked.
 
 ghost use Rattle.std.specs.Prelude.{◌≡◌, ◌<◌, ◌^◌, ℕ, List as list, IfOk, length};
 ghost use Rattle.mufom_meaning.specs.LinkAnswer.{same_order};
@@ -39,7 +39,7 @@ fn differs_from(flat: &[FlatModule<'_>], module: &Parts) -> bool
     }
 }
 
-// The line of the first module with another descriptor than the first module, if there is one.
+// The line of the first module whose descriptor differs from that of the first module, if there is one.
 fn other_line<K: Output>(out: &mut K, names: &[Text], flat: &[FlatModule<'_>])
     ensures { K.takes out.old out.new (other_line names.now (flat_of flat.now)) }
 {
@@ -61,7 +61,8 @@ fn first_line<K: Output>(out: &mut K, names: &[Text], flat: &[FlatModule<'_>])
     }
 }
 
-// The line of a module, if it has a start and a line is left to put. Returns how many are left then.
+// The line of a module, if it has a start and a line is left. Returns the number of lines that are left after
+// it.
 fn start_line<K: Output>(
     out: &mut K,
     names: &[Text],
@@ -109,7 +110,7 @@ impl<'a> Lines for LinkDetails<'a> {
     }
 }
 
-// Which lines an error asks for.
+// The kind of lines that explain an error.
 fn kind_of<'a>(
     alloc: Global,
     flat: &'a [FlatModule<'a>],
@@ -131,10 +132,11 @@ fn kind_of<'a>(
     }
 }
 
-/// The lines that follow the error line of a flat list of modules that is not linked: the first module and
-/// the first with another descriptor, all modules that mention the name of a duplicate, or the first two
-/// modules with a start. `names` are the names of the files, as they were given. Time is proportional to
-/// the names of the modules, and memory to the mentions. The only error is out of memory.
+/// Returns the lines that follow the error line of a flat list of modules that cannot be linked: the first
+/// module and the first with another descriptor, all modules that mention the name of a duplicate, or the
+/// first two modules with a start. `names` are the names of the files, as they were given. The time is
+/// proportional to the number of names in the modules, and the memory to the number of mentions. The only
+/// error is out of memory.
 pub fn explain_link<'a>(
     alloc: Global,
     names: &'a [Text],

@@ -1,4 +1,4 @@
-//! What the error of a module that is not located names.
+//! Explains the error of a module that cannot be located.
 
 ghost use Rattle.std.specs.Prelude.{◌≡◌, ◌∷◌, ◌<◌, ◌^◌, [], Some, None, IfOk, length, slice_get};
 ghost use Rattle.mufom_text.specs.Fitting.{IsUnitCount};
@@ -46,7 +46,7 @@ fn common_at<K: Output>(
     }
 }
 
-// The line of the region with a number, whose sections reach so far, if there is one.
+// The line of the region with a number, if there is one, whose sections take this much space.
 fn region_at<K: Output>(
     out: &mut K,
     context: &LocateContext<'_>,
@@ -65,7 +65,7 @@ fn region_at<K: Output>(
 }
 
 impl<'a> LocateDetails<'a> {
-    // The lines of the section, or else of the common, with a number.
+    // The lines of the section with a number, or otherwise of the common.
     fn entry_lines<K: Output>(&self, out: &mut K, number: u32)
         ensures { K.takes out.old out.new (entry_lines (explained_of self.now.context) number) }
     {
@@ -89,7 +89,7 @@ impl<'a> LocateDetails<'a> {
         }
     }
 
-    // The line of a region whose sections reach so far.
+    // The line of a region whose sections take this much space.
     fn region_line<K: Output>(&self, out: &mut K, number: u32, taken: u128)
         ensures { K.takes out.old out.new (taken_text (explained_of self.now.context) number taken) }
     {
@@ -138,7 +138,7 @@ fn about_name<'a>(
     Ok(LocateKind::Mentions(find_mentions(alloc, wanted, context.flat)?))
 }
 
-// The lines of the modules that mention an undefined name, for all of these names.
+// The lines of the modules that mention an undefined name, for all undefined names.
 fn about_undefined<'a>(
     alloc: Global,
     context: &LocateContext<'a>,
@@ -178,7 +178,7 @@ fn about_region<'a>(
     })
 }
 
-// Which lines an error in placing asks for.
+// The lines that explain an error of placing.
 fn about_placement<'a>(
     alloc: Global,
     context: &LocateContext<'a>,
@@ -205,7 +205,7 @@ fn about_placement<'a>(
     }
 }
 
-// Which lines the place of an expression asks for.
+// The lines that explain the place of an expression.
 fn about_site<'a>(
     alloc: Global,
     context: &LocateContext<'a>,
@@ -223,7 +223,7 @@ fn about_site<'a>(
     }
 }
 
-// Which lines an error asks for.
+// The lines that explain an error.
 fn about<'a>(
     alloc: Global,
     context: &LocateContext<'a>,
@@ -250,13 +250,13 @@ fn about<'a>(
     }
 }
 
-/// The lines that follow the error line of a module that is not located: the sections and commons that it
-/// names, with the modules that they come from, a region with how far its sections reach, or all modules
-/// that mention the names; all undefined names are listed.
+/// Returns the lines that follow the error line of a module that cannot be located: the sections and commons
+/// to which it refers, with the modules from which they come, a region with the space that its sections take,
+/// or all modules that mention the names; all undefined names are listed.
 ///
-/// The error is the one with which the module is not located by the plan. Time is proportional to the
-/// names of the modules, the sections and the plan, and memory to the mentions and the sections. The only
-/// error is out of memory.
+/// `refusal` must be the error of locating the module by the plan. The time is proportional to the number of
+/// names in the modules, the sections and the plan, and the memory to the number of mentions and sections.
+/// The only error is out of memory.
 pub fn explain_locate<'a>(
     alloc: Global,
     context: LocateContext<'a>,

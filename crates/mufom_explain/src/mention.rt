@@ -1,6 +1,6 @@
 //! A mention of a name by a module.
 
-/// By which kind of entry a module mentions a name.
+/// The kind of entry by which a module mentions a name.
 #[derive(Clone, Copy, Debug, PartialEq, Eq)]
 pub enum MentionKind {
     /// A public symbol has the name.

@@ -17,7 +17,7 @@ use mufom_names::{Public, Reference};
 use mufom_numbers::Text;
 use mufom_text::{Output, quoted};
 
-// What is said of a mention after the name.
+// The text about a mention, after the name.
 fn kind_text(kind: MentionKind) -> &'static [u8]
     ensures { result.now ≡ kind_text kind }
 {
@@ -112,7 +112,7 @@ impl<'a> Mentions<'a> {
         }
     }
 
-    /// The lines of the mentions, and of the modules that they are in.
+    /// Puts the lines of the mentions, and those of the modules that contain them.
     pub(crate) fn put<K: Output>(&self, out: &mut K, names: &[Text])
         ensures { K.takes out.old out.new (mention_text names.now (flat_of self.now.flat.now) (wanted_names self.now.wanted)) }
     {

@@ -1,4 +1,4 @@
-//! What a name that is to be kept and that no module defines is explained by.
+//! Explains the error of a name that should be kept and that no module defines.
 
 ghost use Rattle.std.specs.Prelude.{◌≡◌, ◌<◌, ◌^◌, IfOk, length};
 ghost use Rattle.mufom_explain.specs.Details.{name_details};
@@ -23,9 +23,10 @@ impl<'a> Lines for NameDetails<'a> {
     }
 }
 
-/// The lines that follow the error line of a name that is to be kept and that no module of the flat list
-/// defines: the modules that refer to it. `names` are the names of the files, as they were given. Time is
-/// proportional to the names of the modules, and memory to the mentions. The only error is out of memory.
+/// Returns the lines that follow the error line of a name that should be kept and that no module of the flat
+/// list defines: the modules that refer to it. `names` are the names of the files, as they were given. The
+/// time is proportional to the number of names in the modules, and the memory to the number of mentions. The
+/// only error is out of memory.
 pub fn explain_name<'a>(
     alloc: Global,
     names: &'a [Text],

@@ -1,4 +1,4 @@
-//! How far the sections of a region reach, and the line of that region.
+//! The space that the sections of a region take, and the line of that region.
 
 ghost use Rattle.std.specs.Prelude.{◌≡◌, ◌+◌, ◌++◌, ◌<◌, ◌≤◌, ◌^◌, None, IfOk, All, length, slice_get};
 ghost use Rattle.mufom_plan.specs.Names.{AreDistinctNames, listed_names};
@@ -16,7 +16,7 @@ use mufom_sections::Section;
 use mufom_text::{Output, quoted};
 use std::alloc::Global;
 
-// The size of the section or common at a position; 0 past the last.
+// The size of the section or common at a position; 0 past the last one.
 fn size_at(sections: &[Section], commons: &[Section], position: usize) -> u64
     ensures { result ≡ size_of (slice_get (sections.now ++ commons.now) position) }
 {
@@ -59,7 +59,8 @@ fn greatest_end(
     greatest
 }
 
-/// How far the sections and commons of the region at a position reach above its base.
+/// Returns the distance from the base of the region at a position to the greatest end of the sections and
+/// commons that it places.
 pub(crate) fn taken_in(
     alloc: Global,
     sections: &[Section],
@@ -81,8 +82,8 @@ pub(crate) fn taken_in(
     Ok(end.saturating_sub(region.base as u128))
 }
 
-/// The line of a region whose sections reach so far, as in
-/// `region 0: "ram" base 00000100 size 13, its sections take 14`.
+/// Puts the line of a region whose sections take this much space, as in `region 0: "ram" base 00000100 size
+/// 13, its sections take 14`.
 pub(crate) fn region_line<K: Output>(
     out: &mut K,
     maus: u8,

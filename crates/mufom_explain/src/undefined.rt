@@ -48,8 +48,8 @@ fn names_of_undefined<'a>(
     Ok(Wanted { names, index })
 }
 
-/// The names of strong references that neither a public nor a common has, each once, in the order of the
-/// references.
+/// Returns the names of strong references that neither a public nor a common has, each once, in the order of
+/// the references.
 pub(crate) fn undefined_names<'a>(alloc: Global, module: &'a Module) -> Result<Wanted<'a>, NoMemory>
     ensures { IfOk result (λ wanted. wanted_names wanted ≡ undefined_names («module».now ∷ [])) }
 {

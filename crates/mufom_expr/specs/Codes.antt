@@ -1,5 +1,5 @@
--- The bytes of letters and functions (IEEE Std 695, expressions; the letters, A5 and A6 are those of the public
--- `ieee.h`, the other functions are this project's profile), and how many terms a function takes.
+-- The bytes that encode letters and functions (IEEE Std 695, expressions), and the number of operands of each function. The
+-- letters, A5 and A6 come from the public `ieee.h`; the codes of the other functions belong to this project's profile.
 use Rattle.std.specs.Prelude.{ℕ, List, [], ◌∷◌, Option, ◌==◌}
 use Rattle.std.specs.List.{find}
 use Rattle.mufom_numbers.specs.declared.codes.TheConstants.{FUNCTION_ABS, FUNCTION_AND, FUNCTION_DIVIDE, FUNCTION_EQUAL, FUNCTION_GREATER}
@@ -42,29 +42,29 @@ function_byte And = FUNCTION_AND
 function_byte Or = FUNCTION_OR
 function_byte Xor = FUNCTION_XOR
 
--- the letters that are read
+-- the letters that a reader accepts
 abbrev pub all_letters : List Letter
 all_letters = I ∷ L ∷ P ∷ R ∷ S ∷ X ∷ []
 
--- the functions that are read
+-- the functions that a reader accepts
 abbrev pub all_functions : List Function
 all_functions = Abs ∷ Neg ∷ Plus ∷ Minus ∷ Divide ∷ Times ∷ Max ∷ Min ∷ Mod ∷ Less ∷ Greater ∷ Equal ∷ Unequal ∷ And ∷ Or ∷ Xor ∷ []
 
--- the letter of a byte, if it is the byte of one
+-- the letter that a byte encodes, if any
 abbrev pub letter_of : ℕ → Option Letter
 letter_of b = find (λ letter. b == letter_byte letter) all_letters
 
--- the function of a byte, if it is the byte of one
+-- the function that a byte encodes, if any
 abbrev pub function_of : ℕ → Option Function
 function_of b = find (λ f. b == function_byte f) all_functions
 
--- how many terms a function takes
+-- the number of operands of a function
 abbrev pub operands : Function → ℕ
 operands Abs = 1
 operands Neg = 1
 operands _ = 2
 
--- how many terms a token takes
+-- the number of operands of a token: 0 unless it is a function
 abbrev pub operands_of : Token → ℕ
 operands_of (Fun f) = operands f
 operands_of _ = 0

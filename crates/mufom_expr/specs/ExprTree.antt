@@ -1,4 +1,4 @@
--- The tree that the code's tree of an expression is, and its tokens.
+-- The tree (`Tree`) and the tokens of an `Expr`, the expression tree of the code.
 use Rattle.std.specs.Prelude.{ℕ, zero, suc, ◌≤◌, List, [], ◌∷◌, ◌++◌, length, Option, Some, None, IsSomeAnd}
 use Rattle.mufom_expr.specs.declared.token.Function.{Function}
 use Rattle.mufom_expr.specs.declared.token.Function.TheVariants as functions
@@ -9,13 +9,13 @@ use Rattle.mufom_expr.specs.Codes.{operands}
 use Rattle.mufom_expr.specs.Tree.{Tree, number, variable, one, two, OneOperand, absolute, negated, TwoOperands, plus, minus, divided, times, larger}
 use Rattle.mufom_expr.specs.Tree.{smaller, modulo, is_less, is_greater, is_equal, is_unequal, and_bits, or_bits, xor_bits, tokens_of}
 
--- the function of one operand that a function is, if it is one
+-- the matching function of one operand, or None if the function takes two
 abbrev pub one_operand : Function → Option OneOperand
 one_operand functions.Abs = Some absolute
 one_operand functions.Neg = Some negated
 one_operand _ = None
 
--- the function of two operands that a function is, if it is one
+-- the matching function of two operands, or None if the function takes one
 abbrev pub two_operands : Function → Option TwoOperands
 two_operands functions.Plus = Some plus
 two_operands functions.Minus = Some minus
@@ -33,24 +33,24 @@ two_operands functions.Or = Some or_bits
 two_operands functions.Xor = Some xor_bits
 two_operands _ = None
 
--- a function of one tree, if it takes one
+-- the tree of a function and its operand, or None if either is missing
 abbrev pub over_one : Option OneOperand → Option Tree → Option Tree
 over_one (Some f) (Some a) = Some (one f a)
 over_one _ _ = None
 
--- a function of two trees, if it takes two
+-- the tree of a function and its two operands, or None if any of the three is missing
 abbrev pub over_two : Option TwoOperands → Option Tree → Option Tree → Option Tree
 over_two (Some f) (Some a) (Some b) = Some (two f a b)
 over_two _ _ _ = None
 
--- the tree, or none if a function does not have as many operands as it takes
+-- the tree of an expression, or None if a function in it has the wrong number of operands
 abbrev pub tree_of_expr : Expr → Option Tree
 tree_of_expr (Number n) = Some (number n)
 tree_of_expr (Var letter place) = Some (variable letter place)
 tree_of_expr (One' f p a) = over_one (one_operand f) (tree_of_expr a)
 tree_of_expr (Two' f p a q b) = over_two (two_operands f) (tree_of_expr a) (tree_of_expr b)
 
--- the tokens, operands before functions
+-- the tokens of an expression, operands before functions
 abbrev pub tokens_of_expr : Expr → List Token
 tokens_of_expr (Number n) = tokens.Number n ∷ []
 tokens_of_expr (Var letter place) = tokens.Var letter place ∷ []

@@ -41,8 +41,8 @@ middle_text Equal = codes " = "
 middle_text Unequal = codes " <> "
 middle_text _ = codes ", "
 
--- A number in decimal, a variable as its letter and its position, and a function between its operands in brackets or
--- before them.
+-- The infix form of a tree: a number in decimal, a variable as its letter and its position, and a function between or before
+-- its operands in parentheses, such as `(R0 + 4)` and `max(R0, 4)`.
 abbrev pub infix_text : Tree → List ℕ
 infix_text (number n) = decimal n
 infix_text (variable letter place) = letter_text letter ++ decimal place

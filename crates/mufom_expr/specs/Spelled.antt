@@ -11,7 +11,7 @@ use Rattle.mufom_expr.specs.declared.token.Token.TheVariants.{Number, Var, Fun}
 use Rattle.mufom_expr.specs.Codes.{letter_byte, function_byte}
 use Rattle.mufom_expr.specs.Tree.{Tree, number, variable, one, two, tokens_of}
 
--- A number by its spelling, a function by its byte, a variable by its letter and its index, which is below 2^32.
+-- A number has the spelling of a number, a function is its byte, and a variable is its letter and its index, which is below 2^32.
 abbrev pub SpellsToken : Token → List ℕ → Type 0
 SpellsToken (Number n) bytes = SpellsNumber n bytes
 SpellsToken (Var letter index) bytes = (index < 2 ^ 32) × (number_bytes : List ℕ) × SpellsNumber index number_bytes
@@ -29,7 +29,7 @@ SpellsTree tree bytes = (length (tokens_of tree) ≤ 255) × SpellsTokens (token
 
 -- ---- bytes that do not begin a token
 
--- the first byte is such a byte
+-- there is a first byte, and it satisfies Is
 abbrev pub BeginsWith : (ℕ → Type 0) → List ℕ → Type 0
 BeginsWith Is [] = ⊥
 BeginsWith Is (b ∷ _) = Is b
@@ -42,12 +42,12 @@ IsLeftOutFunction b = (FIRST_FUNCTION ≤ b) × (b ≤ LAST_FUNCTION) × ((f : F
 abbrev pub IsLeftOutLetter : ℕ → Type 0
 IsLeftOutLetter b = (LAST_NUMBER < b) × ((b < FIRST_FUNCTION) ⊎ (LAST_FUNCTION < b)) × ((letter : Letter) → b ≢ letter_byte letter)
 
--- a letter that is not followed by a number, or by one that is too large for an index
+-- a letter, followed by a byte that does not begin a number or by a number that is too large for an index
 abbrev pub HasBadIndex : List ℕ → Type 0
 HasBadIndex input = (letter : Letter) × (rest : List ℕ) × (input ≡ letter_byte letter ∷ rest)
     × (BeginsIn 0x89 0xFF rest ⊎ ((n : ℕ) × (text : List ℕ) × (more : List ℕ) × (2 ^ 32 ≤ n) × SpellsNumber n text × (rest ≡ text ++ more)))
 
--- a proper prefix of a number, or a letter and such a prefix
+-- a proper prefix of a number's spelling, or a letter and such a prefix
 abbrev pub IsCutOffToken : List ℕ → Type 0
 IsCutOffToken input = ((n : ℕ) × IsCutOff (SpellsNumber n) input)
     ⊎ ((letter : Letter) × (rest : List ℕ) × (input ≡ letter_byte letter ∷ rest) × (n : ℕ) × IsCutOff (SpellsNumber n) rest)
@@ -67,7 +67,7 @@ list_of ix I = ix.publics
 list_of ix X = ix.references
 list_of ix _ = ix.sections
 
--- the second tree has the index of the file in each place where the first has a position
+-- the second tree is the first with the file's index in the place of each position
 abbrev pub IsIndexed : Indexes → Tree → Tree → Type 0
 IsIndexed ix (number n) (number m) = n ≡ m
 IsIndexed ix (variable letter position) (variable other index) = (letter ≡ other) × (slice_get (list_of ix letter) position ≡ Some index)
@@ -75,6 +75,6 @@ IsIndexed ix (one f a) (one g b) = (f ≡ g) × IsIndexed ix a b
 IsIndexed ix (two f a b) (two g c d) = (f ≡ g) × IsIndexed ix a c × IsIndexed ix b d
 IsIndexed ix _ _ = ⊥
 
--- the bytes spell the tree over positions, by the indexes of the lists
+-- the bytes spell the tree, whose variables are positions, with the file's indexes in place of the positions
 abbrev pub SpellsIndexed : Indexes → Tree → List ℕ → Type 0
 SpellsIndexed ix tree bytes = (in_file : Tree) × IsIndexed ix tree in_file × SpellsTree in_file bytes

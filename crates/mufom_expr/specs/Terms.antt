@@ -1,4 +1,4 @@
--- What tokens in postfix order leave on the stack of terms.
+-- The stack of terms after tokens in postfix order.
 use Rattle.std.specs.Prelude.{◌≡◌, ℕ, ◌<◌, List, [], ◌∷◌, length, Option, Some, None, option_map, option_and_then}
 use Rattle.mufom_expr.specs.declared.token.Function.{Function}
 use Rattle.mufom_expr.specs.declared.token.Function.TheVariants as functions
@@ -8,7 +8,7 @@ use Rattle.mufom_expr.specs.Codes.{operands_of}
 use Rattle.mufom_expr.specs.Tree.{Tree, number, variable, one, two, OneOperand, absolute, negated, TwoOperands, plus, minus, divided, times, larger}
 use Rattle.mufom_expr.specs.Tree.{smaller, modulo, is_less, is_greater, is_equal, is_unequal, and_bits, or_bits, xor_bits}
 
--- the terms after a function of one operand, the topmost first, or none if it finds too few
+-- the stack after a function of one operand, the topmost term first, or None if there are too few terms
 abbrev pub on_one : OneOperand → List Tree → Option (List Tree)
 on_one f [] = None
 on_one f (a ∷ terms) = Some (one f a ∷ terms)
@@ -49,7 +49,7 @@ abbrev pub terms_after : List Token → List Tree → Option (List Tree)
 terms_after [] terms = Some terms
 terms_after (token ∷ tokens) terms = option_and_then (terms_after tokens) (after_token token terms)
 
--- the one term that is left
+-- the one term that is left; by convention the number 0 if there is not exactly one
 abbrev pub the_only : Option (List Tree) → Tree
 the_only (Some (t ∷ [])) = t
 the_only _ = number 0
@@ -62,11 +62,11 @@ the_term tokens = the_only (terms_after tokens [])
 abbrev pub LeaveOneTerm : List Token → Type 0
 LeaveOneTerm tokens = terms_after tokens [] ≡ Some (the_term tokens ∷ [])
 
--- how many terms the tokens leave, or none if a function finds too few
+-- the number of terms that the tokens leave, or None if a function finds too few
 abbrev pub leaves : List Token → Option ℕ
 leaves tokens = option_map length (terms_after tokens [])
 
--- after these tokens the token finds fewer terms than it takes
+-- after these tokens, fewer terms are left than the token has operands
 abbrev pub FindsTooFew : List Token → Token → Type 0
 FindsTooFew tokens token = (n : ℕ) × (leaves tokens ≡ Some n) × (n < operands_of token)
 

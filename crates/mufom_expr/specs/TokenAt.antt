@@ -1,4 +1,4 @@
--- One token at the start of bytes, and the tokens of an expression's bytes.
+-- Reading the token at the start of an input, and the tokens of a whole expression.
 use Rattle.std.specs.Prelude.{ℕ, zero, suc, ◌+◌, ◌^◌, Bool, List, [], ◌∷◌, drop, Option, Some, None, nat_lt, nat_le, ◌&&◌, ◌||◌, if◌then◌else◌}
 use Rattle.mufom_numbers.specs.declared.codes.TheConstants.{FIRST_FUNCTION, LAST_FUNCTION, LAST_NUMBER, LETTER_A, LETTER_Z}
 use Rattle.mufom_numbers.specs.declared.reason.Reason.TheVariants.{BadNumber, UnsupportedFunction, UnsupportedVariable}
@@ -23,7 +23,7 @@ begins_number b = nat_le b LAST_NUMBER
 abbrev pub begins_token : ℕ → Bool
 begins_token b = begins_number b || (is_from_to FIRST_FUNCTION LAST_FUNCTION b || is_from_to LETTER_A LETTER_Z b)
 
--- a number as a token
+-- a number that was read, as a token
 abbrev pub number_token : Taken ℕ → Taken Token
 number_token (Got n used) = Got (Number n) used
 number_token More = More
@@ -41,19 +41,19 @@ variable_token (Some letter) (Got n used) = if nat_lt n (2 ^ 32) then Got (Var l
 variable_token (Some letter) More = More
 variable_token (Some letter) (Bad offset reason) = Bad 1 BadNumber
 
--- the token at the start, or what is wrong with it
+-- reads the token at the start of the input: the token and the length of its spelling in bytes, More, or an error
 abbrev pub token_at : List ℕ → Taken Token
 token_at [] = More
 token_at (b ∷ bytes) = if begins_number b then number_token (number_at (b ∷ bytes))
     else (if is_from_to FIRST_FUNCTION LAST_FUNCTION b then function_token (function_of b)
     else variable_token (letter_of b) (number_at bytes))
 
--- a token that was read, and those after it
+-- the token that was read and the tokens after it; none if no token was read
 abbrev pub first_token : Taken Token → (ℕ → List Token) → List Token
 first_token (Got token used) after = token ∷ after used
 first_token _ after = []
 
--- the tokens that the bytes spell, at most k of them
+-- the tokens at the start of the bytes, at most k of them, up to the first that can't be read
 abbrev pub tokens_at : ℕ → List ℕ → List Token
 tokens_at zero bytes = []
 tokens_at (suc k) bytes = first_token (token_at bytes) (λ used. tokens_at k (drop used bytes))

@@ -1,5 +1,5 @@
--- An expression as a tree (IEEE Std 695, expressions), which is the meaning of a postfix expression. A function of the
--- tree has as many operands as its constructor states, so each tree is one of an expression.
+-- An expression as a tree (IEEE Std 695, expressions), which is the meaning of a postfix expression. The constructors fix the
+-- number of operands of each function, so every tree is well formed.
 use Rattle.std.specs.Prelude.{ℕ, ◌<◌, ◌^◌, List, [], ◌∷◌, ◌++◌}
 use Rattle.mufom_expr.specs.declared.token.Letter.{Letter}
 use Rattle.mufom_expr.specs.declared.token.Function.{Function}
@@ -36,12 +36,12 @@ pub data Tree : Type 0 where
   one : (f : OneOperand) → (a : Tree) → Tree
   two : (f : TwoOperands) → (a b : Tree) → Tree
 
--- the function of one operand, as a token has it
+-- the function of one operand, as the function of a token
 abbrev pub function_of_one : OneOperand → Function
 function_of_one absolute = functions.Abs
 function_of_one negated = functions.Neg
 
--- the function of two operands, as a token has it
+-- the function of two operands, as the function of a token
 abbrev pub function_of_two : TwoOperands → Function
 function_of_two plus = functions.Plus
 function_of_two minus = functions.Minus
@@ -65,7 +65,7 @@ tokens_of (variable l p) = Var l p ∷ []
 tokens_of (one f a) = tokens_of a ++ Fun (function_of_one f) ∷ []
 tokens_of (two f a b) = (tokens_of a ++ tokens_of b) ++ Fun (function_of_two f) ∷ []
 
--- a token that the code can hold: a number below 2^64, a variable whose number is below 2^32, or a function
+-- a token that the code can represent: a number below 2^64, a variable whose number is below 2^32, or a function
 abbrev pub IsInRange : Token → Type 0
 IsInRange (Number n) = n < 2 ^ 64
 IsInRange (Var l p) = p < 2 ^ 32

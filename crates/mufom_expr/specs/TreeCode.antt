@@ -1,4 +1,4 @@
--- The code of a tree, its tokens as numbers, by which a proof can tell two trees apart.
+-- The code of a tree: its tokens, encoded as numbers, by which a proof can tell two trees apart.
 use Rattle.std.specs.Prelude.{◌≡◌, ℕ, ◌==◌, List, [], ◌∷◌, ◌++◌, Some, if◌then◌else◌, refl, option_and_then}
 use Rattle.std.proofs.Common.{sym, ◌∙◌, ap, append_assoc, append-nil}
 use Rattle.std.specs.Coded.{Coded, code_by, coded×, coded_list, coded_ℕ}
@@ -101,7 +101,7 @@ token_of-numbers (Fun f) = ap Fun (function_of-number f)
 abbrev pub token_code : Coded Token
 token_code = code_by (ℕ × (ℕ × ℕ)) (coded× coded_ℕ (coded× coded_ℕ coded_ℕ)) numbers_of token_of token_of-numbers
 
--- a tree's tokens push the tree
+-- processing the tokens of a tree pushes the tree onto the stack
 after_function-one : (f : OneOperand) (a : Tree) (s : List Tree) → after_function (function_of_one f) (a ∷ s) ≡ Some (one f a ∷ s)
 after_function-one absolute a s = refl
 after_function-one negated a s = refl

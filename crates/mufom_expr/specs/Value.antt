@@ -1,12 +1,12 @@
 -- The value of an expression (IEEE Std 695, expressions, in this project's profile): a residue modulo a power of two,
--- or none. Quotients, remainders, MAX, MIN and comparisons go by the residues as they are, without a sign.
+-- or none. Quotients, remainders, MAX, MIN and comparisons treat residues as unsigned numbers.
 use Rattle.std.specs.Prelude.{◌≡◌, ◌⊎◌, ℕ, zero, suc, ◌+◌, ◌-◌, ◌*◌, ◌/◌, ◌%◌, min, max, List, [], ◌∷◌, ◌++◌, Option, Some, None, option_map, Bool}
 use Rattle.std.specs.Prelude.{true, false, ◌||◌, ◌==◌, nat_lt, bit_and, bit_or, bit_xor, if◌then◌else◌}
 use Rattle.mufom_expr.specs.declared.token.Letter.{Letter}
 use Rattle.mufom_expr.specs.Tree.{Tree, number, variable, one, two, OneOperand, absolute, negated, TwoOperands, plus, minus, divided, times, larger}
 use Rattle.mufom_expr.specs.Tree.{smaller, modulo, is_less, is_greater, is_equal, is_unequal, and_bits, or_bits, xor_bits}
 
--- the value of each variable, or none
+-- maps each variable to its value, or to None if it has none
 abbrev pub Environment : Type 0
 Environment = Letter → ℕ → Option ℕ
 
@@ -19,11 +19,11 @@ abbrev pub one_value : ℕ → OneOperand → ℕ → ℕ
 one_value m absolute a = if nat_lt (a + a) m then a else minus_modulo m a
 one_value m negated a = minus_modulo m a
 
--- the value of a test
+-- 1 if a test is true, 0 otherwise
 abbrev pub bit_of : Bool → ℕ
 bit_of b = if b then 1 else 0
 
--- a quotient or a remainder, which has no value at the divisor 0
+-- the value of a quotient or a remainder: None if the divisor is 0
 abbrev pub unless_zero : ℕ → ℕ → Option ℕ
 unless_zero zero value = None
 unless_zero (suc divisor) value = Some value
@@ -45,7 +45,7 @@ two_value m and_bits a b = Some (bit_and a b)
 two_value m or_bits a b = Some (bit_or a b)
 two_value m xor_bits a b = Some (bit_xor a b)
 
--- both operands, if both have a value
+-- the function of both operands, or None if one of them has no value
 abbrev pub both : (ℕ → ℕ → Option ℕ) → Option ℕ → Option ℕ → Option ℕ
 both f (Some a) (Some b) = f a b
 both f (Some a) None = None
@@ -73,7 +73,7 @@ with_variables rename (variable letter place) = let v = rename letter place in v
 with_variables rename (one f a) = one f (with_variables rename a)
 with_variables rename (two f a b) = two f (with_variables rename a) (with_variables rename b)
 
--- a value that is 0
+-- there is a value, and it is 0
 abbrev pub is_zero : Option ℕ → Bool
 is_zero (Some zero) = true
 is_zero (Some (suc n)) = false
@@ -85,7 +85,7 @@ is_division divided = true
 is_division modulo = true
 is_division _ = false
 
--- somewhere in the tree a divisor has the value 0, given a function that values each part
+-- a divisor somewhere in the tree has the value 0; the function gives the value of each subtree
 abbrev pub divides_by_zero : (Tree → Option ℕ) → Tree → Bool
 divides_by_zero worth (number n) = false
 divides_by_zero worth (variable letter place) = false
@@ -100,6 +100,6 @@ LacksAValue env (variable letter place) = env letter place ≡ None
 LacksAValue env (one f a) = LacksAValue env a
 LacksAValue env (two f a b) = LacksAValue env a ⊎ LacksAValue env b
 
--- the environment that gives each variable the value of the one in its place
+-- the environment that gives each variable the value of the variable that replaces it
 abbrev pub value_through : (Letter → ℕ → Letter × ℕ) → Environment → Environment
 value_through rename env letter place = let v = rename letter place in env v.0 v.1

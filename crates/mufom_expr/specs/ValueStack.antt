@@ -59,7 +59,7 @@ abbrev pub zero_there : Option (Option ℕ) → Bool
 zero_there None = false
 zero_there (Some value) = is_zero value
 
--- the token divides by the topmost of these values, and that is 0
+-- the token is a quotient or a remainder, and its divisor, the topmost of these values, is 0
 abbrev pub token_divides_by_zero : List (Option ℕ) → Token → Bool
 token_divides_by_zero values (Fun functions.Divide) = zero_there (slice_get values 0)
 token_divides_by_zero values (Fun functions.Mod) = zero_there (slice_get values 0)

@@ -1,4 +1,4 @@
-//! Expressions as trees, and how postfix tokens become one.
+//! Expressions as trees, and how a tree is built from postfix tokens.
 
 ghost use Rattle.std.specs.Prelude.{◌≡◌, ◌+◌, ◌<◌, ◌≤◌, ◌∷◌, length, reverse, map, OnOk};
 ghost use Rattle.mufom_expr.specs.Codes.{operands, operands_of};

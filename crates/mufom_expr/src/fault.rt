@@ -14,7 +14,7 @@ pub enum ExprFault {
     /// There are no tokens.
     #[error("there is no token")]
     Empty,
-    /// A 256th token.
+    /// There are more than 255 tokens.
     #[error("there are more than 255 tokens")]
     TooLong,
     #[error("out of memory")]

@@ -1,4 +1,4 @@
-//! Laws of trees, tokens and values, each the contract of a function that does nothing.
+//! Laws about trees, tokens and values. Each law is the contract of a function with an empty body.
 
 ghost use Rattle.std.specs.Prelude.{◌≡◌, ◌↔◌, ◌⊎◌, ◌<◌, ◌≤◌, ◌^◌};
 ghost use Rattle.std.specs.Prelude.{ℕ, List, [], ◌∷◌, ◌++◌, Some, None, IfSome, IsTrue};
@@ -13,10 +13,10 @@ ghost use Rattle.mufom_expr.specs.Spelled.{SpellsToken, SpellsTree};
 pub fn tokens_give_the_tree_back()
     ensures back { (t : Tree) → the_term (tokens_of t) ≡ t }
     ensures one { (t : Tree) → leaves (tokens_of t) ≡ Some 1 }
-    // Each token finds its operands in those before it.
+    // Each token finds its operands among the terms that the tokens before it leave.
     ensures enough { (t : Tree) (prefix rest : List Token) (token : Token)
         → tokens_of t ≡ prefix ++ token ∷ rest → FindsTooFew prefix token → ⊥ }
-    // Tokens that leave one term are those of a tree.
+    // Tokens that leave one term are the tokens of a tree.
     ensures tree { (tokens : List Token) → leaves tokens ≡ Some 1 → tokens_of (the_term tokens) ≡ tokens }
 {}
 
@@ -33,7 +33,7 @@ pub fn renaming_composes_with_value()
         → value_at m env (with_variables rename t) ≡ value_at m (value_through rename env) t }
 {}
 
-/// A value is a residue. A tree has no value exactly if one of its variables has none or a divisor is 0.
+/// A value is a residue. A tree has no value if and only if one of its variables has none or a divisor is 0.
 pub fn values_are_residues()
     ensures residue { (w : ℕ) (env : Environment) (t : Tree) → 1 ≤ w → IfSome (value_at (2 ^ w) env t) (λ v. v < 2 ^ w) }
     ensures none { (m : ℕ) (env : Environment) (t : Tree)

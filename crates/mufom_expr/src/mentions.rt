@@ -7,7 +7,7 @@ use crate::token::{Letter, Token};
 use std::marker::Model;
 
 /// An iterator over the variables of an expression, one for each mention, in the order of its tokens.
-/// Contracts see those that are still to come.
+/// Contracts see the list of the variables that it has yet to return.
 #[derive(Debug, Drop)]
 pub struct Mentions<'a> {
     rest: &'a [Token],

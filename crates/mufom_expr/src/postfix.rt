@@ -70,14 +70,14 @@ impl Model for Postfix {
 }
 
 impl Postfix {
-    /// The expression that is one number. Does not allocate.
+    /// The expression that consists of one number. Does not allocate.
     pub fn constant(_alloc: Global, value: u64) -> Result<Postfix, NoMemory>
         ensures { IfOk result (λ p. p ≡ number value) }
     {
         Ok(Postfix::single(Token::Number(value)))
     }
 
-    /// The expression that is one token. Does not allocate.
+    /// The expression that consists of one token. Does not allocate.
     pub fn single(token: Token) -> Postfix
         requires { LeaveOneTerm (token ∷ []) }
         ensures { result ≡ the_term (token ∷ []) }
@@ -87,8 +87,8 @@ impl Postfix {
         }
     }
 
-    /// The expression itself, with each variable replaced by the one that the map gives. Does not
-    /// allocate.
+    /// Replaces each variable of the expression by the variable that the map gives, and returns the
+    /// expression. Does not allocate.
     pub fn renamed<M: VarMap>(self, map: &M) -> Postfix
         ensures { result ≡ with_variables (M.meaning map.now) self }
     {
@@ -99,7 +99,7 @@ impl Postfix {
         }
     }
 
-    /// The expression of these tokens, which must form one. Does not allocate.
+    /// The expression that consists of these tokens, which must leave one term. Does not allocate.
     pub fn of(tokens: Vec<Token>) -> Postfix
         requires one { LeaveOneTerm tokens.items }
         requires few { length tokens.items ≤ 255 }

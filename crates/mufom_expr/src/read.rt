@@ -56,10 +56,12 @@ fn function(b: u8) -> Option<Function>
 ///
 /// Returns `Bad`
 ///
-/// - at offset 0 with `UnsupportedFunction`, if the first byte is that of a function which this profile leaves out,
-/// - at offset 0 with `UnsupportedVariable`, if it is any other byte that does not begin a number and is not a
-///   supported letter (callers pass bytes that begin a token), and
-/// - at offset 1 with `BadNumber`, if a letter is not followed by a number, or by one of 2^32 or more.
+/// - at offset 0 with `UnsupportedFunction`, if the first byte is that of a function which this profile
+///   leaves out,
+/// - at offset 0 with `UnsupportedVariable`, if it is any other byte that does not begin a number and is not
+///   a supported letter (callers pass bytes that begin a token), and
+/// - at offset 1 with `BadNumber`, if a letter is followed by a byte that does not begin a number, or by a
+///   number of 2^32 or more.
 ///
 /// Does not allocate.
 #[inline(always)]

@@ -4,7 +4,7 @@ ghost use Rattle.std.specs.Prelude.{◌≡◌};
 ghost use Rattle.mufom_expr.specs.Codes.{operands_of};
 ghost use Rattle.mufom_expr.specs.Tree.{IsInRange};
 
-/// What a variable means, by its letter in the format.
+/// The letter of a variable in the format, which tells what the variable means.
 #[derive(Clone, Copy, Debug, PartialEq, Eq)]
 pub enum Letter {
     /// The value of a public name.

@@ -1,4 +1,4 @@
--- What holds of links in groups.
+-- Laws about linking in groups.
 use Rattle.std.specs.Prelude.{◌≡◌, ◌↔◌, List, None}
 use Rattle.mufom_module.specs.declared.module.Parts.{Parts}
 use Rattle.mufom_words.specs.declared.command.Command.{Command}
@@ -11,38 +11,38 @@ use Rattle.mufom_meaning.specs.Stands.{LinkFactStands}
 use Rattle.mufom_groups.specs.Linked.{IsFlatList, linked, linked_module}
 use Rattle.mufom_groups.specs.Work.{Work, gives, stops, IsSingle}
 
--- The list that the links lead to is the flat list, exactly where no link fact stands against that.
+-- The links give the flat list if and only if the flat list can be linked.
 abbrev pub LinkedIsFlat : Type 0
 LinkedIsFlat = (tree : Forest) (ms flat : List Parts) → linked tree ms (gives flat) ↔ (IsFlatList tree ms flat × (link_answer flat ≡ None))
 
--- A link fact that ends the links stands against the flat list too.
+-- If an error ends the links, that error also applies to the flat list.
 abbrev pub LinkFactsStand : Type 0
 LinkFactsStand = (tree : Forest) (ms flat : List Parts) (f : LinkFact) → IsFlatList tree ms flat → linked tree ms (stops f) → LinkFactStands flat f
 
--- a link fact ends the work
+-- the work ends with a link error
 abbrev pub StopsAtFact : {A : Type 0} → Work LinkFact A → Type 0
 StopsAtFact work = (f : LinkFact) × work (stops f)
 
--- Two works come to the same: the same values, and a link fact both or neither.
+-- Two works have the same results: the same values, and a link error both or neither.
 pub record EndAlike {A : Type 0} (first second : Work LinkFact A) : Type 0 where
   pub values : (a : A) → first (gives a) ↔ second (gives a)
   pub facts : StopsAtFact first ↔ StopsAtFact second
 
--- Commands that differ in their brackets at most come to the same module, of whatever modules, and to a link fact both or neither.
+-- Commands that differ only in their brackets link any modules into the same module, or both end with a link error.
 abbrev pub GroupsMakeNoDifference : Type 0
 GroupsMakeNoDifference = (c d : Command) → AreAlike c d → (ms : List Parts) → EndAlike (linked_module c ms) (linked_module d ms)
 
--- The modules of a command come to one module, or to one link fact, at most.
+-- The modules of a command are linked into at most one module, or end with at most one link error.
 abbrev pub LinksAreSingle : Type 0
 LinksAreSingle = (c : Command) (ms : List Parts) → IsSingle (linked_module c ms)
 
--- The module stands for the flat list of the modules, in every context.
+-- The module can replace the flat list of the modules, in every context.
 pub record StandsForFlat (c : Command) (ms : List Parts) (M : Parts) : Type 0 where
   pub flat : List Parts
   pub is_flat : IsFlatList (tree_of c.marks) ms flat
   pub stands : StandsFor M flat
   pub settled : HasSettledReferences M
 
--- The module into which modules without a defect are linked stands for their flat list.
+-- The module into which modules without a defect are linked can replace their flat list.
 abbrev pub LinksStandForFlat : Type 0
 LinksStandForFlat = (c : Command) (ms : List Parts) (M : Parts) → AreValid ms → linked_module c ms (gives M) → StandsForFlat c ms M

@@ -1,4 +1,4 @@
--- The refusal of a link that a link fact is.
+-- The error that a link returns for a link fact.
 use Rattle.mufom_meaning.specs.declared.located.Descriptor.{Descriptor}
 use Rattle.mufom_meaning.specs.Facts.{Descriptor as Described, LinkFact, mismatch, duplicate, duplicate_start}
 use Rattle.mufom_link.specs.declared.refusal.LinkRefusal.{LinkRefusal}

@@ -1,4 +1,4 @@
--- Which list of files a command can't link: the first one, of those that it links, against which a link fact stands.
+-- The files of the first list that a command links and that cannot be linked.
 use Rattle.std.specs.Prelude.{◌≡◌, ◌⊎◌, ℕ, ◌+◌, ◌-◌, List, [], ◌∷◌, ◌++◌, drop, length, map, take, Option, Some, None, option_map, IsSome}
 use Rattle.mufom_module.specs.declared.module.Parts.{Parts}
 use Rattle.mufom_place.specs.Facts.{first_some}
@@ -15,19 +15,19 @@ use Rattle.mufom_groups.specs.declared.refused.FileRange.{FileRange}
 use Rattle.mufom_groups.specs.Groups.{last_of}
 use Rattle.mufom_groups.specs.Linked.{members, roots}
 
--- the first of these lists of files whose modules can't be linked, with the link fact
+-- the first of these lists of files whose modules cannot be linked, with the link error
 abbrev pub refused_among : List Parts → List (List ℕ) → Option (List ℕ × LinkFact)
 refused_among ms lists = first_some (λ files. option_map (λ f. (files, f)) (link_answer (members_at ms files))) lists
 
--- The files of the flat list, where this link fact stands against it.
+-- The files of the flat list, which cannot be linked because of this error.
 pub record IsRefusedFlatList (c : Command) (ms : List Parts) (files : List ℕ) (f : LinkFact) : Type 0 where
   pub chosen : List ℕ
   pub selected : IsSelected (roots (tree_of c.marks) ms) (members (tree_of c.marks) ms) chosen
   pub are : files ≡ flat_list c chosen
   pub fact : link_answer (members_at ms files) ≡ Some f
 
--- These are the files of the list that is refused with this link fact: the first group of which one stands, in the order of the closing
--- brackets; else all files of the tree; and if they can be linked too, those of the flat list.
+-- The files of the first list that cannot be linked, with its error: the first group that cannot be linked, in the order of the closing brackets;
+-- otherwise all files of the tree; otherwise those of the flat list.
 abbrev pub IsRefusedList : Command → List Parts → List ℕ → LinkFact → Type 0
 IsRefusedList c ms files f =
     (refused_among ms (linked_lists c) ≡ Some (files, f))
@@ -37,8 +37,8 @@ IsRefusedList c ms files f =
 abbrev pub files_between : FileRange → List ℕ
 files_between range = numbers_from range.first (range.end - range.first)
 
--- A mark was taken, after this many files and these open groups: a file comes, a group begins, or the innermost one closes and its files are
--- one range more.
+-- The step for a mark, after `count` files and with these open groups: a file is counted, a group begins, or the innermost group closes and its files
+-- are added as a range.
 abbrev pub IsRanged : Mark → ℕ → List ℕ → List FileRange → List ℕ → List FileRange → ℕ → Type 0
 IsRanged (File n) count begun ranges new_begun new_ranges now = (now ≡ count + 1) × (new_begun ≡ begun) × (new_ranges ≡ ranges)
 IsRanged Open count begun ranges new_begun new_ranges now = (now ≡ count) × (new_begun ≡ begun ++ count ∷ []) × (new_ranges ≡ ranges)
@@ -46,7 +46,7 @@ IsRanged Close count begun ranges new_begun new_ranges now =
     (now ≡ count) × (new_begun ≡ take (length begun - 1) begun)
     × ((range : FileRange) × (range.first ≡ last_of begun) × (range.end ≡ count) × (new_ranges ≡ ranges ++ range ∷ []))
 
--- The files are those of the tree, which are the first ones, where they can't be linked; else those of the flat list.
+-- The files of the tree, which come first, if these cannot be linked; otherwise the files of the flat list.
 abbrev pub IsTreeOrFlat : ℕ → List Parts → List ℕ → Type 0
 IsTreeOrFlat roots ms files =
     (IsSome (link_answer (take roots ms)) × (files ≡ numbers_from 0 roots))

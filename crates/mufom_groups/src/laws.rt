@@ -2,29 +2,29 @@
 
 ghost use Rattle.mufom_groups.specs.Laws.{GroupsMakeNoDifference, LinkFactsStand, LinkedIsFlat, LinksAreSingle, LinksStandForFlat};
 
-/// Commands that differ at most in their brackets link any modules into the same module; if one of them
-/// has a link fact, so has the other.
+/// Commands that differ only in their brackets link any modules into the same module, or both fail with a
+/// link error.
 pub fn groups_make_no_difference()
     ensures { GroupsMakeNoDifference }
 {}
 
-/// The list that is linked last is the flat list if and only if the flat list has no link fact.
+/// The list that is linked last is the flat list, if and only if the flat list can be linked.
 pub fn linked_is_flat()
     ensures { LinkedIsFlat }
 {}
 
-/// A link fact of a list that is linked before is also one of the flat list.
+/// A link error of a list that is linked before the flat list also applies to the flat list.
 pub fn link_facts_stand()
     ensures { LinkFactsStand }
 {}
 
-/// The modules of a command have at most one result: one module, or one link fact.
+/// The modules of a command have at most one result: one module, or one link error.
 pub fn links_are_single()
     ensures { LinksAreSingle }
 {}
 
-/// The module into which modules without a defect are linked can replace their flat list: it means what
-/// the list means, whatever modules are around it and wherever its sections are placed.
+/// The module into which modules without a defect are linked can replace their flat list: it means what the
+/// list means, whatever other modules are linked with it and wherever its sections are placed.
 pub fn links_stand_for_flat_lists()
     ensures { LinksStandForFlat }
 {}

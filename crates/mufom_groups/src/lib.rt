@@ -1,8 +1,8 @@
-//! Linking the modules of a command: by its groups, from the inside out, and with the members that its roots need.
+//! Links the modules of a command: its groups, from the inside out, and the members that its roots need.
 //!
-//! [`link_modules`] links each group as its bracket closes, then the roots, selects members for them, and links these. Its
-//! main clause is that the module that it returns is the link of the flat list, wherever the groups are, and a refusal is
-//! the first link fact.
+//! [`link_modules`] links each group when its bracket closes, then the roots, selects members for them, and
+//! links the roots with the members. Its main clause is that the module that it returns is the link of the
+//! flat list, wherever the groups are, and that an error is the first link error.
 #![tactic(auto)]
 
 mod laws;

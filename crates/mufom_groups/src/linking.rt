@@ -1,5 +1,5 @@
-//! Linking the modules of a command: each group as its bracket closes, the roots, and then the roots with
-//! the members that are selected for them.
+//! Links the modules of a command: each group when its bracket closes, then the roots, and then the roots
+//! with the members that are selected for them.
 
 ghost use Rattle.std.specs.Prelude.{◌≡◌, ◌+◌, ◌++◌, ◌<◌, ◌≤◌, ◌^◌, [], ◌∷◌, length, map, take, drop, slice_get, unwrap_or, None, IfOk, IfErr, IfSome, OnOk};
 ghost use Rattle.std.specs.Vec.Iter.{into_iter_items};
@@ -35,7 +35,7 @@ fn name_of(entry: &Module) -> &[u8]
     entry.parts().name.as_slice()
 }
 
-// Adds a module to those that were linked so far.
+// Adds a module to those that have been linked so far.
 fn add(linked: &mut Vec<Module>, entry: Module) -> Result<(), LinkRefusal>
     ensures ok { OnOk result (linked.new.items ≡ linked.old.items ++ entry ∷ []) }
     ensures err { IfErr result (λ e. e ≡ LinkRefusal.NoMemory) }
@@ -46,7 +46,7 @@ fn add(linked: &mut Vec<Module>, entry: Module) -> Result<(), LinkRefusal>
     }
 }
 
-// Adds a module, where there is one.
+// Adds a module, if there is one.
 fn add_optional(linked: &mut Vec<Module>, entry: Option<Module>) -> Result<(), LinkRefusal>
     ensures ok { OnOk result (linked.new.items ≡ linked.old.items ++ member_at entry) }
     ensures err { IfErr result (λ e. e ≡ LinkRefusal.NoMemory) }
@@ -57,14 +57,14 @@ fn add_optional(linked: &mut Vec<Module>, entry: Option<Module>) -> Result<(), L
     }
 }
 
-// The next module, if there is one.
+// Takes the next module, if there is one.
 fn next_of(rest: &mut IntoIter<Module>) -> Option<Module>
     ensures { IsNextOf (into_iter_items rest.old) result (into_iter_items rest.new) }
 {
     rest.next()
 }
 
-// The next module, of which there are some.
+// Takes the next module. There must be one.
 fn next_module(rest: &mut IntoIter<Module>) -> Module
     requires { 0 < length (into_iter_items rest.old) }
     ensures { into_iter_items rest.old ≡ result ∷ into_iter_items rest.new }
@@ -75,7 +75,7 @@ fn next_module(rest: &mut IntoIter<Module>) -> Module
     }
 }
 
-// The module after `count` others, which are dropped; `None` if there are no more.
+// Takes the module after `count` others, which are dropped; `None` if there are no more.
 fn module_after(rest: &mut IntoIter<Module>, count: usize) -> Option<Module>
     ensures item { result ≡ slice_get (into_iter_items rest.old) count }
     ensures rest { into_iter_items rest.new ≡ drop (count + 1) (into_iter_items rest.old) }
@@ -86,7 +86,7 @@ fn module_after(rest: &mut IntoIter<Module>, count: usize) -> Option<Module>
     next_of(rest)
 }
 
-// Takes the modules from this position on off the list.
+// Removes the modules from this position on from the list, and returns them.
 fn take_from(linked: &mut Vec<Module>, start: usize) -> Result<Vec<Module>, LinkRefusal>
     requires { start ≤ length linked.old.items }
     ensures taken { IfOk result (λ group. group.items ≡ drop start linked.old.items) }
@@ -112,8 +112,8 @@ fn copy_first_name(alloc: Global, list: &[Module]) -> Result<Bytes, LinkRefusal>
     }
 }
 
-// Links the modules from this position on into one, which takes their place. It has the name of the
-// first of them.
+// Links the modules from this position on into one, which takes their place, under the name of the first of
+// them.
 fn link_from(alloc: Global, linked: &mut Vec<Module>, start: usize) -> Result<(), LinkRefusal>
     requires inside { start < length linked.old.items }
     requires light { total_weight linked.old.items ≤ most_weight }
@@ -125,7 +125,7 @@ fn link_from(alloc: Global, linked: &mut Vec<Module>, start: usize) -> Result<()
     add(linked, link_owned(alloc, group, name.as_slice())?)
 }
 
-// Links the modules of the innermost open group, which closes.
+// Closes the innermost open group, and links its modules.
 fn close_group(
     alloc: Global,
     begun: &mut Vec<usize>,
@@ -143,7 +143,7 @@ fn close_group(
     }
 }
 
-// Does what a mark says: a group begins or closes, or the next of the roots is added for a file.
+// Carries out a mark: a group begins or closes, or the next root is added for a file.
 fn take_mark(
     alloc: Global,
     mark: &Mark,
@@ -167,8 +167,8 @@ fn take_mark(
     }
 }
 
-// Links each group that the marks spell, as its bracket closes. The modules of the elements at the top
-// of the tree stay.
+// Links each group of the marks when its bracket closes. Returns the modules of the elements at the top of
+// the tree.
 fn link_groups(
     alloc: Global,
     marks: &[Mark],
@@ -203,7 +203,7 @@ fn own_files(mark: &Mark) -> usize
     }
 }
 
-/// How many files the marks name.
+/// The number of files among the marks.
 pub(crate) fn file_count(marks: &[Mark]) -> usize
     ensures { result ≡ length (files_of marks.now) }
 {
@@ -214,8 +214,7 @@ pub(crate) fn file_count(marks: &[Mark]) -> usize
     count
 }
 
-// Adds to the roots, which are one module, the members that are selected for them, and returns their
-// positions.
+// Adds the members that are selected for the roots, which are one module. Returns their positions.
 fn add_members(
     alloc: Global,
     roots: &mut Vec<Module>,
@@ -246,7 +245,8 @@ fn only_of(list: Vec<Module>) -> Module
     next_module(&mut list.into_iter())
 }
 
-// The link of the flat list under the name of its first module. That is its own link, so alone it is not linked again.
+// Links the flat list under the name of its first module. That module is its own link, so a list of it alone
+// is not linked again.
 fn link_unnamed(alloc: Global, flat: Vec<Module>) -> Result<Module, LinkRefusal>
     requires begins { BeginsWithLink flat.items }
     requires some { 0 < length flat.items }
@@ -264,7 +264,7 @@ fn link_unnamed(alloc: Global, flat: Vec<Module>) -> Result<Module, LinkRefusal>
     }
 }
 
-// The link of the flat list, under the name that the command gives or that of the first module.
+// Links the flat list, under the name that the command gives or that of the first module.
 fn link_flat(alloc: Global, command: &Command, flat: Vec<Module>) -> Result<Module, LinkRefusal>
     requires begins { BeginsWithLink flat.items }
     requires some { 0 < length flat.items }
@@ -281,7 +281,7 @@ fn link_flat(alloc: Global, command: &Command, flat: Vec<Module>) -> Result<Modu
     }
 }
 
-// The modules of the tree, linked into one.
+// Links the modules of the tree into one.
 fn link_roots(alloc: Global, marks: &[Mark], roots: Vec<Module>) -> Result<Vec<Module>, LinkRefusal>
     requires spelled { spelling (tree_of marks.now) ≡ marks.now }
     requires some { 1 ≤ length (leaves (tree_of marks.now)) }
@@ -307,9 +307,9 @@ pub struct LinkedModules {
     pub chosen: List<u32>,
 }
 
-/// The module into which a command links its modules: those of the tree, with each group linked first,
-/// and the members that are selected for them. It has the name that the command gives, or that of the
-/// first module. The members are returned with it.
+/// Links the modules of a command: those of the tree, with each group linked first, and the members that are
+/// selected for them. The link has the name that the command gives, or that of the first module. Returns it
+/// with the positions of the members.
 pub fn link_with_members(
     alloc: Global,
     command: &Command,
@@ -324,10 +324,10 @@ pub fn link_with_members(
     requires light { total_weight modules ≤ most_weight }
     ensures ok { IfOk result (λ linked. linked_module command.now modules (gives linked.«module»)) }
     ensures count { IfOk result (λ linked. linked.roots ≡ length (leaves (tree_of command.now.marks))) }
-    // The members are the ones that the modules of the tree need.
+    // The members are those that the modules of the tree need.
     ensures chosen { IfOk result (λ linked. IsSelected (roots (tree_of command.now.marks) modules)
         (members (tree_of command.now.marks) modules) linked.chosen) }
-    // It weighs little more than the modules of a run do together at most.
+    // The link weighs little more than the greatest total weight of the modules of a run.
     ensures light { IfOk result (λ linked. weight linked.«module» < most_weight + 2 ^ 16) }
     ensures refused { IfErr result (λ e. StopsWork (linked_module command.now modules) e) }
 {
@@ -347,7 +347,7 @@ pub fn link_with_members(
     })
 }
 
-/// The module into which a command links its modules, as [`link_with_members`] makes it.
+/// Links the modules of a command, as [`link_with_members`] does, and returns the link alone.
 pub fn link_modules(
     alloc: Global,
     command: &Command,
@@ -361,7 +361,7 @@ pub fn link_modules(
     requires valid { AreValid modules }
     requires light { total_weight modules ≤ most_weight }
     ensures ok { IfOk result (λ M. linked_module command.now modules (gives M)) }
-    // It weighs little more than the modules of a run do together at most.
+    // The link weighs little more than the greatest total weight of the modules of a run.
     ensures light { IfOk result (λ M. weight M < most_weight + 2 ^ 16) }
     ensures refused { IfErr result (λ e. StopsWork (linked_module command.now modules) e) }
 {

@@ -1,4 +1,4 @@
-//! Which list of files a command can't link.
+//! The files of the first list that a command cannot link.
 
 ghost use Rattle.std.specs.Prelude.{◌≡◌, ◌-◌, ◌+◌, ◌++◌, ◌≤◌, ◌<◌, ◌^◌, ℕ, length, map};
 ghost use Rattle.std.specs.Prelude.{drop, take, is_some, option_map, All, IfOk, IfSome, IsNone, IsSome, None, OnOk};
@@ -24,15 +24,15 @@ use mufom_select::select;
 use mufom_words::{Command, Mark};
 use std::alloc::Global;
 
-/// Files with consecutive numbers, from `first` up to, not including, `end`.
+/// Files with consecutive numbers, from `first` up to, but not including, `end`.
 #[derive(Clone, Copy, Debug, PartialEq, Eq)]
 pub(crate) struct FileRange {
     pub(crate) first: usize,
     pub(crate) end: usize,
 }
 
-// Does what a mark says, after this many files: a file comes, a group begins, or the innermost one closes.
-// Returns how many files there are then. A closing bracket without an opening one, which the parser never
+// Carries out a mark, after `count` files: a file is counted, a group begins, or the innermost group closes.
+// Returns the number of files after it. A closing bracket without an opening one, which the parser never
 // produces, closes from the start.
 fn range_after(
     mark: &Mark,
@@ -73,7 +73,7 @@ fn group_ranges(alloc: Global, marks: &[Mark]) -> Result<Vec<FileRange>, NoMemor
     Ok(ranges)
 }
 
-// The modules of a range of files; none if it passes the last one.
+// The modules of a range of files; none if the range goes past the last file.
 fn modules_between(modules: &[Module], range: FileRange) -> &[Module]
     requires { range.end ≤ length modules.now }
     ensures { result.now ≡ take (range.end - range.first) (drop range.first modules.now) }
@@ -81,7 +81,7 @@ fn modules_between(modules: &[Module], range: FileRange) -> &[Module]
     modules.get(range.first..range.end).unwrap_or(&[])
 }
 
-// The link of modules, under the name of the first; `None` if they can't be linked.
+// The link of modules, under the name of the first; `None` if they cannot be linked.
 fn link_of(alloc: Global, list: &[Module]) -> Result<Option<Module>, NoMemory>
     requires some { 0 < length list.now }
     requires valid { AreValid list.now }
@@ -97,7 +97,7 @@ fn link_of(alloc: Global, list: &[Module]) -> Result<Option<Module>, NoMemory>
     }
 }
 
-// Whether modules can't be linked. An empty list can.
+// Whether modules cannot be linked. An empty list can be.
 fn is_refused(alloc: Global, list: &[Module]) -> Result<bool, NoMemory>
     requires valid { AreValid list.now }
     requires light { total_weight list.now ≤ most_weight }
@@ -112,7 +112,7 @@ fn is_refused(alloc: Global, list: &[Module]) -> Result<bool, NoMemory>
     }
 }
 
-// The first of some ranges whose modules can't be linked.
+// The first of these ranges whose modules cannot be linked.
 fn refused_range(
     alloc: Global,
     ranges: &[FileRange],
@@ -146,7 +146,7 @@ fn numbers_of(alloc: Global, range: FileRange) -> Result<List<u32>, NoMemory>
     Ok(files)
 }
 
-// Appends the numbers of the members at some positions, the first of which has this number.
+// Appends the numbers of the members at these positions; the first member has number `first`.
 fn add_members(files: &mut List<u32>, first: usize, chosen: &[u32]) -> Result<(), NoMemory>
     requires { All (λ (position : ℕ). first + position < 2 ^ 32) chosen.now }
     ensures { OnOk result (files.new ≡ files.old ++ map (λ position. first + position) chosen.now) }
@@ -157,8 +157,8 @@ fn add_members(files: &mut List<u32>, first: usize, chosen: &[u32]) -> Result<()
     Ok(())
 }
 
-/// The numbers of the files of the flat list, of which the first `roots` are those of the tree, and the
-/// members at these positions are selected.
+/// Returns the numbers of the files of the flat list. The first `roots` files are those of the tree; `chosen`
+/// are the positions of the selected members after them.
 pub fn flat_files(alloc: Global, roots: usize, chosen: &[u32]) -> Result<List<u32>, NoMemory>
     requires few { roots < 2 ^ 32 }
     requires members { All (λ (position : ℕ). roots + position < 2 ^ 32) chosen.now }
@@ -175,7 +175,7 @@ pub fn flat_files(alloc: Global, roots: usize, chosen: &[u32]) -> Result<List<u3
     Ok(files)
 }
 
-// The members that are selected for the modules of the tree; `None` if these can't be linked.
+// Selects members for the modules of the tree; `None` if the tree cannot be linked.
 fn selected_for(
     alloc: Global,
     tree: &[Module],
@@ -194,7 +194,8 @@ fn selected_for(
     }
 }
 
-// The numbers of the files of the tree, which has this many, or of the flat list if the tree can be linked.
+// The numbers of the first `roots` files, which are those of the tree, or those of the flat list if the tree
+// can be linked.
 fn tree_or_flat(alloc: Global, roots: usize, modules: &[Module]) -> Result<List<u32>, NoMemory>
     requires some { 1 ≤ roots }
     requires within { roots ≤ length modules.now }
@@ -210,12 +211,12 @@ fn tree_or_flat(alloc: Global, roots: usize, modules: &[Module]) -> Result<List<
     }
 }
 
-/// The numbers of the files of the list that a command can't link: of the first group that can't be
-/// linked, in the order of the closing brackets; else of the tree; else of the flat list. If everything
-/// can be linked, they are those of the flat list.
+/// Returns the numbers of the files of the first list that a command cannot link: the first group that cannot
+/// be linked, in the order of the closing brackets; otherwise the tree; otherwise the flat list. If
+/// everything can be linked, they are those of the flat list.
 ///
-/// Each group is linked from its own files, so the time is that of one link for each bracket that is open
-/// at once. Memory is needed for the greatest of these links.
+/// Each group is linked from its own files, so the time is that of one link for each level of brackets. The
+/// memory is that of the largest of these links.
 pub fn refused_files(
     alloc: Global,
     command: &Command,

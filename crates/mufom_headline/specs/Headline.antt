@@ -1,4 +1,4 @@
--- What a run of a command that locates results in: the main law of the program. It can be read alone, with the definitions that it names.
+-- The result of a run of a command that locates: the main law of the program. It can be read alone, with the definitions that it names.
 use Rattle.std.specs.Prelude.{◌≡◌, ◌↔◌, ◌<◌, ℕ, List, [], ◌∷◌, length, Some, None, Ok}
 use Rattle.mufom_numbers.specs.declared.limits.TheConstants.{MOST_FILE_BYTES}
 use Rattle.mufom_host.specs.World.{NamedFile}
@@ -35,11 +35,10 @@ use Rattle.mufom_command.specs.RunLaws.{Accepts, CameByStages, HasNoFact, IsLoca
 use Rattle.mufom_command.specs.Text.{hit_text}
 use Rattle.mufom_headline.specs.ReadBack.{IsPutInFile, MakesOutFile}
 
--- The output of a run is this location of what is kept, and nothing else. `locate` makes the file of the location's absolute module, from
--- which a later run reads that module; `bin` makes the file of its raw image, and `txt` the file of its TI-TXT text. `dump` prints the text
--- of its image; `addr` prints the lines of the function and the source line at the address of its arguments; `map` prints the text that tells
--- which sections and symbols are at which addresses, and from which module each comes. `origins` are the names of these modules, their
--- files, and how many entries they have.
+-- The output of a run is this location of what is kept, and nothing else. `locate` writes the file of the location's absolute module, from which a
+-- later run reads that module; `bin` writes the file of its raw image, and `txt` the file of its TI-TXT text. `dump` prints the text of its image;
+-- `addr` prints the lines of the function and the source line at the address in its arguments; `map` prints the sections and symbols with their
+-- addresses and the modules from which they come. `origins` are the names of these modules, their files, and the numbers of their entries.
 abbrev pub PutsOutLocation : Verb → Command → List Origin → Plan → Kept → LocatedParts → Call → Type 0
 PutsOutLocation verb.Locate c origins plan kept r call = IsPutInFile c (absolute_of r) call
 PutsOutLocation verb.Bin c origins plan kept r call = MakesOutFile c (raw_image c.fill r.runs) call
@@ -64,14 +63,13 @@ pub record IsPutOut (c : Command) (origins : List Origin) (plan : Plan) (list : 
   pub itself : IsLocation (absolute_of location ∷ []) no_regions location
   pub puts_out : PutsOutLocation c.verb c origins plan kept location call
 
--- The raw image that `bin` would make of the list is not too long for a file. The other commands have no such limit: of them this is always
--- true.
+-- The raw image that `bin` would make of the list is not too long for a file. This is always true for the other commands, which have no such limit.
 abbrev pub IsNotTooLong : Command → Plan → List Parts → Type 0
 IsNotTooLong c plan list = (kept : Kept) (r : LocatedParts) → kept_of c.keep list (gives kept) → IsLocation kept.modules plan r → MayPutOut c.verb c r
 
--- The result of the run is that of locating this list. It is `Done` if and only if the list can be linked, what is kept of it can be located,
--- and the raw image of `bin` is not too long; the output is then the location. A list that can be linked, and of which what is kept cannot be
--- located, is refused with the first error of locating it. A raw image that is too long is refused with its length in bytes.
+-- The result of the run is that of locating this list. It is `Done` if and only if the list can be linked, what is kept of it can be located, and the
+-- raw image of `bin` is not too long; the output is then the location. If the list can be linked but what is kept of it cannot be located, the run is
+-- refused with the first error of locating it. A raw image that is too long is refused with its length in bytes.
 pub record HasLocated (c : Command) (origins : List Origin) (plan : Plan) (call : Call) (result : Outcome) (list : List Parts) : Type 0 where
   pub done : (result ≡ outcome.Done) ↔ (HasNoFact c.keep list plan × IsNotTooLong c plan list)
   pub output : result ≡ outcome.Done → IsPutOut c origins plan list call

@@ -1,4 +1,4 @@
--- What a run of `link` results in, and what the work of a command is whose files were linked in stages.
+-- The result of a run of `link`, and the work of a command whose files were linked in stages.
 use Rattle.std.specs.Prelude.{◌≡◌, ◌↔◌, ℕ, List, [], ◌∷◌, None, Ok, unwrap_or}
 use Rattle.mufom_host.specs.World.{NamedFile, HoldBytes}
 use Rattle.mufom_words.specs.declared.command.Command.{Command}
@@ -57,8 +57,8 @@ LinksArePutOut =
     → Answers words call result → IsUndisturbed files call result → answer_of words ≡ Ok c → c.verb ≡ verb.Link → Accepts files c plan flat
     → LinksAll c call result flat
 
--- The work over one list of modules, without groups and members: the list is linked, which may end the work with a link error, and this
--- output of it follows.
+-- The work over one list of modules, without groups and members: the list is linked, which may end the work with a link error, and the output
+-- follows.
 abbrev pub after_link : List Parts → Work Stop Output → Work Stop Output
 after_link ms output = do
   _ ← with_stops link_fact (links (ms ∷ []))

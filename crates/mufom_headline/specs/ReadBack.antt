@@ -1,4 +1,4 @@
--- What a later run reads from the file of a module, and what is put into such a file.
+-- Files of modules: what a later run reads from them, and their bytes.
 use Rattle.std.specs.Prelude.{◌≡◌, ◌↔◌, ◌≤◌, ℕ, false, true, List, [], ◌∷◌, length, slice_get, Some}
 use Rattle.mufom_numbers.specs.declared.limits.TheConstants.{MOST_FILE_BYTES}
 use Rattle.mufom_host.specs.World.{NamedFile, file_named}
@@ -12,8 +12,8 @@ use Rattle.mufom_groups.specs.Work.{gives}
 use Rattle.mufom_command.specs.Commands.{modules_in}
 use Rattle.mufom_command.specs.Run.{Call, MakesFile}
 
--- The written form of the module is a file of this module, with its debug part, and of no other. A command that does not skip debug parts
--- and whose files are accepted reads this module from each such file. A command that names only one such file accepts it.
+-- The written form of the module is a file of this module, with its debug part, and of no other module. A command that does not skip debug parts and
+-- whose files are accepted reads this module from each file with these bytes. A command whose only file has these bytes accepts it.
 pub record IsReadBack (m : Parts) : Type 0 where
   pub file : (n : Parts) → IsModule true (written m) n ↔ (n ≡ m)
   pub place : (files : List NamedFile) (c : Command) (ms : List Parts) (k : ℕ) (name : List ℕ)
@@ -22,18 +22,18 @@ pub record IsReadBack (m : Parts) : Type 0 where
   pub alone : (files : List NamedFile) (c : Command) (name : List ℕ)
       → file_named name files ≡ Some (written m) → c.no_debug ≡ false → c.files ≡ name ∷ [] → modules_in files c (gives (m ∷ []))
 
--- Modules without a defect, with numbers and strings that the types of a module can hold, are read back if their files are not too long.
--- All values of the type `Module` are such.
+-- Modules without a defect are read back if their files are not too long and their numbers and strings fit the types of a module. All values of the
+-- type `Module` are like that.
 abbrev pub WrittenFilesAreReadBack : Type 0
 WrittenFilesAreReadBack = (m : Parts) → IsValid m → IsMade m → length (written m) ≤ MOST_FILE_BYTES → IsReadBack m
 
--- The output of a run is one file and nothing else. It has the name of `-o` and these bytes.
+-- The output of a run is one file and nothing else. It has the name given by `-o`, and these bytes.
 pub record MakesOutFile (c : Command) (bytes : List ℕ) (call : Call) : Type 0 where
   pub name : List ℕ
   pub file : c.out ≡ Some name
   pub puts_out : MakesFile name bytes call
 
--- The output of a run is such a file with the bytes of the module, and a later run reads this module from it, if it is not too long.
+-- The output of a run is the file with the bytes of the module, and a later run reads this module from it if the file is not too long.
 pub record IsPutInFile (c : Command) (m : Parts) (call : Call) : Type 0 where
   pub made : MakesOutFile c (written m) call
   pub read_back : length (written m) ≤ MOST_FILE_BYTES → IsReadBack m

@@ -1,4 +1,4 @@
--- What `fromtxt` makes of a TI-TXT text, and `txt` of the file that `fromtxt` made.
+-- The file that `fromtxt` makes of a TI-TXT text, and the text that `txt` makes of that file.
 use Rattle.std.specs.Prelude.{◌≡◌, ◌≤◌, ℕ, ◌*◌, List, [], ◌∷◌, length, Some, None, Ok}
 use Rattle.mufom_numbers.specs.declared.limits.TheConstants.{MOST_FILE_BYTES}
 use Rattle.mufom_host.specs.World.{NamedFile, file_named}
@@ -20,14 +20,14 @@ use Rattle.mufom_command.specs.Run.{Call, MakesFile}
 use Rattle.mufom_command.specs.RunLaws.{IsUndisturbed}
 use Rattle.mufom_headline.specs.ReadBack.{IsReadBack}
 
--- `fromtxt` over the file with this name, with this many addressable units to an address, and this name after `-o`
+-- `fromtxt` with this file name, this number of addressable units to an address, and this name after `-o`
 pub record IsFromTxt (c : Command) (units : ℕ) (name out : List ℕ) : Type 0 where
   pub does : c.verb ≡ verb.FromTxt
   pub files : c.files ≡ name ∷ []
   pub maus : c.maus ≡ units
   pub puts_out : c.out ≡ Some out
 
--- `txt` over the file with this name alone, with this name after `-o`, and without `--plan` and `--keep`
+-- `txt` with this file name alone, with this name after `-o`, and without `--plan` and `--keep`
 pub record IsTxtAlone (c : Command) (name out : List ℕ) : Type 0 where
   pub does : c.verb ≡ verb.Txt
   pub files : c.files ≡ name ∷ []
@@ -36,15 +36,15 @@ pub record IsTxtAlone (c : Command) (name out : List ℕ) : Type 0 where
   pub keep : c.keep ≡ None
   pub puts_out : c.out ≡ Some out
 
--- The work of the command over these files gives a file with this name and these bytes. A run of the command is `Done`, and makes this file
--- and nothing else, if no I/O call failed and it did not run out of memory.
+-- The work of the command over these files has a file with this name and these bytes as its output. A run of the command is `Done`, and makes this
+-- file and nothing else, if no I/O call failed and it did not run out of memory.
 pub record Makes (files : List NamedFile) (c : Command) (name bytes : List ℕ) : Type 0 where
   pub work : work_of c.verb files c (gives (made name bytes))
   pub run : (words : List (List ℕ)) (call : Call) (result : Outcome) → Answers words call result → IsUndisturbed files call result
       → answer_of words ≡ Ok c → (result ≡ outcome.Done) × MakesFile name bytes call
 
--- `fromtxt` over the text makes the file of the module of the runs, from which a later run reads that module. `txt` over this file makes the
--- text of the runs, which is again a text of them.
+-- Given the text, `fromtxt` makes the file of the module of the runs, from which a later run reads that module. Given this file, `txt` makes the text
+-- of the runs, which is again a text of them.
 pub record ComesBack (text : List ℕ) (maus : ℕ) (runs : List Run) : Type 0 where
   pub module_file : (files : List NamedFile) (c : Command) (name out : List ℕ) → IsFromTxt c maus name out
       → file_named name files ≡ Some text → Makes files c out (written (text_parts maus runs))
@@ -53,7 +53,7 @@ pub record ComesBack (text : List ℕ) (maus : ℕ) (runs : List Run) : Type 0 w
       → file_named name files ≡ Some (written (text_parts maus runs)) → Makes files c out (txt_text runs)
   pub same_runs : IsTxtOf (txt_text runs) (8 * maus) runs
 
--- A text with which nothing is wrong comes back, if it and the file of its module are not too long.
+-- A text without an error comes back, if it and the file of its module are not too long.
 abbrev pub TextsComeBack : Type 0
 TextsComeBack =
     (text : List ℕ) (maus : ℕ) (runs : List Run) → 1 ≤ maus → maus ≤ 8 → length text ≤ MOST_FILE_BYTES → IsTxtOf text (8 * maus) runs

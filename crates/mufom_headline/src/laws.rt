@@ -33,19 +33,19 @@ pub fn staged_runs_are_flat()
     ensures { StagedRunsAreFlat }
 {}
 
-/// The work of `map` whose files were linked in stages is the map of the list that the stages began with,
-/// with the modules of the files, or the same link error.
+/// The result of `map` over files that were linked in stages is the map of the list that the stages began
+/// with, which names the modules of the files, or the same link error.
 pub fn staged_maps_are_flat()
     ensures { StagedMapsAreFlat }
 {}
 
-/// A later run reads from the file of a module that module, and no other, if the file is not too long.
+/// A later run reads exactly this module from the file of a module, if the file is not too long.
 pub fn written_files_are_read_back()
     ensures { WrittenFilesAreReadBack }
 {}
 
-/// `fromtxt` and then `txt` make the text of the first text's map: `fromtxt` makes the file of the module
-/// of the text's runs, and `txt` over this file alone makes the text of these runs. This holds if the
+/// `fromtxt` followed by `txt` preserves the bytes and addresses of a text: `fromtxt` makes the file of the
+/// module of the text's runs, and `txt` over this file alone makes the text of these runs. This holds if the
 /// text and the module file are not too long.
 pub fn texts_come_back()
     ensures { TextsComeBack }

@@ -1,10 +1,10 @@
--- What every topic of help is like.
+-- The form of every topic of help.
 use Rattle.std.specs.Prelude.{ℕ, suc, Bool, true, false, List, [], ◌∷◌, ◌++◌, codes, nat_le, nat_eq, length, ◌&&◌, not, cond}
 use Rattle.std.specs.List.{list_all, list_any, starts_with}
 use Rattle.std.specs.Str.{bytes_eq}
 use Rattle.mufom_help.specs.Topics.{Text, Topic}
 
--- the lengths in bytes of the pieces between the line ends of a text, of which so many bytes of the first have gone before
+-- the lengths in bytes of the pieces between the line ends of a text, if `n` bytes of the first piece come before the text
 unfoldable pub piece_lengths : ℕ → Text → List ℕ
 piece_lengths n [] = n ∷ []
 piece_lengths n (byte ∷ more) = cond (nat_eq byte 10) (n ∷ piece_lengths 0 more) (piece_lengths (suc n) more)

@@ -238,7 +238,7 @@ module_errors = records ++ structure
 abbrev pub content_errors : List Topic
 content_errors = texts ++ listings
 
--- errors in what is no module: the list of input files, the plan and texts
+-- errors in inputs other than modules: the list of input files, the plan and texts
 abbrev pub input_errors : List Topic
 input_errors = inputs ++ content_errors
 
@@ -246,7 +246,7 @@ input_errors = inputs ++ content_errors
 abbrev pub link_errors : List Topic
 link_errors = linking ++ locating
 
--- errors in what a run reads
+-- errors in the inputs of a run
 unfoldable pub read_errors : List Topic
 read_errors = module_errors ++ input_errors
 

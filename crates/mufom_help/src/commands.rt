@@ -3,7 +3,7 @@
 ghost use Rattle.std.specs.Prelude.{◌≡◌, option_map};
 ghost use Rattle.mufom_help.specs.Topics.{commands, topic_in};
 
-/// What `help` alone prints: the commands with their forms, and how to get more.
+/// What `help` prints without an argument: the commands with their forms, and how to get more help.
 pub const LIST: &str = "mufom links, locates and inspects object modules of IEEE Std 695 (MUFOM).
 
 Usage: mufom COMMAND [OPTION ...] OPERAND ...

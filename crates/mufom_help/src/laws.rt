@@ -1,4 +1,4 @@
-//! Laws of the texts, each the contract of a function that does nothing.
+//! Laws about the texts. Each law is the contract of a function with an empty body.
 
 ghost use Rattle.std.specs.Prelude.{true, ◌≡◌};
 ghost use Rattle.mufom_help.specs.Pages.{are_pages, fits_a_screen, have_own_names};

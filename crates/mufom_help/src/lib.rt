@@ -1,9 +1,9 @@
 //! The texts of `help`, and the version.
 //!
 //! A text is a constant of the program: at most 40 lines of at most 80 bytes, each with its line
-//! end. The crate uses `std` alone and allocates nothing. Its main clause is that of
-//! [`topic_text`]: the text of the one command or error that has exactly the given name, and `None`
-//! for any other word.
+//! end. The crate uses only `std` and does not allocate. Its main clause is that of [`topic_text`]: it
+//! returns the text of the one command or error that has exactly the given name, and `None` for any
+//! other word.
 #![tactic(auto)]
 
 pub mod commands;

@@ -13,15 +13,15 @@ use crate::records::record_topic;
 use crate::structure::structure_topic;
 use crate::texts::text_topic;
 
-/// What `help` alone prints: a line for each command with its form, and how to get more.
+/// What `help` prints without an argument: a line for each command with its form, and how to get more help.
 pub fn command_list() -> &'static str
     ensures { result.now ≡ LIST.now }
 {
     LIST
 }
 
-/// What `help` prints for a word: the text of the command or of the error that has this name,
-/// letter by letter, or `None` if there is none.
+/// What `help` prints for a word: the text of the command or of the error that has exactly this
+/// name, or `None` if there is none.
 #[tactic(auto, using(crate::proofs::Appended::topic_append), unfolding(crate::specs::Topics::topics))]
 pub fn topic_text(word: &str) -> Option<&'static str>
     ensures { option_map (λ text. text.now) result ≡ topic_in topics word.now }

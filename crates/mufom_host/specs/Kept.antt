@@ -1,24 +1,24 @@
--- What a host in memory keeps: bytes and names within their room, the files that may be opened, and the file that is made.
+-- What a host in memory stores: bytes and names up to a size limit (the room), the files that may be opened, and the file that is made.
 use Rattle.std.specs.Prelude.{ℕ, ◌+◌, nat_le, nat_lt, Bool, true, false, if◌then◌else◌, List, [], ◌∷◌, ◌++◌, length, take, drop, Option, Some, None}
 use Rattle.std.specs.Prelude.{is_some, unwrap_or, ◌==◌, slice_get}
 use Rattle.std.specs.List.{list_any, sum_by}
 use Rattle.mufom_host.specs.World.{NamedFile, file_named, optional}
 
--- stored bytes, and the greatest number of them
+-- stored bytes, and the limit on their number
 pub record Store : Type 0 where
   pub bytes : List ℕ
   pub room : ℕ
 
--- stored names, known until one of them exceeds the room
+-- stored names, and the limit on their weight in bytes; the names are None once one of them has exceeded the limit
 pub record NameStore : Type 0 where
   pub names : Option (List (List ℕ))
   pub room : ℕ
 
--- a name counts its bytes and 8 more
+-- the weight of a list of names: for each name its length in bytes plus 8
 abbrev pub name_weight : List (List ℕ) → ℕ
 name_weight names = sum_by (λ name. length name + 8) names
 
--- the names with one more, as long as they have room
+-- the names with one more at the end, or None if they are None already or their weight would exceed the room
 abbrev pub names_with : ℕ → Option (List (List ℕ)) → List ℕ → Option (List (List ℕ))
 names_with room None name = None
 names_with room (Some names) name = if nat_le (name_weight (names ++ name ∷ [])) room then Some (names ++ name ∷ []) else None
@@ -28,7 +28,7 @@ abbrev pub cut : List ℕ → List ℕ → List (List ℕ)
 cut [] bytes = []
 cut (n ∷ lengths) bytes = take n bytes ∷ cut lengths (drop n bytes)
 
--- the files that may be opened, and what the open one has left
+-- the files that may be opened, and the unread bytes of the open one
 pub record Input : Type 0 where
   pub files : List NamedFile
   pub left : List ℕ
@@ -47,15 +47,15 @@ left_of files (Some place) at = rest_of (slice_get files place) at
 abbrev pub has_file : List ℕ → List NamedFile → Bool
 has_file name files = is_some (file_named name files)
 
--- the bytes of the file with this name, or if there is none, what was left before
+-- the bytes of the file with this name, or the bytes `left` if there is no such file
 abbrev pub bytes_after : List ℕ → List NamedFile → List ℕ → List ℕ
 bytes_after name files left = unwrap_or (file_named name files) left
 
--- the bytes of the file with this name are left to read, if there is one
+-- the input after an open: all bytes of the file with this name are unread; without such a file nothing changes
 abbrev pub opened_file : Input → List ℕ → Input
 opened_file input name = record input { left = bytes_after name input.files input.left }
 
--- the number of a call is in the list of those that fail
+-- the number of a call is in the list of the calls that fail
 abbrev pub is_listed : ℕ → List ℕ → Bool
 is_listed number failing = list_any (λ k. k == number) failing
 
@@ -70,7 +70,7 @@ abbrev pub has_any : List NamedFile → Bool
 has_any [] = false
 has_any (file ∷ files) = true
 
--- the file being made has no room for `count` more bytes; while none is being made, there is room for any number
+-- a file is being made, and `count` more bytes would exceed the limit on its length
 abbrev pub passes_file : Option NamedFile → ℕ → ℕ → Bool
 passes_file None room count = false
 passes_file (Some file) room count = nat_lt room (length file.1 + count)

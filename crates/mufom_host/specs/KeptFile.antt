@@ -1,4 +1,4 @@
--- At which stage the file that is made is known.
+-- The file of a host in memory at each stage: it does not exist yet, it is being made, or it is finished.
 use Rattle.std.specs.Prelude.{List, [], ◌∷◌, Option, Some, None}
 use Rattle.mufom_host.specs.World.{NamedFile}
 use Rattle.mufom_host.specs.declared.memory.output.Stage.{Stage}

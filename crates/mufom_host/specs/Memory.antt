@@ -1,11 +1,11 @@
--- A host in memory: what is in it, exactly which of its calls fail, and what each call leaves.
+-- The host in memory: its state, exactly which of its calls fail, and its state after each call.
 use Rattle.std.specs.Prelude.{ℕ, ◌+◌, min, nat_lt, Bool, not, ◌||◌, if◌then◌else◌, List, [], ◌++◌, length, drop, Option, Some, None, is_some}
 use Rattle.mufom_host.specs.World.{NamedFile, Meaning, Faults, one_more, optional, with_bytes}
 use Rattle.mufom_host.specs.Revealed.{revealed}
 use Rattle.mufom_host.specs.Kept.{names_with, has_file, is_listed, bytes_after, has_any, passes_file}
 
 pub record Memory : Type 0 where
-  -- the files that may be opened, and what the open one has left
+  -- the files that may be opened, and the unread bytes of the open one
   pub files : List NamedFile
   pub left : List ℕ
   -- the one file that is made, while it is being made and when it is finished
@@ -13,19 +13,19 @@ pub record Memory : Type 0 where
   pub made : List NamedFile
   pub out : List ℕ
   pub err : List ℕ
-  -- the names opened and created, none once one exceeds the room
+  -- the names opened and the names created; a list is None once a name has exceeded the room
   pub opened : Option (List (List ℕ))
   pub created : Option (List (List ℕ))
-  -- the greatest size in bytes of each of the texts, of the file made and of each list of names
+  -- the limit on the size in bytes of each of the two texts, of the file that is made and of each list of names
   pub room : ℕ
   pub faults : Faults
-  -- the numbers of the calls that fail, and of the calls that come next
+  -- the numbers of the calls that fail, and the numbers of the next calls
   pub fail_reads : List ℕ
   pub fail_writes : List ℕ
   pub read_number : ℕ
   pub write_number : ℕ
 
--- a host as it is made: nothing is open, made, written or counted
+-- a new host: no file is open or made, nothing is printed, and all counts are 0
 abbrev pub fresh : List NamedFile → List ℕ → List ℕ → ℕ → Memory
 fresh files fail_reads fail_writes room = record {
   files = files;
@@ -44,7 +44,7 @@ fresh files fail_reads fail_writes room = record {
   write_number = 0;
 }
 
--- a host in memory reveals all; its files hold bytes
+-- a host in memory reveals its whole state, and its files if they hold bytes (numbers below 256)
 abbrev pub memory_meaning : Memory → Meaning
 memory_meaning m = record {
   left = Some m.left;
@@ -77,7 +77,7 @@ write_failed m = record m { write_number = one_more m.write_number; faults = rec
 abbrev pub complaint_failed : Memory → Memory
 complaint_failed m = record m { write_number = one_more m.write_number; faults = record m.faults { complaints = one_more m.faults.complaints } }
 
--- the next open or read, and the next other call, are in the lists of those that fail
+-- the next open or read is in the list of the calls that fail; is_failing_write says the same of the next other call
 abbrev pub is_failing_read : Memory → Bool
 is_failing_read m = is_listed m.read_number m.fail_reads
 
@@ -89,7 +89,7 @@ is_failing_write m = is_listed m.write_number m.fail_writes
 abbrev pub after_read : Memory → ℕ → Memory
 after_read m size = if is_failing_read m then read_failed m else record (read_called m) { left = drop (min size (length m.left)) m.left }
 
--- the name or an earlier one exceeds the room, or no file has the name
+-- the call is listed to fail, this name or an earlier one exceeds the room, or no file has the name
 abbrev pub open_fails : Memory → List ℕ → Bool
 open_fails m name = is_failing_read m || (not (is_some (names_with m.room m.opened name)) || not (has_file name m.files))
 
@@ -99,14 +99,14 @@ after_open m name =
     then record (read_failed m) { opened = names_with m.room m.opened name }
     else record (read_called m) { opened = names_with m.room m.opened name; left = bytes_after name m.files m.left }
 
--- the file being made has no room for the chunk
+-- the call is listed to fail, or the file being made has no room for the chunk
 abbrev pub write_fails : Memory → List ℕ → Bool
 write_fails m chunk = is_failing_write m || passes_file m.making m.room (length chunk)
 
 abbrev pub after_write : Memory → List ℕ → Memory
 after_write m chunk = if write_fails m chunk then write_failed m else record (write_called m) { making = with_bytes m.making chunk }
 
--- the name or an earlier one exceeds the room, or a file is finished already
+-- the call is listed to fail, this name or an earlier one exceeds the room, or a file is finished already
 abbrev pub create_fails : Memory → List ℕ → Bool
 create_fails m name = is_failing_write m || (not (is_some (names_with m.room m.created name)) || has_any m.made)
 
@@ -119,7 +119,7 @@ after_create m name =
 abbrev pub after_finish : Memory → Memory
 after_finish m = if is_failing_write m then write_failed m else record (write_called m) { making = None; made = m.made ++ optional m.making }
 
--- a text has no room for these bytes
+-- with these bytes added, the text would exceed the room
 abbrev pub passes : ℕ → List ℕ → List ℕ → Bool
 passes room old text = nat_lt room (length old + length text)
 

@@ -12,11 +12,11 @@ use Rattle.mufom_host.specs.World.{NamedFile, HoldBytes, file_named}
 abbrev pub are_bytes : List ℕ → Bool
 are_bytes numbers = list_all (λ b. nat_lt b 256) numbers
 
--- the content of each file is bytes, as that of every file of a program is
+-- the content of each file consists of bytes, as it does in every host that a program makes
 abbrev pub hold_bytes : List NamedFile → Bool
 hold_bytes files = list_all (λ file. are_bytes file.1) files
 
--- the files, whose contents are bytes
+-- the files, or None if the content of one does not consist of bytes
 abbrev pub revealed : List NamedFile → Option (List NamedFile)
 revealed files = if hold_bytes files then Some files else None
 
@@ -28,7 +28,7 @@ bytes_by_test : (numbers : List ℕ) → are_bytes numbers ≡ true → AreBytes
 bytes_by_test [] h = tt
 bytes_by_test (b ∷ numbers) h = let parts = both (nat_lt b 256) (are_bytes numbers) h in (ltb-true b 256 parts.0, bytes_by_test numbers parts.1)
 
--- contents that are bytes are known
+-- files that are revealed hold bytes
 pub revealed-bytes : (files : List NamedFile) → IfSome (revealed files) HoldBytes
 revealed-bytes files = by (hold_bytes files) refl where
   found : (name : List ℕ) (file : NamedFile) (files : List NamedFile) (same : Bool) → bytes_eq file.0 name ≡ same

@@ -1,7 +1,7 @@
--- The room of the parts of a host in memory.
+-- The size limits of the parts of a host in memory.
 use Rattle.std.specs.Prelude.{◌≡◌, ℕ}
 
--- all parts have the room of the output
+-- all parts have the same limit as the output
 pub record HasOneRoom (out err file opened created : ℕ) : Type 0 where
   pub of_err : err ≡ out
   pub of_file : file ≡ out

@@ -1,11 +1,11 @@
--- Calls in a row of a host in memory.
+-- Sequences of calls of a host in memory.
 use Rattle.std.specs.Prelude.{◌≡◌, ℕ, ◌+◌, ◌≤◌, true, List, [], ◌∷◌, length}
 use Rattle.std.specs.List.{sum_by}
 use Rattle.mufom_host.specs.World.{NamedFile}
 use Rattle.mufom_host.specs.Kept.{has_file}
 use Rattle.mufom_host.specs.Memory.{Memory, after_read, after_open, after_write, after_create, after_finish, after_print, after_complain}
 
--- a call: a read into a buffer of `count` bytes, and the others with their name or bytes
+-- a call: a read with the length of its buffer in bytes, or another call with its name or bytes
 pub data Call : Type 0 where
   reads : ℕ → Call
   opens : List ℕ → Call
@@ -15,7 +15,7 @@ pub data Call : Type 0 where
   prints : List ℕ → Call
   complains : List ℕ → Call
 
--- what a call leaves
+-- the state after a call
 abbrev pub after_call : Memory → Call → Memory
 after_call m (reads size) = after_read m size
 after_call m (opens name) = after_open m name
@@ -25,12 +25,12 @@ after_call m finishes = after_finish m
 after_call m (prints text) = after_print m text
 after_call m (complains text) = after_complain m text
 
--- what calls in a row leave
+-- the state after a sequence of calls
 abbrev pub after_calls : Memory → List Call → Memory
 after_calls m [] = m
 after_calls m (call ∷ calls) = after_calls (after_call m call) calls
 
--- how much room of each part a call takes
+-- the number of bytes of its room that each part uses up in a call
 abbrev pub opened_by : Call → ℕ
 opened_by (opens name) = length name + 8
 opened_by call = 0
@@ -51,12 +51,12 @@ abbrev pub complained_by : Call → ℕ
 complained_by (complains text) = length text
 complained_by call = 0
 
--- how many files a call starts to make
+-- the number of files that a call starts to make
 abbrev pub begun_by : Call → ℕ
 begun_by (creates name) = 1
 begun_by call = 0
 
--- a call opens nothing, or a file that exists
+-- if the call is an open, the file exists
 abbrev pub OpensWhatIsThere : List NamedFile → Call → Type 0
 OpensWhatIsThere files (opens name) = has_file name files ≡ true
 OpensWhatIsThere files call = Unit {0}

@@ -1,4 +1,4 @@
--- The effect of calls of one kind in a row, so that a loop that makes them needs one line of invariants.
+-- The effect of a sequence of calls of one kind, so that a loop that makes them needs only one line of invariants.
 use Rattle.std.specs.Prelude.{ℕ, ◌≤◌, List}
 use Rattle.mufom_host.specs.World.{Meaning, Faults, GrowsBy, MakingGrowsBy, ReadsOff, KeepsAllButLeft, KeepsAllButMaking, KeepsAllButOut}
 use Rattle.mufom_host.specs.World.{KeepsAllButReads, KeepsAllButWrites}

@@ -1,4 +1,4 @@
--- What is outside, as far as it is known, and what each call does to it.
+-- The state of the outside world, as far as a host reveals it, and the effect of each call on it.
 use Rattle.std.specs.Prelude.{◌≡◌, ◌⊎◌, ℕ, ◌+◌, ◌-◌, ◌^◌, ◌<◌, ◌≤◌, min, List, [], ◌∷◌, ◌++◌, length, take, drop, Option, Some, None, Result, Ok, Err}
 use Rattle.std.specs.Prelude.{OnOk, OnErr, IfOk, IfSome, IsSome, OnSome, option_map, find}
 use Rattle.std.specs.Str.{bytes_eq}
@@ -9,9 +9,9 @@ use Rattle.mufom_host.specs.declared.world.Failed.{Failed}
 abbrev pub NamedFile : Type 0
 NamedFile = List ℕ × List ℕ
 
--- the state of a host: each part is none if it is not known
+-- the state of a host; a part that the host does not reveal is None
 pub record Meaning : Type 0 where
-  -- what the open input has left, empty while nothing is open
+  -- the unread bytes of the open input, empty while none is open
   pub left : Option (List ℕ)
   -- the files that may be opened
   pub files : Option (List NamedFile)
@@ -23,7 +23,7 @@ pub record Meaning : Type 0 where
   pub out : Option (List ℕ)
   -- what was printed on the error output
   pub err : Option (List ℕ)
-  -- the names with which files were opened and created, failed calls among them
+  -- the names that were passed to open and to create, including those of failed calls
   pub opened : Option (List (List ℕ))
   pub created : Option (List (List ℕ))
 
@@ -31,32 +31,32 @@ pub record Meaning : Type 0 where
 abbrev pub file_named : List ℕ → List NamedFile → Option (List ℕ)
 file_named name files = option_map (λ f. f.1) (find (λ f. bytes_eq f.0 name) files)
 
--- each file that is there holds bytes
+-- the content of every file consists of bytes
 abbrev pub HoldBytes : List NamedFile → Type 0
 HoldBytes files = (name bytes : List ℕ) → file_named name files ≡ Some bytes → AreBytes bytes
 
--- A host that reveals the files reveals what is left, and one that reveals the finished files reveals the one being made. The files that
--- it reveals hold bytes.
+-- A host that reveals its files also reveals the unread bytes, and a host that reveals its finished files also reveals the file being made.
+-- The files that a host reveals hold bytes.
 pub record RevealsTogether (meaning : Meaning) : Type 0 where
   pub left : IsSome meaning.files → IsSome meaning.left
   pub making : IsSome meaning.made → IsSome meaning.making
   pub bytes : IfSome meaning.files HoldBytes
 
--- how often reads, writes and prints of errors failed
+-- the number of failed calls of each kind: open and read; create, write, finish and print; prints of error lines
 pub record Faults : Type 0 where
   pub reads : ℕ
   pub writes : ℕ
   pub complaints : ℕ
 
--- one more than a counter's value; the greatest value stays
+-- one more than a counter's value, but at most 2^64 - 1
 abbrev pub one_more : ℕ → ℕ
 one_more count = min (count + 1) (2 ^ 64 - 1)
 
--- a count rose, or is at the greatest value of a counter
+-- a count rose, or it is at the greatest value that a counter has
 abbrev pub Rose : ℕ → ℕ → Type 0
 Rose before now = one_more before ≤ now
 
--- the count never falls, and a failed call has raised it
+-- the count does not fall, and if the call failed, it rose
 pub record HasCause {T : Type 0} (before now : ℕ) (result : Result T Failed) : Type 0 where
   pub later : before ≤ now
   pub failed : OnErr result (Rose before now)
@@ -74,7 +74,7 @@ KeepsAllButComplaints old new = new ≡ record old { complaints = new.complaints
 
 -- ---- how a part changes, if it is known
 
--- it stays as it is
+-- it does not change
 abbrev pub StaysKnown : {T : Type 0} → Option T → Option T → Type 0
 StaysKnown before after = IfSome before (λ part. after ≡ Some part)
 
@@ -99,7 +99,7 @@ MakingGrowsBy before after bytes = IfSome before (λ making. after ≡ Some (wit
 abbrev pub MakingGrowsByPrefix : Option (Option NamedFile) → Option (Option NamedFile) → List ℕ → Type 0
 MakingGrowsByPrefix before after bytes = IfSome before (λ making. (n : ℕ) × (after ≡ Some (with_bytes making (take n bytes))))
 
--- the bytes are read off the start of what is left
+-- the bytes are the first unread ones, and the rest stays unread
 abbrev pub ReadsOff : Option (List ℕ) → Option (List ℕ) → List ℕ → Type 0
 ReadsOff before after bytes = IfSome before (λ left. (rest : List ℕ) × (left ≡ bytes ++ rest) × (after ≡ Some rest))
 
@@ -109,29 +109,29 @@ ReadsOff before after bytes = IfSome before (λ left. (rest : List ℕ) × (left
 abbrev pub AtMost : Result ℕ Failed → ℕ → Type 0
 AtMost result n = IfOk result (λ k. k ≤ n)
 
--- the first n bytes left go to the buffer's prefix; 0 for a buffer that is not empty means that nothing is left
+-- the first n unread bytes are copied to the start of the buffer; if n is 0 and the buffer is not empty, no bytes were left
 pub record TakesPrefix (left : List ℕ) (after : Option (List ℕ)) (n : ℕ) (buffer : List ℕ) : Type 0 where
   pub bytes : take n buffer ≡ take n left
   pub within : n ≤ length left
   pub rest : after ≡ Some (drop n left)
   pub end : n ≡ 0 → 0 < length buffer → left ≡ []
 
--- a read takes the prefix of what is left; a failed one leaves it
+-- a read takes a prefix of the unread bytes; a read that fails takes nothing
 abbrev pub Reads : Option (List ℕ) → Option (List ℕ) → Result ℕ Failed → List ℕ → Type 0
 Reads before after (Ok n) buffer = IfSome before (λ left. TakesPrefix left after n buffer)
 Reads before after (Err e) buffer = StaysKnown before after
 
--- a text grows by all of the bytes, or on a failure by the prefix of them
+-- a text grows by all of the bytes, or by a prefix of them if the call fails
 abbrev pub Grows : Option (List ℕ) → Option (List ℕ) → Result (Unit {0}) Failed → List ℕ → Type 0
 Grows before after (Ok done) text = GrowsBy before after text
 Grows before after (Err e) text = GrowsByPrefix before after text
 
--- if the result is `n`, the first `n` bytes of the chunk are added, at least one of a chunk that is not empty; on a failure a prefix of it may be
+-- if the result is `n`, the first `n` bytes of the chunk are added, at least 1 unless the chunk is empty; a call that fails adds a prefix
 abbrev pub Writes : Option (Option NamedFile) → Option (Option NamedFile) → Result ℕ Failed → List ℕ → Type 0
 Writes before after (Ok n) chunk = MakingGrowsBy before after (take n chunk) × (0 < length chunk → 0 < n)
 Writes before after (Err e) chunk = MakingGrowsByPrefix before after chunk
 
--- all of the bytes are added to the file being made, or on a failure the prefix of them
+-- all of the bytes are added to the file being made, or a prefix of them if the call fails
 abbrev pub WritesAll : Option (Option NamedFile) → Option (Option NamedFile) → Result (Unit {0}) Failed → List ℕ → Type 0
 WritesAll before after (Ok done) bytes = MakingGrowsBy before after bytes
 WritesAll before after (Err e) bytes = MakingGrowsByPrefix before after bytes
@@ -141,13 +141,13 @@ abbrev pub NamesGrow : Option (List (List ℕ)) → Option (List (List ℕ)) →
 NamesGrow before after (Ok done) name = GrowsBy before after (name ∷ [])
 NamesGrow before after (Err e) name = OnSome after (GrowsBy before after (name ∷ []))
 
--- an input that is open has the bytes of the file with its name
+-- after an open that succeeds, the unread bytes are those of the file with this name
 pub record Opens (old new : Meaning) (result : Result (Unit {0}) Failed) (name : List ℕ) : Type 0 where
   pub bytes : OnOk result (IfSome old.files (λ files. (bytes : List ℕ) × (file_named name files ≡ Some bytes) × (new.left ≡ Some bytes)))
   pub known : IsSome old.left → IsSome new.left
   pub names : NamesGrow old.opened new.opened result name
 
--- the file being made has the name and no bytes; on a failure it may be the one before
+-- after a create, the file being made has this name and no bytes; if the call fails, it may be the one from before
 pub record Creates (old new : Meaning) (result : Result (Unit {0}) Failed) (name : List ℕ) : Type 0 where
   pub making : OnOk result ((IsSome old.making ⊎ IsSome old.made) → new.making ≡ Some (Some (name, [])))
   pub failed : OnErr result (OnSome old.making ((new.making ≡ old.making) ⊎ (new.making ≡ Some (Some (name, [])))))

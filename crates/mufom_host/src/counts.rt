@@ -5,7 +5,8 @@ ghost use Rattle.mufom_host.specs.World.{one_more};
 
 use crate::Failed;
 
-/// How often reads, writes and prints of errors failed. Each count stops at the greatest `u64`.
+/// How many calls failed: opens and reads; creates, writes, finishes and prints; prints of error lines.
+/// Each count stops at the greatest `u64`.
 #[derive(Clone, Copy, Debug)]
 pub struct Counts {
     pub reads: u64,

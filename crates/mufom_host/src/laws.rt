@@ -1,4 +1,4 @@
-//! A law of the host in memory, the contract of a function that does nothing.
+//! A law about the host in memory: the contract of a function with an empty body.
 
 ghost use Rattle.std.specs.Prelude.{◌≡◌, ℕ, List, []};
 ghost use Rattle.mufom_host.specs.World.{NamedFile};

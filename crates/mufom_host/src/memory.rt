@@ -78,7 +78,7 @@ impl Model for MemHost {
     ghost invariant = { λ h. HasOneRoom h.out.room h.err.room h.output.room h.opened.room h.created.room };
 }
 
-// Written out so that whoever drops one makes one call: see "Drops" in docs/ARCHITECTURE.md.
+// Written out so that code that drops a host contains a single call: see "Drops" in docs/ARCHITECTURE.md.
 impl Drop for MemHost {
     fn drop(self) {
         let MemHost {

@@ -10,15 +10,16 @@ use std::fs::File;
 use std::io::{ErrorKind, Read, Write};
 use std::marker::Model;
 
-/// The files and the standard streams of the process. It is trusted code, and reveals no content.
+/// The host of the files and standard streams of the process. It is trusted code, and reveals no content.
 ///
 /// [`print`](Host::print) and [`complain`](Host::complain) pass their whole text on to the system before
 /// they return, so that nothing is left to print when the program ends: give them large chunks.
 /// [`write`](Sink::write) gathers bytes and passes them on in blocks of up to 65,536 bytes, and
 /// [`finish`](Host::finish) passes on the last one. So the failure of a block may be reported by a later call
 /// than the one that wrote its bytes, at the latest by `finish`. The file then keeps a prefix of what was
-/// written, and can't be finished any more. Each failed call of the system is counted as an error. For this
-/// host it is proved only that a failed call has raised its count; that files and streams hold what was written is tested.
+/// written, and can't be finished any more. Each call that returns [`Failed`] is counted as an error. For
+/// this host it is proved only that a failed call has raised its count; tests check that files and streams
+/// hold what was written.
 #[derive(Drop)]
 pub struct RealHost {
     rt: HostRuntime,

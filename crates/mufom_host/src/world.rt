@@ -12,7 +12,7 @@ use thiserror::Error;
 #[error("the operation failed")]
 pub struct Failed;
 
-/// The state of a host, each part of it known or not, and how often its calls failed.
+/// The state of a host, each part of which may be known or not, and the numbers of its failed calls.
 ///
 /// The trait has no calls, so that a reader over [`Source`] alone and a writer over [`Sink`] alone can
 /// state what stays. A call leaves unchanged each part and each count that its own clauses do not name,
@@ -30,8 +30,8 @@ pub trait World {
 
 /// Where the bytes of the open input come from.
 pub trait Source: World {
-    /// Moves bytes of the open input to the start of the buffer, and returns how many: 0 for a buffer
-    /// that is not empty means that no bytes are left.
+    /// Copies the next unread bytes of the open input to the start of the buffer, and returns their number.
+    /// If that is 0 and the buffer is not empty, no bytes are left.
     ///
     /// After `Failed` the same bytes are left to read; the buffer may have changed.
     fn read(&mut self, buffer: &mut [u8]) -> Result<usize, Failed>
@@ -44,9 +44,9 @@ pub trait Source: World {
 
 /// Where the bytes of the file being made go.
 pub trait Sink: World {
-    /// Adds the first bytes of the chunk to the file being made, and returns how many: at least 1 of a
-    /// chunk that is not empty. While no file is being made, the call may take the whole chunk, and
-    /// nothing changes.
+    /// Adds the first bytes of the chunk to the file being made, and returns their number, which is at
+    /// least 1 unless the chunk is empty. While no file is being made, nothing changes, whatever number is
+    /// returned.
     ///
     /// After `Failed` a prefix of the chunk may have been added.
     fn write(&mut self, chunk: &[u8]) -> Result<usize, Failed>

@@ -12,7 +12,7 @@ use Rattle.mufom_image_entries.specs.declared.valued.ValuedModule.{ValuedModule}
 use Rattle.mufom_image_entries.specs.Valued.{parts_of, value_of, valued_mark, valued_public}
 use Rattle.mufom_image.specs.Stages.{bases_of}
 
--- the parts have the header of the module, these sections and rows, and its entries with their values
+-- the parts have the header of the module, these sections and runs, and its other entries with their values
 pub record HasEntries (valued : ValuedModule) (sections : List Section) (runs : List Run) (r : LocatedParts) : Type 0 where
   pub first : first_header (parts_of valued ∷ []) ≡ Some (r.processor, r.name, r.maus, r.order)
   pub placed : r.sections ≡ sections
@@ -21,7 +21,7 @@ pub record HasEntries (valued : ValuedModule) (sections : List Section) (runs : 
   pub start : r.start ≡ option_map (value_of valued) (parts_of valued).start
   pub debug : marks_of r.debug ≡ map (valued_mark (value_of valued)) (marks_of (parts_of valued).debug)
 
--- the runs are the rows of the bytes that the module loads
+-- the runs are those of the bytes that the module loads
 abbrev pub AreRuns : ValuedModule → List Run → Type 0
 AreRuns valued runs = let m = parts_of valued in
     AreRowsOf (address_map m.order (setting_of valued.placed.now).modulus (readings (m ∷ []) (bases_of valued.placed.now)).steps) runs

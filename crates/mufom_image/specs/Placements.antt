@@ -13,7 +13,7 @@ use Rattle.mufom_meaning.specs.Placed.{placed_commons, extended_sections, base_l
 use Rattle.mufom_image_values.specs.declared.resolutions.Resolution.{Resolution}
 use Rattle.mufom_image_values.specs.declared.values.PlacedModule.{PlacedModule}
 
--- what every plan that is read has: no section name occurs twice, fewer than 2^32 regions, at most one of them for the commons
+-- the conditions that every plan meets once it is read: no section name occurs twice, fewer than 2^32 regions, at most one of them for the commons
 pub record IsSoundPlan (plan : Plan) : Type 0 where
   pub names : AreDistinctNames (listed_names plan.regions)
   pub regions : length plan.regions < 2 ^ 32
@@ -29,7 +29,7 @@ pub record ArePlaced (m : Parts) (plan : Plan) (placed : List Section) (at : Lis
   pub sections : placed ≡ extended_sections (m ∷ []) plan
   pub bases : at ≡ base_list (m ∷ []) plan
 
--- a module without a defect, with what its references resolve to: the first of the bases are those of its sections, the others those of
+-- `placed` is this module, without a defect, with these resolutions of its references; the first bases are those of its sections, the others those of
 -- its commons
 pub record StandsAt (m : Parts) (met : List Resolution) (all : List ℕ) (placed : PlacedModule) : Type 0 where
   pub valid : IsValid placed.graph.parts.now

@@ -1,10 +1,10 @@
--- What the errors of locating name.
+-- The facts that the errors of locating report.
 use Rattle.std.specs.Prelude.{◌≡◌, Option, Some}
 use Rattle.mufom_meaning.specs.Facts.{LocateFact, placement, undefined, common_unplaced, cycle, image_limit, zero_divisor, load_outside, loaded_twice, overflow}
 use Rattle.mufom_image.specs.declared.refusal.LocateRefusal.{LocateRefusal}
 use Rattle.mufom_image.specs.declared.refusal.LocateRefusal.TheVariants as refusals
 
--- the error names the fact that is found, or is out of memory
+-- the error reports this fact, or is out of memory
 abbrev pub IsMet : Option LocateFact → LocateRefusal → Type 0
 IsMet met (refusals.Place refusal) = met ≡ Some (placement refusal)
 IsMet met (refusals.Undefined name) = met ≡ Some (undefined name)

@@ -1,4 +1,4 @@
--- What keeps a module from being located, stage by stage.
+-- The errors that keep a module from being located, stage by stage.
 use Rattle.std.specs.Prelude.{◌≡◌, ℕ, ◌+◌, ◌*◌, ◌^◌, [], ◌∷◌, length, filter, take, drop, Option, Some, None, option_map}
 use Rattle.std.specs.List.{enumerate_from}
 use Rattle.mufom_expr.specs.Value.{value_at}
@@ -27,15 +27,15 @@ use Rattle.mufom_image.specs.Placements.{placing_refusal}
 abbrev pub unplaced : Parts → Plan → Option LocateFact
 unplaced m plan = option_map placement (placing_refusal m plan)
 
--- a strong reference has no meaning
+-- the first undefined strong reference
 abbrev pub unresolved : Parts → Option LocateFact
 unresolved m = option_map undefined (first_undefined (m ∷ []))
 
--- a common has no room
+-- the first common, if no region takes the commons
 abbrev pub roomless : Parts → Plan → Option LocateFact
 roomless m plan = option_map common_unplaced (first_unplaced_common (m ∷ []) plan)
 
--- a public leads back to itself
+-- the first public that leads back to itself
 abbrev pub circular : Parts → Option LocateFact
 circular m = first_some (cycle_at (m ∷ [])) (public_names (m ∷ []))
 
@@ -43,11 +43,11 @@ circular m = first_some (cycle_at (m ∷ [])) (public_names (m ∷ []))
 abbrev pub oversized : Parts → Option LocateFact
 oversized m = image_limit_at (loaded_total (m ∷ []))
 
--- the fact found once the module is placed and before its expressions are walked over, in this order
+-- the first error once the module is placed and before its expressions are evaluated
 abbrev pub judged : Parts → Plan → Option LocateFact
 judged m plan = unresolved m or_else (roomless m plan or_else (circular m or_else oversized m))
 
--- no such fact is found
+-- there is no such error
 pub record IsJudged (m : Parts) (plan : Plan) : Type 0 where
   pub undefined : unresolved m ≡ None
   pub commons : roomless m plan ≡ None
@@ -66,7 +66,7 @@ start_division m s = first_some (start_fact s) (start_trees (m ∷ []))
 abbrev pub debug_division : Parts → Setting → Option LocateFact
 debug_division m s = first_some (debug_fact s) (enumerate_from 0 (debug_trees (m ∷ [])))
 
--- the sections of the module are at the first of the bases by the plan, and the commons at the others
+-- the first bases are those of the module's sections by the plan, the others those of its commons
 pub record IsPlannedBy (plan : Plan) (placed : PlacedModule) : Type 0 where
   pub sections : placed.bases.now ≡ take (length placed.graph.parts.now.sections) (base_list (placed.graph.parts.now ∷ []) plan)
   pub commons : placed.commons.now ≡ drop (length placed.graph.parts.now.sections) (base_list (placed.graph.parts.now ∷ []) plan)

@@ -18,7 +18,7 @@ use std::alloc::Global;
 // The alignment of a common, in addressable units.
 const COMMON_ALIGN: u64 = 8;
 
-// The room that a reference asks for: `size` addressable units in the common at a position.
+// The space that a reference requests: `size` addressable units in the common at a position.
 #[derive(Clone, Copy)]
 struct Room {
     common: u32,
@@ -63,8 +63,7 @@ fn raise(common: &mut Section, size: u64)
     common.size = size.max(common.size);
 }
 
-// Makes room for a reference, if it asks for some: in the common that is at its place, or in a
-// new one.
+// Provides the space that a reference requests, if it does: in its common, or in a new one at the end.
 fn make_room(
     alloc: Global,
     commons: &mut Vec<Section>,
@@ -102,9 +101,9 @@ fn all_commons(
     Ok(List::from_vec(commons))
 }
 
-/// The commons that a plan places, as sections: a section for each name that weak references ask
-/// room for and no public has, of the greatest size that they ask for. They are in the order in which
-/// references first ask for them. The only error is out of memory.
+/// Returns the commons that a plan places, as sections: one for each name for which weak references request
+/// space and that no public has, as large as the largest request. They are in the order of the first
+/// requests. The only error is out of memory.
 pub fn planned_commons(
     alloc: Global,
     module: &Module,

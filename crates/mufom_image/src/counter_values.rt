@@ -8,7 +8,7 @@ use mufom_expr::Postfix;
 use mufom_image_bytes::Values;
 use mufom_image_values::{Evaluation, PlacedModule};
 
-/// A placed module with the values of its publics, for expressions that find a program counter.
+/// A placed module with the values of its publics, for expressions that have a program counter.
 #[derive(Clone, Copy)]
 pub(crate) struct AtCounter<'a> {
     pub placed: &'a PlacedModule<'a>,

@@ -11,8 +11,8 @@ use mufom_numbers::{List, NoMemory};
 use mufom_sections::Section;
 use std::alloc::Global;
 
-/// The header of the module, these sections and rows, and its publics, start and debug items with
-/// their values.
+/// Returns the parts of a location: the header of the module, these sections and runs, and its publics, start
+/// and debug items with their values.
 pub(crate) fn located_parts(
     alloc: Global,
     valued: &ValuedModule<'_>,

@@ -1,12 +1,10 @@
 //! Locates a module: gives each section its base and each expression its value, and makes the image of
 //! the loaded bytes.
 //!
-//! [`locate`] returns the location of one module by a plan if nothing keeps the module from being
-//! located, and otherwise the first thing that does, in a fixed order. It depends on
-//! `mufom_place` for the bases, on `mufom_image_values` for the values of names, on
-//! `mufom_image_bytes` for the image, on `mufom_image_entries` for the entries and on
-//! `mufom_located` for what is returned; what a location is and what keeps a module from having one
-//! are definitions of `mufom_meaning`.
+//! [`locate`] returns the location of one module by a plan, or the first error, in a fixed order. It depends
+//! on `mufom_place` for the bases, on `mufom_image_values` for the values of names, on `mufom_image_bytes`
+//! for the image, on `mufom_image_entries` for the entries and on `mufom_located` for the result.
+//! `mufom_meaning` defines what a location is and what keeps a module from having one.
 #![tactic(auto)]
 
 mod commons;

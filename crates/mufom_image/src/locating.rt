@@ -43,7 +43,7 @@ fn placed_module<'a>(
     }
 }
 
-// The parts of the location of a module whose references resolve to these.
+// The parts of the location of a module, given what its references resolve to.
 fn located(
     alloc: Global,
     module: &Module,
@@ -72,18 +72,12 @@ fn located(
     Ok(located_parts(alloc, &valued, sections, runs)?)
 }
 
-/// The location of a module by a plan: the sections and commons at their bases, each public, start
-/// and debug expression its value, and the loaded bytes as runs of consecutive addresses.
+/// Locates a module by a plan: the sections and commons get their bases, each public, start and debug
+/// expression its value, and the loaded bytes are returned as runs of consecutive addresses.
 ///
-/// No public name may occur twice in the module. The plan has fewer than 2^32 regions, no section name
-/// twice and at most one region for the commons, as [`read_plan`](mufom_plan::read_plan) gives it. Both
-/// are borrowed and stay as they are.
-///
-/// Errors are looked for in this order: the placement of the sections and commons, an undefined strong
-/// reference, a common that no region places, a public that leads back to itself, more than 67,108,864
-/// loaded bytes; then, expression by expression, in the publics, the loads, the start and the debug
-/// items: an item outside its section, an address that is loaded twice, a divisor of 0, and a value that
-/// does not fit its field. `NoMemory` may be returned at any step.
+/// No public name may occur twice in the module. The plan has fewer than 2^32 regions, no section name twice
+/// and at most one region for the commons, as [`read_plan`](mufom_plan::read_plan) returns it. Both are
+/// borrowed and stay as they are.
 pub fn locate(alloc: Global, module: &Module, plan: &Plan) -> Result<Located, LocateRefusal>
     requires names { AreDistinct (names_of «module».now.names.publics) }
     requires plan { IsSoundPlan plan.now }

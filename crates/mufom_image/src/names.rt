@@ -1,4 +1,4 @@
-//! Names and counts that keep a module from being located.
+//! The names and counts that keep a module from being located.
 
 ghost use Rattle.std.specs.Prelude.{◌≡◌, ◌∷◌, [], None, IfErr, OnOk};
 ghost use Rattle.mufom_image_values.specs.Evaluated.{IsGraph};
@@ -54,8 +54,8 @@ fn check_commons(
     }
 }
 
-// The components of the publics, if no public's expression leads back to itself; or the first such
-// public is named.
+// Returns the components of the publics if no public's expression leads back to itself; otherwise the error
+// names the first public whose expression does.
 fn acyclic_components(alloc: Global, graph: &Graph<'_>) -> Result<Components, LocateRefusal>
     requires { IsGraph graph.now }
     ensures ok { OnOk result (circular graph.now.parts.now ≡ None) }
@@ -81,9 +81,9 @@ fn check_limit(module: &Module) -> Result<(), LocateRefusal>
     Ok(())
 }
 
-/// The components of the publics, if nothing keeps the module from being located before its
-/// expressions are looked at, its placement aside; or the first thing that does: a reference without
-/// a meaning, a common without room, a public that leads back to itself, too many loaded bytes.
+/// Checks everything, apart from the placement, that can keep the module from being located before its
+/// expressions are evaluated. Returns the components of the publics, or the first error: an undefined
+/// reference, a common that no region takes, a public that leads back to itself, too many loaded bytes.
 pub(crate) fn judged(
     alloc: Global,
     module: &Module,

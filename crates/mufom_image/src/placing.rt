@@ -47,7 +47,7 @@ fn extended(
     Ok(all)
 }
 
-// The error of locating for an error of placing.
+// Converts an error of placing to an error of locating.
 fn refused(refusal: PlaceRefusal) -> LocateRefusal
     ensures { (answer : Option PlaceRefusal) → IsAnswer answer refusal → IsMet (option_map placement answer) result }
 {
@@ -57,8 +57,7 @@ fn refused(refusal: PlaceRefusal) -> LocateRefusal
     }
 }
 
-/// The sections and commons of a module at their bases, or the first thing that keeps them from
-/// being placed.
+/// Returns the sections and commons of a module at their bases, or the first error of placing them.
 pub(crate) fn placing(
     alloc: Global,
     module: &Module,

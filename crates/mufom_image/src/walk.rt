@@ -35,7 +35,7 @@ fn check_publics(alloc: Global, valued: &ValuedModule<'_>) -> Result<(), LocateR
     }
 }
 
-// What ends the walk over the loads, as an error of locating.
+// Converts the error that stopped the walk over the loads to an error of locating.
 fn refusal_of(stop: LoadStop) -> LocateRefusal
     ensures { IsMet (Some (fact_of stop)) result }
 {
@@ -62,7 +62,7 @@ fn refusal_of(stop: LoadStop) -> LocateRefusal
     }
 }
 
-// The rows of the bytes that the module loads, or the first thing found on the walk over its loads.
+// The runs of the bytes that the module loads, or the first error on the walk over its loads.
 fn runs_of(alloc: Global, valued: &ValuedModule<'_>) -> Result<List<Run>, LocateRefusal>
     requires valued { IsValued valued.now }
     requires ready { IsReady (parts_of valued.now) (bases_of valued.now.placed.now) valued.now.placed.now.bases.now (valuation_of valued.now) }
@@ -106,8 +106,8 @@ fn check_debug(alloc: Global, valued: &ValuedModule<'_>) -> Result<(), LocateRef
     }
 }
 
-/// The rows of the bytes that the module loads, or the first thing found in its publics, its
-/// loads, its start and its debug expressions, in this order.
+/// Returns the runs of the bytes that the module loads, or the first error in its publics, its loads, its
+/// start and its debug expressions, in this order.
 pub(crate) fn walked(alloc: Global, valued: &ValuedModule<'_>) -> Result<List<Run>, LocateRefusal>
     requires valued { IsValued valued.now }
     requires ready { MayBeWalked valued.now }

@@ -1,4 +1,4 @@
--- Loaded bytes in the order of the loads, in chunks at neighbouring addresses.
+-- Loaded bytes in the order of the loads, in chunks at consecutive addresses.
 use Rattle.std.specs.Prelude.{◌≡◌, ℕ, ◌+◌, ◌<◌, List, [], ◌∷◌, map, flat_map, take, drop}
 use Rattle.mufom_meaning.specs.AddressMap.{Cell, cells_from}
 use Rattle.mufom_meaning.specs.Walk.{counted_from}
@@ -8,11 +8,11 @@ use Rattle.mufom_image_bytes.specs.declared.chunk.Chunk.{Chunk}
 abbrev pub end_of_chunk : Chunk → ℕ
 end_of_chunk c = c.address + c.count
 
--- the bytes of a chunk with their addresses, if these bytes are loaded
+-- the bytes of a chunk with their addresses; `bytes` are all loaded bytes
 abbrev pub chunk_cells : List ℕ → Chunk → List Cell
 chunk_cells bytes c = cells_from c.address (take c.count (drop c.start bytes))
 
--- the same of all chunks
+-- the bytes of all chunks with their addresses
 abbrev pub cells_of_chunks : List ℕ → List Chunk → List Cell
 cells_of_chunks bytes chunks = flat_map (chunk_cells bytes) chunks
 
@@ -24,7 +24,7 @@ chunk_addresses c = counted_from c.count c.address
 abbrev pub addresses_of : List Chunk → List ℕ
 addresses_of chunks = flat_map chunk_addresses chunks
 
--- each chunk has a byte and begins at the end of the one before it, the first at `start` and the last one ends at `end`
+-- each chunk has at least one byte; the first begins at byte `start`, each other one at the end of the one before it, and the last ends at `end`
 abbrev pub AreConsecutive : ℕ → List Chunk → ℕ → Type 0
 AreConsecutive start [] end = start ≡ end
 AreConsecutive start (c ∷ chunks) end = (c.start ≡ start) × (0 < c.count) × AreConsecutive (start + c.count) chunks end

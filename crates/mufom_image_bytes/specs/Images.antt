@@ -1,4 +1,4 @@
--- The image of loads, and what keeps it from being made.
+-- The image of loads, and the errors in its place.
 use Rattle.std.specs.Prelude.{◌≡◌, ℕ, ◌<◌, ◌^◌, List, [], Option, Some, None, Contains}
 use Rattle.mufom_loads.specs.declared.load.Load.{Load}
 use Rattle.mufom_place.specs.Facts.{◌or_else◌}
@@ -21,24 +21,24 @@ use Rattle.mufom_image_bytes.specs.Walked.{AreWalked}
 abbrev pub AreLow : List Cell → Type 0
 AreLow cells = (a : ℕ) → Contains (cell_addresses cells) a → a < 2 ^ 64
 
--- nothing ended the loads, no address occurs twice, and the runs are the rows of the cells
+-- no error stopped the loads, no address occurs twice, and the runs are the maximal runs of the cells
 pub record IsImage (cells : List Cell) (stop : Option LocateFact) (runs : List Run) : Type 0 where
   pub ended : stop ≡ None
   pub single : AreLow cells → first_twice [] (cell_addresses cells) ≡ None
   pub rows : AreRowsOf cells runs
 
--- an address occurs twice, or otherwise the loads ended there
+-- the error is the first address that occurs twice, or otherwise the one that stopped the loads; or it is out of memory
 abbrev pub IsRefusal : List Cell → Option LocateFact → ImageRefusal → Type 0
 IsRefusal cells stop (refusals.Stopped other) = AreLow cells → (first_twice [] (cell_addresses cells) or_else stop) ≡ Some (fact_of other)
 IsRefusal cells stop refusals.NoMemory = Unit {0}
 
--- if the loads are walked so, no fact is found, and the runs are the rows of what they load
+-- if the loads are walked with this layout and these values, no error is found, and the runs are those of the bytes that are loaded
 abbrev pub IsImageOf : Layout → ValuationAt → List Load → List Run → Type 0
 IsImageOf layout valuation loads runs =
     (s : Setting) (site : Sited) → AreWalked s site layout valuation loads → let steps = steps_of site None loads in
     (steps_fact s [] steps ≡ None) × AreRowsOf (address_map layout.order s.modulus (step_readings s steps)) runs
 
--- if the loads are walked so, this is the first fact found
+-- if the loads are walked with this layout and these values, this is the first error that is found
 abbrev pub IsRefusalOf : Layout → ValuationAt → List Load → ImageRefusal → Type 0
 IsRefusalOf layout valuation loads (refusals.Stopped stop) =
     (s : Setting) (site : Sited) → AreWalked s site layout valuation loads → steps_fact s [] (steps_of site None loads) ≡ Some (fact_of stop)

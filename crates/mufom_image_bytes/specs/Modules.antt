@@ -24,7 +24,8 @@ use Rattle.mufom_image_bytes.specs.Outcomes.{ValuationAt}
 abbrev pub home_of : Parts → Sited
 home_of m = record { parts = m; first_section = 0; first_public = 0; first_name = 0 }
 
--- No fact holds that needs no walk, no public divides by 0, and at each counter the code computes the value of an expression.
+-- Nothing that can be found without a walk keeps the module from being located, no public divides by 0, and at each program counter the code computes
+-- the value of an expression.
 pub record IsReady (m : Parts) (placed : Bases) (bases : List ℕ) (valuation : ValuationAt) : Type 0 where
   pub at_bases : placed.sections ≡ bases
   pub count : length placed.sections ≡ length m.sections
@@ -36,13 +37,13 @@ pub record IsReady (m : Parts) (placed : Bases) (bases : List ℕ) (valuation : 
   pub publics : first_some (public_fact (setting (m ∷ []) placed)) (setting (m ∷ []) placed).publics ≡ None
   pub is_value : (at : ℕ) (t : Tree) → valuation at t ≡ value (setting (m ∷ []) placed) (home_of m) (Some at) t
 
--- if the module is ready, no fact is found at its steps, and the runs are the rows of what they load
+-- if the module is ready, no error is found at its steps, and the runs are those of the bytes that they load
 abbrev pub IsImageOfModule : Parts → List ℕ → ValuationAt → List Run → Type 0
 IsImageOfModule m bases valuation runs =
     (placed : Bases) → IsReady m placed bases valuation → let s = setting (m ∷ []) placed in
     (steps_fact s [] (steps (m ∷ [])) ≡ None) × AreRowsOf (address_map m.order s.modulus (readings (m ∷ []) placed).steps) runs
 
--- if the module is ready, this is the first fact found at its steps
+-- if the module is ready, this is the first error that is found at its steps
 abbrev pub IsRefusalOfModule : Parts → List ℕ → ValuationAt → ImageRefusal → Type 0
 IsRefusalOfModule m bases valuation (refusals.Stopped stop) =
     (placed : Bases) → IsReady m placed bases valuation → steps_fact (setting (m ∷ []) placed) [] (steps (m ∷ [])) ≡ Some (fact_of stop)

@@ -1,4 +1,4 @@
--- What the loads of one module put at addresses, by places and values, up to the first that cannot be put.
+-- The bytes that the loads of one module put at addresses, given its layout and the values of its expressions, up to the first error.
 use Rattle.std.specs.Prelude.{◌≡◌, ℕ, ◌+◌, ◌%◌, ◌^◌, ◌==◌, List, [], ◌∷◌, ◌++◌, Option, Some, None, option_map, unwrap_or, if◌then◌else◌}
 use Rattle.std.specs.Prelude.{slice_get, slice_index, slice_set}
 use Rattle.mufom_expr.specs.declared.token.FieldKind.{FieldKind}
@@ -26,24 +26,24 @@ pub record Progress : Type 0 where
   pub counters : List ℕ
   pub cells : List Cell
 
--- how far the loads went, and what ended them
+-- the progress of the loads, and the error that stopped them, if one did
 abbrev pub Outcome : Type 0
 Outcome = Progress × Option LocateFact
 
--- goes on if nothing ended the loads
+-- continues if no error stopped the loads
 abbrev pub continued : Progress → Option LocateFact → (Progress → Outcome) → Outcome
 continued p None next = next p
 continued p (Some fact) next = (p, Some fact)
 
--- the base of a section, and its size
+-- the base of a section, or 0 if there is none
 abbrev pub base_in : Layout → ℕ → ℕ
 base_in layout section = unwrap_or (slice_get layout.bases.now section) 0
 
--- the size of a section
+-- the size of a section, or 0 if there is none
 abbrev pub size_in : Layout → ℕ → ℕ
 size_in layout section = unwrap_or (option_map (λ found. found.size) (slice_get layout.sections.now section)) 0
 
--- the first of the bytes of an item that lies outside its section
+-- an error for the first byte of an item that lies outside its section
 abbrev pub outside_in : Layout → ℕ → ℕ → ℕ → Option LocateFact
 outside_in layout section at count =
     first_some (outside_at (2 ^ layout.width) section (base_in layout section) (size_in layout section)) (counted_from count at)
@@ -54,25 +54,25 @@ IsFirstOutside base size at count first =
     (modulus section : ℕ)
     → first_some (outside_at modulus section base size) (counted_from count at) ≡ option_map (λ a. load_outside section (a % modulus)) first
 
--- the number that the bytes of a field spell, or 0 and the fact found in its place
+-- the number to store in a field, or 0 with an error
 abbrev pub field_outcome : ℕ → ℕ → ℕ → FieldKind → ℕ → Option ℕ → ℕ × Option LocateFact
 field_outcome modulus section at kind size None = (0, Some (zero_divisor (sites.Field section at)))
 field_outcome modulus section at kind size (Some v) =
     if fits modulus kind size v then (field_number modulus kind size v, None) else (0, Some (overflow section at kind size v))
 
--- the bytes of an item at a counter, and the fact found at them
+-- the bytes of an item at a counter, and its error, if it has one
 abbrev pub item_bytes : Layout → ValuationAt → ℕ → ℕ → Item → List ℕ × Option LocateFact
 item_bytes layout valuation section at (Literal bytes) = (bytes, None)
 item_bytes layout valuation section at (Field kind size t) =
     let found = field_outcome (2 ^ layout.width) section at kind size (valuation at t) in
     (in_byte_order layout.order (number_bytes size found.0), found.1)
 
--- bytes are put at a counter, and the counter of the section moves on
+-- bytes are loaded at a counter, and the counter of the section advances
 abbrev pub with_bytes : Layout → ℕ → ℕ → List ℕ → ℕ → Progress → Progress
 with_bytes layout section at bytes count p =
     record { counters = slice_set p.counters section ((at + count) % 2 ^ layout.width); cells = p.cells ++ cells_from at bytes }
 
--- the bytes of an item are put, if none lies outside
+-- the bytes of an item are loaded, if none lies outside its section
 abbrev pub placed_outcome : Layout → ValuationAt → ℕ → ℕ → Item → Option LocateFact → Progress → Outcome
 placed_outcome layout valuation section at item (Some fact) p = (p, Some fact)
 placed_outcome layout valuation section at item None p =
@@ -90,24 +90,24 @@ items_outcome layout valuation section [] p = (p, None)
 items_outcome layout valuation section (item ∷ items) p =
     let first = item_outcome layout valuation section item p in continued first.0 first.1 (λ q. items_outcome layout valuation section items q)
 
--- the same in the current section, if there is one
+-- items are loaded in the current section; nothing happens if there is none
 abbrev pub current_outcome : Layout → ValuationAt → Option ℕ → List Item → Progress → Outcome
 current_outcome layout valuation None items p = (p, None)
 current_outcome layout valuation (Some section) items p = items_outcome layout valuation section items p
 
--- the counter of a section is set
+-- the counter of a section is set to a value; without a value, the expression divides by zero
 abbrev pub counter_outcome : ℕ → Option ℕ → Progress → Outcome
 counter_outcome section None p = (p, Some (zero_divisor (sites.Counter section)))
 counter_outcome section (Some v) p = (record { counters = slice_set p.counters section v; cells = p.cells }, None)
 
--- one load
+-- the outcome of one load
 abbrev pub load_outcome : Layout → ValuationAt → Option ℕ → Load → Progress → Outcome
 load_outcome layout valuation current (SetSection section) p = (p, None)
 load_outcome layout valuation current (SetPc section value) p = counter_outcome section (valuation (slice_index p.counters section) value) p
 load_outcome layout valuation current (One item) p = current_outcome layout valuation current (item ∷ []) p
 load_outcome layout valuation current (Repeat count items) p = current_outcome layout valuation current (repeated count items) p
 
--- the loads, one after another
+-- the outcome of loads, one after another
 abbrev pub loads_outcome : Layout → ValuationAt → Option ℕ → List Load → Progress → Outcome
 loads_outcome layout valuation current [] p = (p, None)
 loads_outcome layout valuation current (load ∷ loads) p =

@@ -1,10 +1,10 @@
--- Chunks in order of their addresses, none of which shares an address with another.
+-- Chunks in order of their addresses that do not overlap.
 use Rattle.std.specs.Prelude.{◌≡◌, ℕ, suc, ◌+◌, ◌<◌, ◌≤◌, ◌==◌, List, [], ◌∷◌, length}
 use Rattle.std.specs.Prelude.{flat_map, take, drop, if◌then◌else◌}
 use Rattle.mufom_meaning.specs.declared.located.Run.{Run}
 use Rattle.mufom_image_bytes.specs.declared.chunk.Chunk.{Chunk}
 
--- each has a byte, and begins at the end of the one before it or after that, the first at `from` or after it
+-- each chunk has at least one byte and begins at or after the end of the one before it, and the first begins at or after `from`
 abbrev pub AreSpread : ℕ → List Chunk → Type 0
 AreSpread from [] = Unit {0}
 AreSpread from (c ∷ chunks) = (from ≤ c.address) × (0 < c.count) × AreSpread (c.address + c.count) chunks
@@ -13,12 +13,12 @@ AreSpread from (c ∷ chunks) = (from ≤ c.address) × (0 < c.count) × AreSpre
 abbrev pub IsAmong : List ℕ → Chunk → Type 0
 IsAmong bytes c = c.start + c.count ≤ length bytes
 
--- how many of the chunks go on at `end`, each at the end of the one before it
+-- the number of chunks that continue from `end` without a gap
 abbrev pub neighbours : ℕ → List Chunk → ℕ
 neighbours end [] = 0
 neighbours end (c ∷ chunks) = if c.address == end then suc (neighbours (c.address + c.count) chunks) else 0
 
--- how many chunks the first row has
+-- the number of chunks in the first run
 abbrev pub first_row : List Chunk → ℕ
 first_row [] = 0
 first_row (c ∷ chunks) = suc (neighbours (c.address + c.count) chunks)
@@ -31,12 +31,12 @@ chunk_bytes bytes c = take c.count (drop c.start bytes)
 abbrev pub bytes_of_chunks : List ℕ → List Chunk → List ℕ
 bytes_of_chunks bytes chunks = flat_map (chunk_bytes bytes) chunks
 
--- the first address that no run has, and at which none of them ends
+-- the first address at which another run can begin without touching these
 abbrev pub free_after : ℕ → List Run → ℕ
 free_after from [] = from
 free_after from (run ∷ runs) = free_after (run.address + length run.bytes + 1) runs
 
--- a chunk that is the only one has all the bytes
+-- if there is only one chunk, it has all the bytes
 abbrev pub HasAllBytes : ℕ → List Chunk → Type 0
 HasAllBytes count [] = Unit {0}
 HasAllBytes count (c ∷ []) = (c.start ≡ 0) × (c.count ≡ count)

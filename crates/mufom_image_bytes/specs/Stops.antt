@@ -1,10 +1,10 @@
--- What ends the walk over the loads, as the fact found there.
+-- The errors that stop the walk over the loads, as facts of the definitions.
 use Rattle.mufom_meaning.specs.declared.located.Site.TheVariants as sites
 use Rattle.mufom_meaning.specs.Facts.{LocateFact, zero_divisor, load_outside, loaded_twice, overflow}
 use Rattle.mufom_image_bytes.specs.declared.stop.LoadStop.{LoadStop}
 use Rattle.mufom_image_bytes.specs.declared.stop.LoadStop.TheVariants as stops
 
--- what a stop names
+-- the fact for an error
 abbrev pub fact_of : LoadStop → LocateFact
 fact_of (stops.Counter section) = zero_divisor (sites.Counter section)
 fact_of (stops.Field section address) = zero_divisor (sites.Field section address)

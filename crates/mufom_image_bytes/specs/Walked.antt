@@ -1,4 +1,4 @@
--- The sections, addresses and values that the loads of a module are walked with, as the definitions have them.
+-- The sections, addresses and values with which the loads of a module are walked, as the definitions have them.
 use Rattle.std.specs.Prelude.{◌≡◌, ℕ, ◌+◌, ◌^◌, ◌<◌, ◌≤◌, List, length, Some, None, true}
 use Rattle.mufom_expr.specs.Tree.{Tree}
 use Rattle.mufom_loads.specs.declared.load.Item.{Item}
@@ -25,12 +25,12 @@ pub record HasValuation (s : Setting) (valuation : ValuationAt) (site : Sited) (
   pub residue : (at v : ℕ) → value s site (Some at) t ≡ Some v → v < s.modulus
   pub divides : (at : ℕ) → value s site (Some at) t ≡ None → has_zero_divisor s site (Some at) t ≡ true
 
--- a field has a byte, and its expression is computed
+-- a field has at least one byte, and its expression is computed
 abbrev pub IsPlainItem : Setting → ValuationAt → Sited → Item → Type 0
 IsPlainItem s valuation site (Literal bytes) = Unit {0}
 IsPlainItem s valuation site (Field kind size t) = (0 < size) × HasValuation s valuation site t
 
--- a step is one of a section, and its expression is computed
+-- a step belongs to a section, and its expression is computed
 abbrev pub IsPlainStep : Setting → ValuationAt → Step → Type 0
 IsPlainStep s valuation (counter_step site section t) = (section < length s.bases) × HasValuation s valuation site t
 IsPlainStep s valuation (item_step site section item) = (section < length s.bases) × IsPlainItem s valuation site item

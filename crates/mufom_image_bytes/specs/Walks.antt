@@ -1,4 +1,4 @@
--- How far the code has walked, and what it asks of items.
+-- The progress of the code's walk, and the outcomes of its steps.
 use Rattle.std.specs.Prelude.{◌≡◌, ℕ, ◌≤◌, ◌%◌, ◌^◌, List, map, Option, None, option_map, Result, IfOk, Bool, nat_lt}
 use Rattle.std.specs.List.{All}
 use Rattle.mufom_loads.specs.declared.load.Item.{Item}
@@ -18,28 +18,28 @@ use Rattle.mufom_image_bytes.specs.Outcomes.{load_outcome, loads_outcome, progre
 abbrev pub progress_of : Walk → Progress
 progress_of walk = record { counters = walk.counters.items; cells = loaded_cells walk.loaded }
 
--- the code went from one walk to another, and stopped there or not, as an outcome has it
+-- the state that the code's walk has reached, and the error that stopped it, if one did, are this outcome
 abbrev pub Reaches : Walk → Option LoadStop → Outcome → Type 0
 Reaches walk stop outcome = ◌≡◌ {A = Outcome} (progress_of walk, option_map fact_of stop) outcome
 
--- the same of an item
+-- loading an item has the defined outcome
 abbrev pub LoadsItem : Layout → ValuationAt → ℕ → Item → Walk → Walk → Option LoadStop → Type 0
 LoadsItem layout valuation section item before after stop = Reaches after stop (item_outcome layout valuation section item (progress_of before))
 
--- the same of items, one after another, unless memory ran out
+-- loading items, one after another, has the defined outcome, unless memory ran out
 abbrev pub LoadsItems : {E : Type 0} → Layout → ValuationAt → ℕ → List Item → Walk → Walk → Result (Option LoadStop) E → Type 0
 LoadsItems layout valuation section items before after result =
     IfOk result (λ stop. Reaches after stop (items_outcome layout valuation section items (progress_of before)))
 
--- the same of copies of items
+-- loading `count` copies of items has the defined outcome, unless memory ran out
 abbrev pub Copies : {E : Type 0} → Layout → ValuationAt → ℕ → ℕ → List Item → Walk → Walk → Result (Option LoadStop) E → Type 0
 Copies layout valuation section count items before after result = LoadsItems layout valuation section (repeated count items) before after result
 
--- the same of an item of which no byte lies outside its section
+-- loading an item, no byte of which lies outside its section, has the defined outcome
 abbrev pub PutsItem : Layout → ValuationAt → ℕ → ℕ → Item → Walk → Walk → Option LoadStop → Type 0
 PutsItem layout valuation section at item before after stop = Reaches after stop (placed_outcome layout valuation section at item None (progress_of before))
 
--- the same of one load, if this section is the current one
+-- one load has the defined outcome, if this section is the current one
 abbrev pub LoadsOne : Layout → ValuationAt → Option ℕ → Load → Walk → Walk → Option LoadStop → Type 0
 LoadsOne layout valuation current load before after stop = Reaches after stop (load_outcome layout valuation current load (progress_of before))
 
@@ -55,7 +55,7 @@ HasNarrowItems (SetPc section value) = Unit {0}
 HasNarrowItems (One item) = IsNarrow item
 HasNarrowItems (Repeat count items) = All IsNarrow items
 
--- an item loads a byte
+-- an item loads at least one byte
 abbrev pub has_bytes : Item → Bool
 has_bytes item = nat_lt 0 (byte_count item)
 
@@ -63,6 +63,6 @@ has_bytes item = nat_lt 0 (byte_count item)
 abbrev pub first_counters : Layout → List ℕ
 first_counters layout = map (λ base. base % 2 ^ layout.width) layout.bases.now
 
--- all loads were walked from the first on
+-- all loads, walked from the first on, have the defined outcome
 abbrev pub LoadsAll : Layout → ValuationAt → List Load → Walk → Option LoadStop → Type 0
 LoadsAll layout valuation loads after stop = Reaches after stop (loads_outcome layout valuation None loads (progress_at_first (first_counters layout)))

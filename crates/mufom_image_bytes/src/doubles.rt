@@ -1,18 +1,18 @@
-//! The first byte that is loaded on another.
+//! The first address that is loaded twice.
 
 ghost use Rattle.std.specs.Prelude.{◌≡◌, ◌+◌, ◌<◌, None, true, false};
 ghost use Rattle.mufom_image_bytes.specs.Shared.{part_of, shares_from, AreRisingFrom, IsAddressOf, IsFirstDouble};
 
 use crate::chunk::Chunk;
 
-// How many bytes of a chunk are among the first `count` that are loaded.
+// The number of bytes of a chunk that are among the first `count` loaded bytes.
 fn part_of(chunk: &Chunk, count: usize) -> usize
     ensures { result ≡ part_of count chunk.now }
 {
     chunk.count.min(count.saturating_sub(chunk.start))
 }
 
-// Whether two of the first `count` bytes share an address. The chunks go by address.
+// Whether two of the first `count` bytes share an address. The chunks must be in order of address.
 fn shares(chunks: &[Chunk], count: usize) -> bool
     ensures { result ≡ shares_from count 0 chunks.now }
 {
@@ -31,7 +31,7 @@ fn shares(chunks: &[Chunk], count: usize) -> bool
     false
 }
 
-// The number of the first byte that shares an address with one before it, if some byte does.
+// The number of the first byte that shares an address with an earlier one. There must be such a byte.
 fn first_shared(chunks: &[Chunk], count: usize) -> usize
     requires { shares_from count 0 chunks.now ≡ true }
     ensures within { result < count }
@@ -51,7 +51,7 @@ fn first_shared(chunks: &[Chunk], count: usize) -> usize
     apart
 }
 
-// The address of the byte of this number, which is one of the chunks'.
+// The address of the byte with this number. One of the chunks must have it.
 fn address_of(chunks: &[Chunk], number: usize) -> u64
     ensures { IsAddressOf chunks.now number result }
 {
@@ -63,7 +63,8 @@ fn address_of(chunks: &[Chunk], number: usize) -> u64
     0
 }
 
-/// The first address that is loaded twice, in the order of the loads. The chunks go by address.
+/// Returns the first address that is loaded twice, in the order of the loads. The chunks must be in order of
+/// address.
 pub fn first_double(chunks: &[Chunk], count: usize) -> Option<u64>
     requires { AreRisingFrom 0 chunks.now }
     ensures double { IsFirstDouble chunks.now count result }

@@ -35,7 +35,8 @@ fn sort_by_address(chunks: &mut Vec<Chunk>)
     chunks.sort_unstable_by_key(|chunk| chunk.address);
 }
 
-// The first byte that is loaded on another, or otherwise what ended the loads. The chunks go by address.
+// The first address that is loaded twice, or otherwise the error that stopped the loads. The chunks must be
+// in order of address.
 fn first_stop(chunks: &[Chunk], count: usize, stop: Option<LoadStop>) -> Option<LoadStop>
     requires { AreRisingFrom 0 chunks.now }
     ensures stop { EndsFirst chunks.now count (option_map fact_of stop) (option_map fact_of result) }
@@ -48,7 +49,8 @@ fn first_stop(chunks: &[Chunk], count: usize, stop: Option<LoadStop>) -> Option<
     }
 }
 
-// The rows of chunks, which go by address and share none. The bytes of a single chunk are not copied.
+// The runs of chunks that are in order of address and do not overlap. The bytes of a single chunk are not
+// copied.
 fn rows_of(alloc: Global, chunks: &[Chunk], bytes: Vec<u8>) -> Result<List<Run>, NoMemory>
     requires spread { AreSpread 0 chunks.now }
     requires among { All (IsAmong bytes.items) chunks.now }
@@ -67,8 +69,8 @@ fn rows_of(alloc: Global, chunks: &[Chunk], bytes: Vec<u8>) -> Result<List<Run>,
     maximal_rows(alloc, chunks, &bytes)
 }
 
-/// The maximal rows of loaded bytes, or the first address that is loaded twice, or otherwise what ended
-/// the loads.
+/// Returns the maximal runs of loaded bytes. The error is the first address that is loaded twice, or
+/// otherwise the one that stopped the loads.
 pub fn rows_of_loaded(
     alloc: Global,
     loaded: Loaded,
@@ -86,8 +88,8 @@ pub fn rows_of_loaded(
     }
 }
 
-/// The image of the loads of a module, in maximal rows of addresses, or the first thing that keeps
-/// it from being made, in the order of the loads.
+/// Returns the image of the loads of a module, in maximal runs of consecutive addresses, or the first error
+/// in the order of the loads.
 ///
 /// The fields of the loads must have at most eight bytes each.
 pub fn image_of<V: Values>(

@@ -1,9 +1,9 @@
-//! The image of a module: the bytes that its loads put at addresses, in maximal rows.
+//! The image of a module: the bytes that its loads put at addresses, in maximal runs.
 //!
-//! [`image_of_module`] walks the loads once. It returns the rows, or the first thing found on the
-//! walk: a byte outside its section, a byte on another, a division by 0, or a value that does not fit
-//! its field. Expressions get their values from the caller, through [`Values`]. The crate depends on the
-//! crates of a module's values, and on `mufom_meaning`, whose definitions its contracts cite.
+//! [`image_of_module`] walks the loads once. It returns the runs, or the first error on the walk: a byte
+//! outside its section, an address that is loaded twice, a division by 0, or a value that does not fit its
+//! field. The caller provides the values of expressions, through [`Values`]. The crate depends on the crates
+//! of a module's values, and on `mufom_meaning`, whose definitions its contracts cite.
 #![tactic(auto)]
 
 mod chunk;

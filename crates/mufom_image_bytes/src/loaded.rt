@@ -14,12 +14,12 @@ use std::alloc::Global;
 pub struct Loaded {
     /// All chunks except the last one.
     pub chunks: Vec<Chunk>,
-    /// The chunk that grows. It may have no byte yet.
+    /// The chunk that grows. It may be empty.
     pub last: Chunk,
     pub bytes: Vec<u8>,
 }
 
-/// No bytes.
+/// Returns an empty list of loaded bytes.
 pub fn nothing_loaded(alloc: Global) -> Loaded
     ensures tiled { IsTiled result }
     ensures cells { loaded_cells result ≡ [] }
@@ -36,7 +36,7 @@ pub fn nothing_loaded(alloc: Global) -> Loaded
 }
 
 impl Loaded {
-    // Adds the last chunk to the others, if it has a byte.
+    // Adds the last chunk to the others, unless it is empty.
     fn close(&mut self) -> Result<(), NoMemory>
         requires { IsTiled self.old }
         ensures consecutive { OnOk result (AreConsecutive 0 self.new.chunks.items (length self.new.bytes.items)) }

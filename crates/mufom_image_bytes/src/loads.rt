@@ -70,7 +70,7 @@ fn load_copies<V: Values>(
     Ok(None)
 }
 
-// The items that load a byte. Copies of the others would take time and change nothing.
+// The items that load at least one byte. Copies of the others would take time and change nothing.
 fn with_bytes<'a>(alloc: Global, items: &'a [Item]) -> Result<Vec<&'a Item>, NoMemory>
     requires { All IsNarrow items.now }
     ensures narrow { IfOk result (λ list. All (λ item. IsNarrow item.now) list.items) }
@@ -190,7 +190,8 @@ fn first_counters(alloc: Global, layout: &Layout<'_>) -> Result<Vec<u64>, NoMemo
     Ok(counters)
 }
 
-/// Walks the loads: how far they went, and what ended the walk, if anything did.
+/// Walks the loads in order. Returns the state that was reached, and the error that stopped the walk, if one
+/// did.
 pub fn walked<V: Values>(
     alloc: Global,
     layout: &Layout<'_>,

@@ -13,8 +13,8 @@ use mufom_module::Parts;
 use mufom_numbers::List;
 use std::alloc::Global;
 
-/// The image of a module whose sections are at these bases: the bytes that it loads, in maximal rows
-/// of addresses, or the first thing that keeps it from being made, in the order of the loads.
+/// Returns the image of a module whose sections are at these bases: the bytes that it loads, in maximal runs
+/// of consecutive addresses, or the first error in the order of the loads.
 pub fn image_of_module<V: Values>(
     alloc: Global,
     parts: &Parts,

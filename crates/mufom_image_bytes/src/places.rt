@@ -56,7 +56,8 @@ impl<'a> Layout<'a> {
         }
     }
 
-    /// The first of `count` bytes at a counter that lies outside the section, by its address.
+    /// Returns the address of the first of `count` bytes at a counter that lies outside the section, modulo
+    /// the address space.
     pub fn outside(&self, section: u32, at: u64, count: u64) -> Option<u64>
         requires { self.now.width ≤ 64 }
         ensures { option_map (λ a. load_outside section a) result ≡ outside_in self.now section at count }

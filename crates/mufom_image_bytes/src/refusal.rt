@@ -7,7 +7,7 @@ use thiserror::Error;
 /// Why the loads of a module make no image.
 #[derive(Debug, Drop, Error)]
 pub enum ImageRefusal {
-    /// What ends the walk over the loads.
+    /// The error that stopped the walk over the loads.
     #[error(transparent)]
     Stopped(LoadStop),
     /// Out of memory.

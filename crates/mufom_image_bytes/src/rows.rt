@@ -1,4 +1,4 @@
-//! The rows of neighbouring addresses that loaded bytes make.
+//! The runs of consecutive addresses that loaded bytes form.
 
 ghost use Rattle.std.specs.Prelude.{◌≡◌, ◌+◌, ◌≤◌, length, IfOk};
 ghost use Rattle.std.specs.List.{All};
@@ -18,7 +18,7 @@ fn end_of(chunk: &Chunk) -> u128
     chunk.address as u128 + chunk.count as u128
 }
 
-// How many chunks the first row has: the first chunk, and those that start where the one before ends.
+// The number of chunks in the first run: the first chunk, and those that begin where the one before ends.
 fn row_count(chunks: &[Chunk]) -> usize
     ensures count { result ≡ first_row chunks.now }
     ensures within { result ≤ length chunks.now }
@@ -35,7 +35,7 @@ fn row_count(chunks: &[Chunk]) -> usize
     count
 }
 
-// The number of bytes that the chunks have, for which room is allocated.
+// The number of bytes of the chunks, for which memory is allocated.
 fn room_for(chunks: &[Chunk]) -> usize {
     let mut room: usize = 0;
     for chunk in chunks {
@@ -56,8 +56,8 @@ fn joined(alloc: Global, chunks: &[Chunk], bytes: &[u8]) -> Result<Vec<u8>, NoMe
     Ok(all)
 }
 
-// The bytes of a row of chunks. Those of a single chunk are copied at once, and do not allocate if
-// they are few.
+// The bytes of a run of chunks. Those of a single chunk are copied directly, without allocating if they are
+// few.
 fn row_bytes(alloc: Global, chunks: &[Chunk], bytes: &[u8]) -> Result<Bytes, NoMemory>
     requires { All (IsAmong bytes.now) chunks.now }
     ensures { IfOk result (λ all. all ≡ bytes_of_chunks bytes.now chunks.now) }
@@ -68,7 +68,7 @@ fn row_bytes(alloc: Global, chunks: &[Chunk], bytes: &[u8]) -> Result<Bytes, NoM
     }
 }
 
-/// The maximal rows of the bytes of chunks, which go by address and share none.
+/// Returns the maximal runs of the bytes of chunks that are in order of address and do not overlap.
 pub fn maximal_rows(alloc: Global, chunks: &[Chunk], bytes: &[u8]) -> Result<List<Run>, NoMemory>
     requires spread { AreSpread 0 chunks.now }
     requires among { All (IsAmong bytes.now) chunks.now }

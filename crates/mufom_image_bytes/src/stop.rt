@@ -1,9 +1,9 @@
-//! What ends the walk over the loads of a module.
+//! The errors that stop the walk over the loads of a module.
 
 use mufom_expr::FieldKind;
 use thiserror::Error;
 
-/// What ends the walk over the loads.
+/// An error that stops the walk over the loads.
 #[derive(Clone, Copy, Debug, Error)]
 pub enum LoadStop {
     /// A load that sets the program counter of a section divides by 0.
@@ -32,7 +32,7 @@ pub enum LoadStop {
         size: u8,
         value: u64,
     },
-    /// A byte is loaded on another.
+    /// An address is loaded twice.
     #[error("a byte is loaded twice at address {address}")]
     Twice {
         address: u64,

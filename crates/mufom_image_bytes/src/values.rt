@@ -1,4 +1,4 @@
-//! What a caller provides to an image: the values of expressions.
+//! The values of expressions, which the caller of an image provides.
 
 ghost use Rattle.std.specs.Prelude.{◌≡◌, ℕ, ◌<◌, ◌≤◌, ◌^◌, Option, IfSome};
 ghost use Rattle.mufom_expr.specs.Tree.{Tree};
@@ -7,7 +7,8 @@ use mufom_expr::Postfix;
 
 /// A source of values for the expressions of a module.
 pub trait Values {
-    /// The value of an expression, by the width of an address and the program counter, or none.
+    /// The value of an expression, given the width of an address in bits and the program counter; none if it
+    /// has no value.
     ghost meaning: { Self → ℕ → ℕ → Tree → Option ℕ };
 
     /// The value of an expression modulo 2 to the power of the width, which is 8 to 64 bits, if the program

@@ -1,4 +1,4 @@
-//! The walk over the loads, up to the first that cannot be put.
+//! The walk over the loads, up to the first error.
 
 ghost use Rattle.std.specs.Prelude.{◌≡◌, ◌+◌, ◌≤◌, ◌^◌, ◌<◌, None, option_map, slice_index, slice_set, IfOk, IfSome, OnOk};
 ghost use Rattle.mufom_expr.specs.Value.{value_at};
@@ -18,7 +18,7 @@ use mufom_expr::{FieldKind, Postfix};
 use mufom_loads::{Item, item_length};
 use mufom_numbers::NoMemory;
 
-/// How far the loads went.
+/// The state of a walk over the loads.
 #[derive(Drop)]
 pub struct Walk {
     /// The program counter of each section.
@@ -43,7 +43,7 @@ pub fn set_counter(counters: &mut [u64], section: u32, value: u64)
     }
 }
 
-// The number that a field at an address spells, or 0 and what ends the walk.
+// The number to store in a field at an address, or 0 with the error that stops the walk.
 fn field_at(
     layout: &Layout<'_>,
     section: u32,
@@ -75,7 +75,7 @@ fn field_at(
 }
 
 impl Walk {
-    // Puts the `count` bytes of an item at the counter of a section.
+    // Loads the `count` bytes of an item at the counter of a section, and advances the counter.
     fn put(
         &mut self,
         layout: &Layout<'_>,
@@ -96,7 +96,7 @@ impl Walk {
     }
 }
 
-// Puts an item of which no byte lies outside its section.
+// Loads an item, no byte of which lies outside its section.
 fn put_item<V: Values>(
     layout: &Layout<'_>,
     values: &V,
@@ -127,7 +127,7 @@ fn put_item<V: Values>(
     }
 }
 
-/// Loads an item at the counter of a section, and returns what ends the walk there.
+/// Loads an item at the counter of a section. Returns the error that stops the walk there, if there is one.
 pub fn load_item<V: Values>(
     layout: &Layout<'_>,
     values: &V,

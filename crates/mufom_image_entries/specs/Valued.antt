@@ -19,11 +19,11 @@ pub record IsValued (valued : ValuedModule) : Type 0 where
 abbrev pub parts_of : ValuedModule → Parts
 parts_of valued = valued.placed.now.graph.parts.now
 
--- the value of an expression that finds no program counter, or 0 if it has none
+-- the value of an expression that has no program counter, or 0 if it has no value
 abbrev pub value_of : ValuedModule → Tree → ℕ
 value_of valued t = unwrap_or (value (setting_of valued.placed.now) (alone (parts_of valued)) None t) 0
 
--- somewhere in the expression a divisor has the value 0
+-- a divisor somewhere in the expression has the value 0
 abbrev pub divides : ValuedModule → Tree → Bool
 divides valued t = has_zero_divisor (setting_of valued.placed.now) (alone (parts_of valued)) None t
 
@@ -43,7 +43,7 @@ valued_mark f mark = mapped_mark (λ t. number (f t)) mark
 abbrev pub NoneBefore : (Tree → Bool) → List Tree → ℕ → Type 0
 NoneBefore test trees n = (j : ℕ) → j < n → (t : Tree) → slice_get trees j ≡ Some t → test t ≡ false
 
--- the position of the first expression that passes, if one does
+-- the position of the first expression that passes the test, if one does
 abbrev pub IsFirstDivision : (Tree → Bool) → List Tree → Option ℕ → Type 0
 IsFirstDivision test trees None = (j : ℕ) (t : Tree) → slice_get trees j ≡ Some t → test t ≡ false
 IsFirstDivision test trees (Some n) = (t : Tree) × (slice_get trees n ≡ Some t) × (test t ≡ true) × NoneBefore test trees n

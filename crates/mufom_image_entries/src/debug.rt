@@ -35,7 +35,8 @@ fn first_division(valued: &ValuedModule<'_>, mut rest: Addresses<'_>) -> Option<
     None
 }
 
-/// The number of the first debug expression that divides by 0, from 0 in the order of the file.
+/// Returns the number of the first debug expression that divides by 0, counted from 0 in the order of the
+/// file.
 pub fn first_debug_division(
     alloc: Global,
     valued: &ValuedModule<'_>,
@@ -49,7 +50,7 @@ pub fn first_debug_division(
     Ok(first_division(valued, all))
 }
 
-/// The debug items with the value of each expression in its place. One without a value has 0.
+/// Returns the debug items with each expression replaced by its value, or by 0 if it has none.
 pub fn located_debug(alloc: Global, valued: &ValuedModule<'_>) -> Result<List<DebugItem>, NoMemory>
     requires { IsValued valued.now }
     ensures { IfOk result (λ items. marks_of items ≡ map (valued_mark (value_of valued.now)) (marks_of (parts_of valued.now).debug)) }

@@ -25,7 +25,7 @@ fn located_public(
     })
 }
 
-/// The publics with their values, in order. One without a value has 0.
+/// Returns the publics with their values, in order. The value is 0 if an expression has none.
 pub fn located_publics(
     alloc: Global,
     valued: &ValuedModule<'_>,

@@ -22,7 +22,7 @@ pub fn divides_at_start(valued: &ValuedModule<'_>) -> bool
     }
 }
 
-/// The value of the start, if the module has one. One without a value has 0.
+/// Returns the value of the start, if the module has one. It is 0 if the expression has no value.
 pub fn located_start(valued: &ValuedModule<'_>) -> Option<u64>
     requires { IsValued valued.now }
     ensures { result ≡ option_map (value_of valued.now) (parts_of valued.now).start }

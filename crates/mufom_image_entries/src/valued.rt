@@ -28,7 +28,7 @@ impl<'a> ValuedModule<'a> {
         placed.graph.parts
     }
 
-    /// The value of an expression of the module that finds no program counter, or 0 if it has none.
+    /// Returns the value of an expression that has no program counter, or 0 if it has no value.
     pub(crate) fn value(&self, expression: &Postfix) -> u64
         requires { IsValued self.now }
         ensures { result ≡ value_of self.now expression.now }
@@ -39,7 +39,7 @@ impl<'a> ValuedModule<'a> {
     }
 }
 
-/// A module whose values are known, as what puts the number of each expression in its place.
+/// A map of expressions that replaces each by its value.
 #[derive(Drop)]
 pub(crate) struct Numbers<'a> {
     pub valued: ValuedModule<'a>,

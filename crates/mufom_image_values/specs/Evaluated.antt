@@ -1,4 +1,4 @@
--- The values of the publics of a module, found from what its sections and commons have as bases.
+-- The values of the publics of a module, given the bases of its sections and commons.
 use Rattle.std.specs.Prelude.{◌≡◌, ◌≢◌, ℕ, ◌*◌, ◌^◌, ◌<◌, List, [], ◌∷◌, map, length, Option, Some, None, option_and_then, slice_get, Contains, Bool}
 use Rattle.std.specs.Prelude.{true, false, not}
 use Rattle.mufom_expr.specs.Tree.{Tree}
@@ -44,7 +44,7 @@ pub record IsGraph (graph : Graph) : Type 0 where
 abbrev pub graph_edges : Graph → ℕ → List ℕ
 graph_edges graph n = edges graph.resolutions.now graph.parts.now.names.publics n
 
--- how many publics it has
+-- the number of its publics
 abbrev pub public_count : Graph → ℕ
 public_count graph = length graph.parts.now.names.publics
 
@@ -56,13 +56,13 @@ setting_of placed = setting_by placed.graph.parts.now placed.bases.now placed.co
 abbrev pub public_value : PlacedModule → Public → Option ℕ
 public_value placed public = value (setting_of placed) (alone placed.graph.parts.now) None public.value
 
--- a public that was evaluated has this value, or none
+-- the evaluation agrees with this value; it always does while the public waits
 abbrev pub IsRight : Option ℕ → Evaluation → Type 0
 IsRight value evaluations.Waiting = Unit {0}
 IsRight value evaluations.Nothing = value ≡ None
 IsRight value (evaluations.Value v) = value ≡ Some v
 
--- each public has a place, and those that were evaluated have their values
+-- there is an evaluation for each public, and it agrees with the public's value
 pub record AreRight (placed : PlacedModule) (values : List Evaluation) : Type 0 where
   pub count : length values ≡ length placed.graph.parts.now.names.publics
   pub right : (n : ℕ) (public : Public) (evaluation : Evaluation)
@@ -84,12 +84,12 @@ is_waiting (Some evaluations.Waiting) = true
 is_waiting (Some evaluations.Nothing) = false
 is_waiting (Some (evaluations.Value v)) = false
 
--- the public that is mentioned, if one is, does not wait
+-- the public that is mentioned does not wait; true if none is mentioned
 abbrev pub is_ready : List Evaluation → Option ℕ → Bool
 is_ready values None = true
 is_ready values (Some n) = not (is_waiting (slice_get values n))
 
--- those at these positions were
+-- the publics at these positions were evaluated
 abbrev pub AreEvaluated : List Evaluation → List ℕ → Type 0
 AreEvaluated values positions = (n : ℕ) → Contains positions n → IsEvaluated values n
 
@@ -97,7 +97,7 @@ AreEvaluated values positions = (n : ℕ) → Contains positions n → IsEvaluat
 abbrev pub AreKept : List Evaluation → List Evaluation → Type 0
 AreKept before after = (n : ℕ) → IsEvaluated before n → IsEvaluated after n
 
--- each public is evaluated whose mentions were all evaluated before
+-- a public is evaluated after the round if all publics that it mentions were evaluated before it
 abbrev pub IsRound : PlacedModule → List Evaluation → List Evaluation → Type 0
 IsRound placed before after = (n : ℕ) → n < length placed.graph.parts.now.names.publics → AreEvaluated before (graph_edges placed.graph n) → IsEvaluated after n
 
@@ -115,12 +115,12 @@ pub record AreSurroundings (placed : PlacedModule) (values : List Evaluation) (c
   pub resolutions : s.resolutions.now ≡ placed.graph.resolutions.now
   pub pc : s.counter ≡ counter
 
--- the values of variables in them
+-- the values of variables in these surroundings
 abbrev pub environment_of : PlacedModule → List Evaluation → Option ℕ → Environment
 environment_of placed values counter =
     valuation_by placed.graph.parts.now.sections placed.bases.now placed.commons.now values placed.graph.resolutions.now counter
 
--- the value of an expression in them
+-- the value of an expression in these surroundings
 abbrev pub valuation_at : PlacedModule → List Evaluation → Option ℕ → Tree → Option ℕ
 valuation_at placed values counter t = value_at (2 ^ (8 * placed.graph.parts.now.maus)) (environment_of placed values counter) t
 

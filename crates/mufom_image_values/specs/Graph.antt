@@ -9,7 +9,7 @@ use Rattle.mufom_names.specs.declared.name.Public.{Public}
 use Rattle.mufom_image_values.specs.declared.resolutions.Resolution.{Resolution}
 use Rattle.mufom_image_values.specs.declared.resolutions.Resolution.TheVariants as resolutions
 
--- the public that a reference resolves to
+-- the public to which a reference resolves, if it resolves to one
 abbrev pub public_met : Option Resolution → Option ℕ
 public_met None = None
 public_met (Some (resolutions.Public n)) = Some n

@@ -21,7 +21,7 @@ resolution_by (Some n) common weak = resolutions.Public n
 resolution_by None (Some n) weak = resolutions.Common n
 resolution_by None None weak = resolution_without weak
 
--- the names of the commons, each once, in the order in which references first ask for them
+-- the names of the commons, each once, in the order in which references first request them
 abbrev pub common_list : Parts → List (List ℕ)
 common_list m = distinct bytes_eq (common_names (m ∷ []))
 

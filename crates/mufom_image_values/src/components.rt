@@ -1,7 +1,7 @@
 //! The strongly connected components of the graph of publics, by Tarjan's algorithm without recursion.
 //!
-//! They only save time: whatever the numbers and the order, the results of the callers are proved, so
-//! nothing is stated of them here.
+//! They only save time: the callers' results are proved for any numbers and any order, so no contract
+//! describes components.
 
 ghost use Rattle.mufom_image_values.specs.Evaluated.{IsGraph};
 
@@ -32,11 +32,11 @@ pub struct Components {
 // A walk over all publics, each entered before those that it mentions and left after them.
 #[derive(Drop)]
 struct Walk {
-    /// The publics on the way down to where the walk is.
+    /// The publics on the path from the root to the current one.
     visits: Vec<Visit>,
-    /// The publics that were entered and are in no component yet.
+    /// The publics that were entered and are not in a component yet.
     open: Vec<u32>,
-    /// The number at which each public was entered, from 1, and 0 of the others.
+    /// The number under which each public was entered, from 1; 0 for a public that was not entered.
     seen: Vec<u32>,
     next_seen: u32,
     next_number: u32,
@@ -44,7 +44,7 @@ struct Walk {
 }
 
 impl Walk {
-    // Goes down to a public.
+    // Enters a public.
     fn enter(&mut self, public: u32) -> Result<(), NoMemory> {
         let low = self.next_seen;
         self.visits.push(Visit {
@@ -60,7 +60,7 @@ impl Walk {
         Ok(())
     }
 
-    // The open publics down to this one are a component.
+    // Makes a component of the open publics, from the last one down to this one.
     fn close(&mut self, public: u32) -> Result<(), NoMemory> {
         for _ in 0..u64::MAX {
             let Some(member) = self.open.pop() else {
@@ -78,8 +78,8 @@ impl Walk {
         Ok(())
     }
 
-    // All that a public mentions was walked. If it reached none that was entered before it, it
-    // closes a component.
+    // Leaves a public whose mentions were all walked. If they lead to no open public that was entered before
+    // it, it completes a component.
     fn leave(&mut self, visit: Visit) -> Result<(), NoMemory> {
         if self.seen.get(visit.public as usize) == Some(&visit.low) {
             self.close(visit.public)?;
@@ -90,7 +90,8 @@ impl Walk {
         Ok(())
     }
 
-    // Goes on with a public: down to the next one that it mentions and that was not entered, or up.
+    // Continues with a public: enters the next one that it mentions and that was not entered yet, or leaves
+    // it.
     fn step(&mut self, graph: &Graph<'_>, visit: Visit) -> Result<(), NoMemory> {
         let tokens = graph.tokens(visit.public);
         let mut low = visit.low;
@@ -115,7 +116,7 @@ impl Walk {
     }
 }
 
-// Walks from a public until all that it leads to was walked.
+// Walks from a public until all publics that it leads to were walked.
 fn walk_from(walk: &mut Walk, graph: &Graph<'_>, root: u32) -> Result<(), NoMemory> {
     walk.enter(root)?;
     for _ in 0..u64::MAX {
@@ -127,8 +128,10 @@ fn walk_from(walk: &mut Walk, graph: &Graph<'_>, root: u32) -> Result<(), NoMemo
     Ok(())
 }
 
-/// The components of the publics, as a depth-first search finds them. Nothing is stated of them here: whether a
-/// public is on a cycle is stated, and proved, where components are used.
+/// Returns the strongly connected components of the publics. No contract describes them: the functions that
+/// use them are proved to return the same results for any components.
+///
+/// The only error is out of memory.
 pub fn components_of(alloc: Global, graph: &Graph<'_>) -> Result<Components, NoMemory>
     requires { IsGraph graph.now }
 {

@@ -1,4 +1,4 @@
-//! The first public that its own mentions lead back to.
+//! Finds the first public whose own mentions lead back to it.
 
 ghost use Rattle.std.specs.Prelude.{◌≡◌, ◌<◌, ◌^◌, ◌↔◌, [], ◌∷◌, length, option_map, IfOk, OnOk, IsTrue};
 ghost use Rattle.std.specs.List.{list_all};
@@ -24,7 +24,7 @@ fn number_of(numbers: &[u32], position: u32) -> u32
     numbers.get(position as usize).copied().unwrap_or(0)
 }
 
-// Whether the mention leads down: to a lesser number, or, if not `strictly`, to the same one.
+// Whether the mention leads down: to a smaller number, or also to an equal one unless `strictly`.
 fn is_down(graph: &Graph<'_>, numbers: &[u32], own: u32, strictly: bool, token: Token) -> bool
     ensures { result ≡ is_down (number_at numbers.now) own strictly (mentioned_in graph.now.resolutions.now token) }
 {
@@ -66,7 +66,7 @@ fn never_rises(graph: &Graph<'_>, numbers: &[u32]) -> bool
     true
 }
 
-// Marks a position and puts it with what is still to be followed, unless it is marked already.
+// Marks a position and adds it to those that are still to be followed, unless it is already marked.
 fn mark(marks: &mut Vec<bool>, pending: &mut Vec<u32>, position: u32) -> Result<(), NoMemory>
     requires { position < length marks.old.items }
     ensures { OnOk result (search_of marks.new.items pending.new.items
@@ -79,7 +79,8 @@ fn mark(marks: &mut Vec<bool>, pending: &mut Vec<u32>, position: u32) -> Result<
     Ok(())
 }
 
-// Marks what the tokens mention and was not marked, and puts it with what is still to be followed.
+// Marks each position that the tokens mention and that was not marked, and adds it to those that are still to
+// be followed.
 fn follow(
     graph: &Graph<'_>,
     tokens: &[Token],
@@ -139,7 +140,7 @@ fn first_on_circle(
     Ok(None)
 }
 
-/// The first public, in order, that its own mentions lead back to. The result is the same for all
+/// Finds the first public, in order, whose own mentions lead back to it. The result is the same for any
 /// components; with those of the graph the search starts from at most one public.
 pub fn first_on_cycle<'a>(
     alloc: Global,

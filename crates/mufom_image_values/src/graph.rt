@@ -1,4 +1,4 @@
-//! Which publics the expression of a public mentions.
+//! The publics that the expression of a public mentions.
 
 ghost use Rattle.std.specs.Prelude.{◌≡◌, ◌≤◌, length};
 ghost use Rattle.mufom_image_values.specs.Graph.{public_met, public_named, mentioned_in, tokens_at};
@@ -33,8 +33,8 @@ impl<'a> Graph<'a> {
         self.parts.names.publics.as_slice()
     }
 
-    // The position of the public that a variable mentions: I its own, X the one to which the
-    // reference resolves.
+    // The position of the public that a variable mentions: for I its own number, for X the public to which
+    // the reference resolves.
     fn named(&self, letter: Letter, position: u32) -> Option<u32>
         ensures { result ≡ public_named self.now.resolutions.now letter position }
     {

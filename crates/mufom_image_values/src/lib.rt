@@ -1,10 +1,10 @@
 //! The values of the public names of one module, once its sections have bases.
 //!
 //! [`resolve_references`] returns what each reference resolves to. [`first_undefined`], [`first_common`] and
-//! [`first_on_cycle`] find the first name that keeps a module from being located, and
-//! [`PlacedModule::public_values`] the value of each public, each evaluated once. Their time is linear in the
-//! names and the tokens of their expressions, expected where names are hashed. The contracts cite
-//! definitions of `mufom_meaning`.
+//! [`first_on_cycle`] find the first name that keeps a module from being located.
+//! [`PlacedModule::public_values`] returns the value of each public, and evaluates each once. The expected
+//! time is linear in the number of names and of the tokens of their expressions; names are found by hashing.
+//! The contracts cite definitions of `mufom_meaning`.
 #![tactic(auto)]
 
 mod components;

@@ -27,7 +27,7 @@ pub(crate) fn index_of_publics<'a>(
     Ok(index)
 }
 
-// Whether a reference asks for a common: its size is not 0, and no public has its name.
+// Whether a reference requests a common: it is weak, its size is not 0, and no public has its name.
 fn asks(publics: &NameIndex<'_>, reference: &Reference) -> bool
     ensures { result ≡ (is_common reference.now && is_none (position_of publics.now reference.now.name)) }
 {
@@ -37,7 +37,7 @@ fn asks(publics: &NameIndex<'_>, reference: &Reference) -> bool
     }
 }
 
-// Adds a name at the end, unless it is there already. Returns how many names there are then.
+// Adds a name at the end, unless it is already there. Returns the number of names after that.
 fn add_name<'a>(index: &mut NameIndex<'a>, name: &'a [u8], count: u32) -> Result<u32, NoMemory>
     requires numbered { index.old ≡ numbered_from 0 (keys_of index.old) }
     requires count { count ≡ length (keys_of index.old) }
@@ -51,7 +51,7 @@ fn add_name<'a>(index: &mut NameIndex<'a>, name: &'a [u8], count: u32) -> Result
     }
 }
 
-/// An index of the names of the commons, each once, in the order in which references first ask for
+/// Returns an index of the names of the commons, each once, in the order in which references first request
 /// them.
 pub(crate) fn index_of_commons<'a>(
     alloc: Global,

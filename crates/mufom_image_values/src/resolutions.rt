@@ -17,8 +17,8 @@ use std::alloc::Global;
 pub enum Resolution {
     /// The public at this position, the first of its name.
     Public(u32),
-    /// The common at this position. Commons go by their names, each once, in the order in which
-    /// references first ask for them.
+    /// The common at this position. Commons are numbered by name, each once, in the order in which references
+    /// first request them.
     Common(u32),
     /// The default of a weak reference of size 0.
     Default(u64),
@@ -51,7 +51,7 @@ fn resolution_of(
     }
 }
 
-// What references resolve to, by the indexes of the names of publics and of commons.
+// What references resolve to, given the indexes of the names of publics and of commons.
 fn resolved(
     alloc: Global,
     publics: &NameIndex<'_>,
@@ -68,7 +68,8 @@ fn resolved(
     Ok(all)
 }
 
-/// What each reference of a module resolves to, in order. No name is read if there is no reference.
+/// Returns what each reference of a module resolves to, in order. If there are no references, no names are
+/// read.
 pub fn resolve_references(alloc: Global, module: &Module) -> Result<List<Resolution>, NoMemory>
     ensures { IfOk result (λ resolutions. resolutions ≡ resolutions_of «module».now) }
 {
@@ -101,7 +102,7 @@ fn is_first_common(resolution: Resolution) -> bool
     }
 }
 
-/// The first strong reference whose name neither a public nor a common has.
+/// The first strong reference whose name neither a public nor a common has; the contract fixes only its name.
 pub fn first_undefined<'a>(module: &'a Module, resolutions: &[Resolution]) -> Option<&'a Reference>
     requires { resolutions.now ≡ resolutions_of «module».now }
     ensures { option_map (λ reference. reference.now.name) result ≡ first_undefined («module».now ∷ []) }
@@ -116,7 +117,7 @@ pub fn first_undefined<'a>(module: &'a Module, resolutions: &[Resolution]) -> Op
     None
 }
 
-/// The first reference that asks for a common. Its name is the first common's.
+/// Returns the first reference that requests a common. Its name is that of the first common.
 pub fn first_common<'a>(module: &'a Module, resolutions: &[Resolution]) -> Option<&'a Reference>
     requires { resolutions.now ≡ resolutions_of «module».now }
     ensures { option_map (λ reference. reference.now.name) result ≡ slice_get (common_names («module».now ∷ [])) 0 }

@@ -12,7 +12,7 @@ use mufom_sections::Section;
 pub enum Evaluation {
     /// It is not evaluated yet.
     Waiting,
-    /// It has no value: it divides by 0, or a public that it goes through does.
+    /// It has no value: it divides by 0, or a public that it depends on does.
     Nothing,
     Value(u64),
 }
@@ -29,7 +29,7 @@ pub struct Surroundings<'a> {
     pub values: &'a [Evaluation],
     /// What each reference resolves to.
     pub resolutions: &'a [Resolution],
-    /// The program counter, if the expression finds one.
+    /// The program counter, if the expression has one.
     pub counter: Option<u64>,
 }
 

@@ -1,4 +1,4 @@
-//! The values of the publics, each found once.
+//! The values of the publics, each computed once.
 
 ghost use Rattle.std.specs.Prelude.{◌≡◌, ◌≢◌, ◌*◌, ◌<◌, ◌≤◌, ◌↔◌, option_map, slice_get, Some, None, IfOk, IsTrue};
 ghost use Rattle.std.specs.List.{list_all};
@@ -67,7 +67,7 @@ impl<'a> PlacedModule<'a> {
         8 * u32::from(self.graph.parts.maus)
     }
 
-    /// What an expression can name, given the values of the publics.
+    /// Returns the values of everything that an expression can name, given those of the publics.
     pub fn surroundings<'b>(
         &'b self,
         values: &'b [Evaluation],
@@ -95,7 +95,7 @@ impl<'a> PlacedModule<'a> {
         }
     }
 
-    // The same of all tokens.
+    // Whether the publics that these tokens mention are all evaluated.
     fn all_ready(&self, values: &[Evaluation], tokens: &[Token]) -> bool
         ensures { result ≡ list_all (λ token. is_ready values.now (mentioned_in self.now.graph.resolutions.now token)) tokens.now }
     {
@@ -141,7 +141,7 @@ impl<'a> PlacedModule<'a> {
         }
     }
 
-    // Evaluates those publics that can be, in this order.
+    // Evaluates the publics that can be evaluated, in this order.
     fn evaluate_in_order(&self, values: &mut Vec<Evaluation>, order: &[u32])
         requires placed { IsPlaced self.now }
         requires right { AreRight self.now values.old.items }
@@ -152,7 +152,7 @@ impl<'a> PlacedModule<'a> {
         }
     }
 
-    // The same in the order of the publics.
+    // Evaluates the publics that can be evaluated, in their own order.
     fn evaluate_all(&self, values: &mut Vec<Evaluation>)
         requires placed { IsPlaced self.now }
         requires right { AreRight self.now values.old.items }
@@ -164,7 +164,7 @@ impl<'a> PlacedModule<'a> {
         }
     }
 
-    // Evaluates all publics, in rounds over those that wait.
+    // Evaluates all publics, in rounds over those that are still waiting.
     fn evaluate_in_rounds(&self, values: &mut Vec<Evaluation>)
         requires placed { IsPlaced self.now }
         requires right { AreRight self.now values.old.items }
@@ -179,8 +179,8 @@ impl<'a> PlacedModule<'a> {
         }
     }
 
-    /// The values of the publics, which must lead in no circle. All components give the same values;
-    /// with those of the graph one round over the publics finds all.
+    /// Returns the values of the publics, none of which may lead back to itself. The result is the same for
+    /// any components; with those of the graph, one round over the publics suffices.
     pub fn public_values(
         &self,
         alloc: Global,
@@ -196,7 +196,7 @@ impl<'a> PlacedModule<'a> {
         Ok(values)
     }
 
-    /// The value of an expression, once all publics are evaluated.
+    /// Returns the value of an expression, given the values of all publics; `None` if it has none.
     pub fn value(
         &self,
         values: &[Evaluation],
@@ -210,7 +210,7 @@ impl<'a> PlacedModule<'a> {
         expression.value(&self.surroundings(values, counter), self.width())
     }
 
-    /// Whether a divisor somewhere in an expression has the value 0, once all publics are evaluated.
+    /// Whether any divisor in an expression has the value 0, given the values of all publics.
     pub fn divides_by_zero(
         &self,
         values: &[Evaluation],
@@ -224,7 +224,7 @@ impl<'a> PlacedModule<'a> {
         self.divides(values, counter, expression)
     }
 
-    // The same by what is known of the publics.
+    // The same, for any values of the publics.
     fn divides(&self, values: &[Evaluation], counter: Option<u64>, expression: &Postfix) -> bool
         requires low { 1 ≤ self.now.graph.parts.now.maus }
         requires high { self.now.graph.parts.now.maus ≤ 8 }
@@ -233,7 +233,7 @@ impl<'a> PlacedModule<'a> {
         expression.divides_by_zero(&self.surroundings(values, counter), self.width())
     }
 
-    /// The first public that divides by 0 itself, once all publics are evaluated.
+    /// Returns the first public whose own expression divides by 0, given the values of all publics.
     pub fn first_division(&self, values: &[Evaluation]) -> Option<&'a Public>
         requires placed { IsPlaced self.now }
         requires values { AreValues self.now values.now }
@@ -250,7 +250,8 @@ impl<'a> PlacedModule<'a> {
         None
     }
 
-    // Whether the public at a position divides by 0 itself. One with a value does not.
+    // Whether the expression of the public at a position divides by 0 itself. That of a public with a value
+    // does not.
     fn has_division(&self, values: &[Evaluation], position: usize, public: &Public) -> bool
         requires placed { IsPlaced self.now }
         requires values { AreValues self.now values.now }

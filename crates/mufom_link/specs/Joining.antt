@@ -21,12 +21,12 @@ header_of first name = record {
   env = first.env;
 }
 
--- the start after that of a module was taken over, if it has one
+-- the start of the link once a module is joined: that of the module, if it has one
 abbrev pub start_after : Renaming → Option Tree → Option Tree → Option Tree
 start_after r None start = start
 start_after r (Some t) start = Some (renamed_tree r t)
 
--- nothing was joined yet
+-- no module is joined yet
 pub record IsEmpty (all : Joined) : Type 0 where
   pub sections : all.sections.items ≡ []
   pub publics : all.publics.items ≡ []
@@ -35,11 +35,11 @@ pub record IsEmpty (all : Joined) : Type 0 where
   pub debug : all.debug.items ≡ []
   pub debug_names : all.debug_names ≡ 0
 
--- what the entries of the next module become, if these variables replace its references
+-- the renumbering of the next module's entries, if these variables replace its references
 abbrev pub next_renaming : List (Letter × ℕ) → Joined → Renaming
 next_renaming targets all = renaming (length all.sections.items) (length all.publics.items) all.debug_names targets
 
--- the entries of the module were appended
+-- the entries of the module are appended
 pub record IsAppended (targets : List (Letter × ℕ)) (m : Parts) (old new : Joined) : Type 0 where
   pub sections : new.sections.items ≡ old.sections.items ++ m.sections
   pub publics : new.publics.items ≡ old.publics.items ++ map (renamed_public (next_renaming targets old)) m.names.publics

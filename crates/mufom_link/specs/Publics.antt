@@ -4,7 +4,7 @@ use Rattle.mufom_names.specs.Index.{Entry, position_of, with_entry}
 use Rattle.mufom_link.specs.declared.refusal.LinkRefusal.{LinkRefusal}
 use Rattle.mufom_link.specs.declared.refusal.LinkRefusal.TheVariants.{Mismatch, Duplicate, DuplicateStart, NoMemory}
 
--- the index after names were added, the first of them with this position, or the first name that it had already
+-- the index once names are added, the first of them at position n; or the first name that the index already had
 abbrev pub indexed : List Entry → ℕ → List (List ℕ) → Result (List Entry) (List ℕ)
 indexed entries n [] = Ok entries
 indexed entries n (name ∷ names) = if is_some (position_of entries name) then Err name else indexed (with_entry entries name n) (suc n) names

@@ -20,11 +20,11 @@ is_kept kept r = list_any (same_reference r) kept
 abbrev pub merged_with : List Reference → Reference → List Reference
 merged_with kept r = if is_kept kept r then kept else kept ++ r ∷ []
 
--- the same, but a reference is also left out if a public has its name
+-- the same, except that a reference is also left out if a public has its name
 abbrev pub kept_with : List (List ℕ) → List Reference → Reference → List Reference
 kept_with names kept r = if has_name names r.name then kept else merged_with kept r
 
--- the same after some more
+-- the references kept after some more
 abbrev pub kept_after : List (List ℕ) → List Reference → List Reference → List Reference
 kept_after names kept [] = kept
 kept_after names kept (r ∷ rs) = kept_after names (kept_with names kept r) rs

@@ -1,4 +1,4 @@
--- What keeps a list of modules from being linked, as the link returns it.
+-- The reasons why a list of modules cannot be linked, as a link returns them.
 use Rattle.std.specs.Prelude.{◌≡◌, List, Some}
 use Rattle.mufom_module.specs.declared.module.Parts.{Parts}
 use Rattle.mufom_meaning.specs.Facts.{mismatch, duplicate, duplicate_start}
@@ -6,7 +6,7 @@ use Rattle.mufom_meaning.specs.LinkAnswer.{link_answer}
 use Rattle.mufom_link.specs.declared.refusal.LinkRefusal.{LinkRefusal}
 use Rattle.mufom_link.specs.declared.refusal.LinkRefusal.TheVariants.{Mismatch, Duplicate, DuplicateStart, NoMemory}
 
--- the error is the one that is returned in place of the link of the list, or out of memory
+-- the error is the one that the definition gives for the list, or out of memory
 abbrev pub IsRefusalOf : List Parts → LinkRefusal → Type 0
 IsRefusalOf ms (Mismatch first other) = link_answer ms ≡ Some (mismatch (first.maus, first.order) (other.maus, other.order))
 IsRefusalOf ms (Duplicate name) = link_answer ms ≡ Some (duplicate name)

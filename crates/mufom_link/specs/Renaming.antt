@@ -1,4 +1,4 @@
--- The entries of a module by the numbers that they have in a link.
+-- Renumbering: what the entries of a module become in a link.
 use Rattle.std.specs.Prelude.{ℕ, ◌+◌, ◌%◌, ◌^◌, List, map, Option, Some, None, option_map, slice_get}
 use Rattle.mufom_expr.specs.declared.token.Letter.{Letter}
 use Rattle.mufom_expr.specs.declared.token.Letter.TheVariants as letters
@@ -52,7 +52,7 @@ renamed_mark r (value_mark name t) = value_mark (r.debug_name name) (renamed_tre
 
 -- ---- the renaming of a site
 
--- the number in the link of an entry of the module, if the first has this one; it fits 32 bits
+-- the number of an entry in the link, given that of the module's first entry of its kind; modulo 2^32
 abbrev pub moved : ℕ → ℕ → ℕ
 moved first n = (first + n) % 2 ^ 32
 
@@ -61,7 +61,7 @@ abbrev pub target_at : Option (Letter × ℕ) → Letter × ℕ
 target_at None = (letters.X, 0)
 target_at (Some target) = target
 
--- what a variable becomes, if the first section and the first public have these numbers
+-- what a variable becomes, given the numbers in the link of the module's first section and first public
 abbrev pub moved_variable : ℕ → ℕ → List (Letter × ℕ) → Letter → ℕ → Letter × ℕ
 moved_variable s p targets letters.R n = (letters.R, moved s n)
 moved_variable s p targets letters.L n = (letters.L, moved s n)
@@ -70,7 +70,7 @@ moved_variable s p targets letters.P n = (letters.P, moved s n)
 moved_variable s p targets letters.I n = (letters.I, moved p n)
 moved_variable s p targets letters.X n = target_at (slice_get targets n)
 
--- what the entries of a module become, by the numbers of its first section, public and debug name
+-- the renumbering of a module's entries, given the numbers in the link of its first section, public and debug name
 abbrev pub renaming : ℕ → ℕ → ℕ → List (Letter × ℕ) → Renaming
 renaming s p d targets = record { section = moved s; debug_name = moved d; variable = moved_variable s p targets }
 

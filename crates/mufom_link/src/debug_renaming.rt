@@ -1,4 +1,4 @@
-//! Debug items by the numbers of the link, and how many debug names they declare.
+//! Renumbers debug items for the link, and counts the debug names that they declare.
 
 ghost use Rattle.std.specs.Prelude.{◌≡◌, ◌<◌, ◌^◌, map, option_map, IfOk};
 ghost use Rattle.mufom_debug.specs.Marks.{marks_of, marks_of_item, names_after_all};
@@ -92,7 +92,7 @@ fn renamed_item(
     }
 }
 
-// The items, with their variables, sections and names by the numbers of the link, in their place.
+// Renumbers the variables, sections and debug names of the items for the link, in place.
 #[cycle(renaming)]
 pub(crate) fn renamed_items(
     alloc: Global,
@@ -109,7 +109,7 @@ pub(crate) fn renamed_items(
     Ok(List::from_vec(items))
 }
 
-// How many debug names are declared after the item, if there are `before` before it.
+// The number of debug names declared up to the end of the item, given the number before it.
 #[cycle(names)]
 fn names_after_item(before: u32, item: &DebugItem) -> u32
     requires { names_after_all before (marks_of_item item.now) < 2 ^ 32 }
@@ -123,7 +123,7 @@ fn names_after_item(before: u32, item: &DebugItem) -> u32
     }
 }
 
-// How many debug names are declared after the items, if there are `before` before them.
+// The number of debug names declared up to the end of the items, given the number before them.
 #[cycle(names)]
 pub(crate) fn names_after(before: u32, items: &[DebugItem]) -> u32
     requires { names_after_all before (marks_of items.now) < 2 ^ 32 }

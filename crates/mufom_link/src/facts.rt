@@ -1,4 +1,4 @@
-//! What keeps a list of modules from being linked.
+//! The reasons why a list of modules cannot be linked.
 
 ghost use Rattle.std.specs.Prelude.{◌≡◌, ◌+◌, ◌<◌, ◌^◌, [], length, ◌≤◌, option_map, option_to_list, MatchResult};
 ghost use Rattle.mufom_names.specs.Names.{names_of};
@@ -70,8 +70,8 @@ pub(crate) fn start_count(list: &[Module]) -> usize
     count
 }
 
-// Adds the names of publics to the index, the first of them at this position, or finds one that the
-// index has already.
+// Adds the names of publics to the index, the first of them at this position. Returns `Duplicate` with the
+// first name that the index already has.
 fn add_publics<'a>(
     alloc: Global,
     index: &mut NameIndex<'a>,

@@ -16,7 +16,7 @@ use mufom_numbers::NoMemory;
 use mufom_sections::Section;
 use std::alloc::Global;
 
-/// What a link has of the modules so far, except its references.
+/// The entries of a link so far, except its references.
 #[derive(Drop)]
 pub(crate) struct Joined {
     pub sections: Vec<Section>,
@@ -64,7 +64,7 @@ fn append<T: Drop>(all: &mut Vec<T>, mut items: Vec<T>) -> Result<(), NoMemory>
 }
 
 impl Joined {
-    // A link that has no module yet, with room for the entries of these.
+    // Returns a link without any module, with memory reserved for the entries of these modules.
     pub(crate) fn with_room(alloc: Global, list: &[Module]) -> Result<Joined, NoMemory>
         ensures { IfOk result (λ all. IsEmpty all) }
     {
@@ -79,7 +79,7 @@ impl Joined {
         })
     }
 
-    // Appends the entries of a module whose references these variables replace.
+    // Appends the entries of a module. These variables replace its references.
     pub(crate) fn append(
         &mut self,
         alloc: Global,

@@ -58,7 +58,7 @@ fn join_lists(
     Ok(joined)
 }
 
-// What a partial link states before its lists.
+// The parts of a partial link that are not lists.
 #[derive(Drop)]
 struct Header {
     processor: Bytes,
@@ -119,7 +119,7 @@ fn join(
     })
 }
 
-// The partial link of modules that nothing keeps from being linked.
+// The partial link of modules that can be linked.
 fn linked(
     alloc: Global,
     list: Vec<Module>,
@@ -148,29 +148,21 @@ fn copy_modules(alloc: Global, list: &[Module]) -> Result<Vec<Module>, NoMemory>
     Ok(copies)
 }
 
-/// The partial link of a list of modules under a name.
+/// Links a list of modules into one, a partial link under this name.
 ///
-/// It has the sections, public symbols, loads and debug items of all modules in their order, and the
-/// start of the module that has one; the processor, the descriptor, the extension and the environment
-/// of the first module. Each reference whose name a public symbol of the list has is replaced by that
-/// symbol; the other references are kept, equal ones once. The link means what the list means,
-/// whatever modules are around it and wherever its sections are placed. The modules of the
-/// list stay as they are; [`link_owned`] takes them, and copies only the references that it keeps.
-///
-/// An error other than `NoMemory` is returned only if the list can't be linked, and is the first that
-/// applies: `Mismatch`, then `Duplicate`, then `DuplicateStart`. A list that can't be linked is never linked.
-/// `NoMemory` may be returned for any list.
-///
-/// The list must not be empty, the name must have at most 65,535 bytes, and the weights of the
-/// modules and the length of the name must add up to less than 2^32:
-/// [`may_be_linked`](crate::may_be_linked) tests this.
+/// The link has the sections, public symbols, loads and debug items of all modules in their order, the start
+/// of the module that has one, and the processor, the descriptor, the extension and the environment of the
+/// first module. A reference to a name that a public symbol of the list has is replaced by that symbol; the
+/// other references are kept, equal ones once. The link means what the list means, whatever other modules are
+/// linked with it and wherever its sections are placed. The modules of the list stay as they are;
+/// [`link_owned`] consumes them, and copies only the references that it keeps.
 pub fn link(alloc: Global, list: &[Module], name: &[u8]) -> Result<Module, LinkRefusal>
     requires { MayBeLinked list.now name.now }
     // The module is the partial link of the list under the name.
     ensures joined { IfOk result (λ M. IsJoined M list.now name.now) }
     // Nothing keeps the list from being linked.
     ensures linkable { IfOk result (λ _. link_answer list.now ≡ None) }
-    // The error is the first link fact, or out of memory.
+    // The error is the first reason why the list cannot be linked, or out of memory.
     ensures refused { IfErr result (λ e. IsRefusalOf list.now e) }
     // In every context the module means what the list means.
     ensures stands { IfOk result (λ M. StandsFor M list.now) }
@@ -186,15 +178,15 @@ pub fn link(alloc: Global, list: &[Module], name: &[u8]) -> Result<Module, LinkR
     Ok(linked(alloc, copies, name, references)?)
 }
 
-/// The partial link of a list of modules under a name, as [`link`] returns it, but made of the entries
-/// of the modules, which are dropped.
+/// Links a list of modules into one, as [`link`] does, but moves the entries of the modules instead of
+/// copying them. The modules are consumed.
 pub fn link_owned(alloc: Global, list: Vec<Module>, name: &[u8]) -> Result<Module, LinkRefusal>
     requires { MayBeLinked list.items name.now }
     // The module is the partial link of the list under the name.
     ensures joined { IfOk result (λ M. IsJoined M list.items name.now) }
     // Nothing keeps the list from being linked.
     ensures linkable { IfOk result (λ _. link_answer list.items ≡ None) }
-    // The error is the first link fact, or out of memory.
+    // The error is the first reason why the list cannot be linked, or out of memory.
     ensures refused { IfErr result (λ e. IsRefusalOf list.items e) }
     // In every context the module means what the list means.
     ensures stands { IfOk result (λ M. StandsFor M list.items) }

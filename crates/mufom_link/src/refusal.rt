@@ -1,10 +1,10 @@
-//! Why a list of modules is not linked.
+//! Why a list of modules cannot be linked.
 
 use mufom_meaning::Descriptor;
 use mufom_numbers::{Bytes, NoMemory};
 use thiserror::Error;
 
-/// Why a list of modules isn't linked.
+/// Why a list of modules cannot be linked.
 #[derive(Debug, Drop, Error)]
 pub enum LinkRefusal {
     /// The descriptor of the first module, and the first one that differs from it.

@@ -1,4 +1,4 @@
-//! The publics, loads and start of a module by the numbers of the link, in their place. Does not allocate.
+//! Renumbers the publics, loads and start of a module for the link, in place. Does not allocate.
 
 ghost use Rattle.std.specs.Prelude.{◌≡◌, map};
 ghost use Rattle.mufom_link.specs.Joining.{start_after};
@@ -52,7 +52,7 @@ fn rename_items(site: &Renumbering<'_>, mut items: Vec<Item>) -> Vec<Item>
     items
 }
 
-// The items of a repeat.
+// Renumbers the items of a repeat.
 fn rename_repeated(alloc: Global, site: &Renumbering<'_>, items: &mut List<Item>)
     ensures { items.new ≡ map (renamed_item (renaming_of site.now)) items.old }
 {
@@ -83,7 +83,7 @@ pub(crate) fn rename_loads(alloc: Global, site: &Renumbering<'_>, mut loads: Vec
     loads
 }
 
-// Takes over the start of the module, if it has one.
+// Makes the start of the module, renumbered, that of the link, if the module has one.
 pub(crate) fn take_start(
     site: &Renumbering<'_>,
     start: Option<Postfix>,

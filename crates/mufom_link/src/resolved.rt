@@ -44,7 +44,7 @@ fn seed_of_references(list: &[Module]) -> HashSeed {
     seed
 }
 
-// What the references of the modules resolve to, if these are all publics.
+// Resolves the references of the modules, given an index of all their publics.
 fn resolved_by(
     alloc: Global,
     list: &[Module],
@@ -66,7 +66,7 @@ fn resolved_by(
     })
 }
 
-/// What the references of the modules resolve to in their link, or the error that keeps them from being linked.
+/// Resolves the references of the modules, or returns the first reason why the modules cannot be linked.
 pub(crate) fn resolve(alloc: Global, list: &[Module]) -> Result<Resolved, LinkRefusal>
     requires { total_weight list.now < 2 ^ 32 }
     ensures resolved { IfOk result (λ all. AreResolved list.now all.targets all.kept) }

@@ -10,18 +10,19 @@ use mufom_numbers::{Bytes, NoMemory};
 use mufom_text::{PrintStop, TextForm, print_text, text_bytes};
 use std::alloc::Global;
 
-/// The listing of the module. It takes time and memory in proportion to the length of the listing.
+/// Returns the listing of the module as bytes in memory. Time and memory are in proportion to the length of
+/// the listing.
 pub fn listing(alloc: Global, object: &Module) -> Result<Bytes, NoMemory>
     ensures { IfOk result (λ text. text ≡ listing_text object.now) }
 {
     text_bytes(alloc, TextForm::Listing, object)
 }
 
-/// Prints the listing of the module, in chunks of about 65,536 bytes, the last of which may be shorter. It allocates one chunk, and
-/// nothing for the text.
+/// Prints the listing of the module, in chunks of about 65,536 bytes, the last of which may be shorter. It
+/// allocates one chunk, and nothing for the text.
 ///
-/// `NoMemory` is returned before anything is printed. `Fault` is returned only if a print failed
-/// and the count of failed prints rose; a prefix of the listing may then be printed.
+/// `NoMemory` is returned before anything is printed. `Fault` is returned only if a print failed and the
+/// count of failed prints rose; a prefix of the listing may then be printed.
 pub fn print_listing<H: Host>(alloc: Global, host: &mut H, object: &Module) -> Result<(), PrintStop>
     ensures done { OnOk result (GrowsBy (H.meaning host.old).out (H.meaning host.new).out (listing_text object.now)) }
     ensures fault { result ≡ Err PrintStop.Fault

@@ -1,25 +1,25 @@
--- How many bytes are loaded (IEEE Std 695, load commands).
+-- The number of bytes that loads put into sections (IEEE Std 695, load commands).
 use Rattle.std.specs.Prelude.{ℕ, zero, suc, ◌*◌, List, [], ◌∷◌, ◌++◌, length, sum_by, flat_map}
 use Rattle.mufom_loads.specs.declared.load.Item.{Item}
 use Rattle.mufom_loads.specs.declared.load.Item.TheVariants.{Literal, Field}
 use Rattle.mufom_loads.specs.declared.load.Load.{Load}
 use Rattle.mufom_loads.specs.declared.load.Load.TheVariants.{SetSection, SetPc, One, Repeat}
 
--- how many bytes an item loads
+-- the number of bytes that an item loads
 abbrev pub byte_count : Item → ℕ
 byte_count (Literal bytes) = length bytes
 byte_count (Field kind size value) = size
 
--- how many bytes items load, one after another
+-- the number of bytes that items load, one after another
 abbrev pub lengths_of : List Item → ℕ
 lengths_of items = sum_by byte_count items
 
--- the list repeated as many times, one copy after another
+-- this many copies of the list, one after another
 abbrev pub repeated : {X : Type 0} → ℕ → List X → List X
 repeated zero xs = []
 repeated (suc n) xs = xs ++ repeated n xs
 
--- the items that a load puts into its section, one after another: those of a repeat as many times as it states
+-- the items that a load puts into its section, one after another; a repeat puts `count` copies of its items there
 abbrev pub copies_of : Load → List Item
 copies_of (SetSection section) = []
 copies_of (SetPc section value) = []
@@ -29,7 +29,7 @@ copies_of (Repeat count items) = repeated count items
 abbrev pub item_copies : List Load → List Item
 item_copies loads = flat_map copies_of loads
 
--- how many bytes a load puts into its section, with a repeat counted as a product
+-- the number of bytes that a load puts into its section; for a repeat it is a product
 abbrev pub length_loaded : Load → ℕ
 length_loaded (SetSection section) = 0
 length_loaded (SetPc section value) = 0

@@ -1,4 +1,4 @@
-//! A law of the lengths, the contract of a function that does nothing.
+//! A law about lengths: the contract of a function with an empty body.
 
 ghost use Rattle.std.specs.Prelude.{◌≡◌, List};
 ghost use Rattle.mufom_loads.specs.declared.load.Load.{Load};

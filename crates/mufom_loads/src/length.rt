@@ -41,8 +41,8 @@ fn load_length(load: &Load) -> u128
     }
 }
 
-/// The number of bytes that the loads put into sections, with the items of each repeat counted as many
-/// times as it states. Does not allocate.
+/// The number of bytes that the loads put into sections; the items of a repeat are counted `count` times.
+/// Does not allocate.
 ///
 /// The lengths of all items, with those of a repeat counted once, must add up to less than 2^64 bytes.
 pub fn loaded_bytes(loads: &[Load]) -> u128

@@ -1,4 +1,4 @@
--- What is known of parts that are a location.
+-- What is known about the parts of a location.
 use Rattle.std.specs.Prelude.{ℕ, List, [], ◌∷◌}
 use Rattle.mufom_module.specs.declared.module.Parts.{Parts}
 use Rattle.mufom_module.specs.Defects.{IsValid}
@@ -15,6 +15,6 @@ pub record IsLocated (parts : LocatedParts) : Type 0 where
   pub valid : IsValid source
   pub is : IsLocation (source ∷ []) plan parts
 
--- rows that go by address, each with a byte, and an address between two of them
+-- runs in the order of their addresses, none of them empty, with at least one address between two of them
 abbrev pub AreRows : List Run → Type 0
 AreRows runs = (from : ℕ) × AreApart from runs

@@ -1,4 +1,4 @@
--- The weight of the literals of a row.
+-- The weight of the literals of a run.
 use Rattle.std.specs.Prelude.{ℕ, List, map, sum_by}
 use Rattle.mufom_loads.specs.declared.load.Item.TheVariants.{Literal}
 use Rattle.mufom_loads.specs.declared.load.Load.TheVariants.{One}

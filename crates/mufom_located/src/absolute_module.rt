@@ -61,7 +61,7 @@ fn absolute_start(alloc: Global, start: Option<u64>) -> Result<Option<Postfix>, 
     }
 }
 
-// States in bare parts what the absolute module of a location states.
+// Fills bare parts with the contents of the absolute module of a location.
 fn state_location(alloc: Global, made: &mut Parts, location: &LocatedParts) -> Result<(), NoMemory>
     requires located { IsLocated location.now }
     requires bare { made.old ≡ bare_parts location.now.maus location.now.order }
@@ -88,11 +88,12 @@ fn absolute_parts(alloc: Global, location: &LocatedParts) -> Result<Parts, NoMem
     Ok(made)
 }
 
-/// The module that a location is written as: no extension, no environment and no references, one
-/// number for each expression, and for each row of bytes in a section the counter and literals.
+/// The module as which a location is written. It has no extension, no environment and no references, a
+/// number in place of each expression, and for each run of bytes in a section a load that sets the
+/// program counter, followed by literals.
 ///
-/// [`Located::written_weight`] must be below 2^32. Located alone by a plan without regions the
-/// module is located as itself. Out of memory is the only other result.
+/// [`Located::written_weight`] must be below 2^32. Locating the module alone, by a plan without regions,
+/// results in the same location. The only error is out of memory.
 pub fn absolute(alloc: Global, located: &Located) -> Result<Module, NoMemory>
     requires { weight (absolute_of located.now) < 2 ^ 32 }
     ensures absolute { IfOk result (λ m. m ≡ absolute_of located.now) }

@@ -33,7 +33,7 @@ fn push_literals(alloc: Global, loads: &mut List<Load>, bytes: &[u8]) -> Result<
     Ok(())
 }
 
-// Appends what loads a row of bytes in a section: the counter is set, and literals follow.
+// Appends the loads of a run of bytes in a section: one that sets the program counter, and then literals.
 fn push_row(
     alloc: Global,
     loads: &mut List<Load>,
@@ -48,8 +48,8 @@ fn push_row(
     push_literals(alloc, loads, bytes)
 }
 
-// Appends what loads the part of a row from one address up to another; before it the section is set
-// unless it is `open` already. Returns whether it is open then.
+// Appends the loads of the bytes of a run from one address up to another. If there are any, and the section
+// is not `open` (the current one) yet, sets the section first. Returns whether it is open afterwards.
 fn push_run(
     alloc: Global,
     loads: &mut List<Load>,
@@ -116,7 +116,7 @@ fn push_its_loads(
     )
 }
 
-/// The loads of the absolute module whose sections and rows these are.
+/// The loads of the absolute module with these sections and runs.
 pub(crate) fn absolute_loads(
     alloc: Global,
     sections: &[Section],

@@ -32,7 +32,7 @@ impl Model for Located {
     ghost invariant = { λ located. IsLocated located.parts };
 }
 
-// Written out so that whoever drops one makes one call: see "Drops" in docs/ARCHITECTURE.md.
+// Written out so that code that drops a location contains a single call: see "Drops" in docs/ARCHITECTURE.md.
 impl Drop for Located {
     fn drop(self) {
         let Located { parts: _ } = self;
@@ -40,7 +40,7 @@ impl Drop for Located {
 }
 
 impl Located {
-    /// The location of parts that are known to be one. Checks nothing, and does not allocate.
+    /// Makes a location of parts that are known to be one, without checking them. Does not allocate.
     pub fn sound(parts: LocatedParts) -> Located
         requires { IsLocated parts }
         ensures { result ≡ parts }

@@ -1,4 +1,4 @@
-//! The part of a location's rows that lies in a section.
+//! The part of a location's runs that lies in a section.
 
 ghost use Rattle.std.specs.Prelude.{◌≡◌, ℕ, ◌+◌, ◌-◌, max, take, drop, length, nat_le, nat_lt};
 ghost use Rattle.mufom_meaning.specs.Absolute.{loads_between, run_within};
@@ -6,14 +6,14 @@ ghost use Rattle.mufom_located.specs.Located.{AreRows};
 
 use mufom_meaning::Run;
 
-// The address after the last byte of a row.
+// The address after the last byte of a run.
 fn end_of(run: &Run) -> u128
     ensures { result ≡ run.now.address + length run.now.bytes }
 {
     run.address as u128 + run.bytes.len() as u128
 }
 
-// The rows from the first one on that ends after an address. Those before it have no byte there.
+// The runs from the first one that ends after an address. Earlier runs have no byte at or above the address.
 fn runs_from(runs: &[Run], from: u64) -> &[Run]
     requires { AreRows runs.now }
     ensures rows { AreRows result.now }
@@ -27,7 +27,7 @@ fn runs_from(runs: &[Run], from: u64) -> &[Run]
     runs.split_at(first).1
 }
 
-// The rows up to the last one that begins before an address. Those after it have no byte there.
+// The runs up to the last one that begins before an address. Later runs have no byte below the address.
 fn runs_up_to(runs: &[Run], to: u128) -> &[Run]
     requires { AreRows runs.now }
     ensures { (section from : ℕ) → loads_between section runs.now from to ≡ loads_between section result.now from to }
@@ -40,8 +40,8 @@ fn runs_up_to(runs: &[Run], to: u128) -> &[Run]
     runs.split_at(count).0
 }
 
-/// The rows that have bytes from one address up to another. The others load nothing there. The time
-/// grows with the logarithm of the number of rows.
+/// The runs that have bytes from one address up to another. The others load nothing there. The time grows
+/// with the logarithm of the number of runs.
 pub(crate) fn runs_between(runs: &[Run], from: u64, to: u128) -> &[Run]
     requires { AreRows runs.now }
     ensures { (section : ℕ) → loads_between section runs.now from to ≡ loads_between section result.now from to }
@@ -49,7 +49,7 @@ pub(crate) fn runs_between(runs: &[Run], from: u64, to: u128) -> &[Run]
     runs_up_to(runs_from(runs, from), to)
 }
 
-/// The part of a row from one address up to another: its address, and its bytes.
+/// The part of a run from one address up to another: its address, and its bytes.
 pub(crate) fn run_within(run: &Run, from: u64, to: u128) -> (u64, &[u8])
     ensures address { result.0 ≡ (run_within from to run.now).address }
     ensures bytes { result.1.now ≡ (run_within from to run.now).bytes }

@@ -1,5 +1,5 @@
-//! The weight of the absolute module of a location, found without it. Sums stop at the greatest
-//! 64-bit number; the weight of a location is below it.
+//! The weight of the absolute module of a location, computed without making the module. Sums stop at the
+//! greatest 64-bit number; the weight of a location is below it.
 
 ghost use Rattle.std.specs.Prelude.{◌≡◌, ℕ, ◌+◌, ◌<◌, ◌^◌, ◌∷◌, [], map, length, flat_map, option_map, sum_by};
 ghost use Rattle.std.specs.List.{enumerate_from};
@@ -30,7 +30,7 @@ fn literals_weight(bytes: &[u8]) -> u64
     total
 }
 
-// The weight of the loads of the part of a row from one address up to another.
+// The weight of the loads of the part of a run from one address up to another.
 fn run_weight(run: &Run, from: u64, to: u128) -> u64
     ensures { (section : ℕ) → result ≡ capped (sum_by load_weight (loads_between section (run.now ∷ []) from to)) }
 {
@@ -41,7 +41,7 @@ fn run_weight(run: &Run, from: u64, to: u128) -> u64
     20u64.saturating_add(literals_weight(bytes))
 }
 
-// The weight of the loads of the parts of the rows from one address up to another.
+// The weight of the loads of the parts of the runs from one address up to another.
 fn runs_weight(runs: &[Run], from: u64, to: u128) -> u64
     ensures { (section : ℕ) → result ≡ capped (sum_by load_weight (loads_between section runs.now from to)) }
 {

@@ -17,7 +17,7 @@ use Rattle.mufom_module.specs.declared.module.Parts.{Parts}
 use Rattle.mufom_plan.specs.declared.plan.Plan.{Plan}
 use Rattle.mufom_meaning.specs.declared.located.LocatedParts.{LocatedParts}
 
--- a letter, and a number in decimal after it
+-- a letter followed by a number in decimal
 abbrev pub name_at : List ℕ → ℕ → List ℕ
 name_at letter n = letter ++ decimal n
 
@@ -29,17 +29,17 @@ code_section = record { name = codes "code"; absolute = false; purpose = Some Co
 abbrev pub entry_at : ℕ → Public
 entry_at n = record { name = name_at (codes "f") n; value = two plus (variable letters.R 0) (number 4); notes = [] }
 
--- the references of the module with this number: to the public of the next, and none in the last
+-- the references of the module with this number: one to the public of the next module; none in the last module
 abbrev pub references_at : (last : Bool) → ℕ → List Reference
 references_at true n = []
 references_at false n = record { name = name_at (codes "f") (n + 1); weak = None; notes = [] } ∷ []
 
--- the address of the public of the next module, and 0 in the last
+-- the address of the public of the next module; 0 in the last module
 abbrev pub next_value : (last : Bool) → Tree
 next_value true = number 0
 next_value false = variable letters.X 0
 
--- 16 bytes: the next address, the number of the module, the program counter, and twice the lowest byte of the number and 0
+-- 16 bytes: the address of the next public, the number of the module, the program counter, and twice the lowest byte of the number and 0
 abbrev pub loads_at : (last : Bool) → ℕ → List Load
 loads_at last n = SetSection 0
     ∷ One (Field Either 4 (next_value last))
@@ -64,7 +64,7 @@ module_at last n = record {
   start = None;
 }
 
--- `more` of `count` modules, with the numbers from n on
+-- `more` of the `count` modules, numbered from n
 abbrev pub modules_from : (count more n : ℕ) → List Parts
 modules_from count zero n = []
 modules_from count (suc more) n = module_at (n + 1 == count) n ∷ modules_from count more (n + 1)
@@ -77,8 +77,7 @@ made_modules count = modules_from count count 0
 abbrev pub made_plan : (count : ℕ) → Plan
 made_plan count = record { regions = record { name = codes "all"; base = 4096; size = 16 * count; sections = codes "*" ∷ []; common = false } ∷ [] }
 
--- four lines about `count` modules and their location: how many they are, how many publics and loaded bytes it has, and the sum of
--- these bytes
+-- four lines about `count` modules and their location: the number of modules, of publics and of loaded bytes, and the sum of those bytes
 abbrev pub summary : (count : ℕ) → LocatedParts → List ℕ
 summary count r = codes "modules " ++ decimal count
     ++ codes "\npublics " ++ decimal (length r.publics)

@@ -1,4 +1,4 @@
-//! One of the generated modules, and the plan for all of them.
+//! Builds one of the generated modules, and the plan for all of them.
 
 ghost use Rattle.std.specs.Prelude.{◌≡◌, ◌+◌, ◌<◌, ◌^◌, ◌==◌, ◌∷◌, [], ◌++◌, ◌%◌, length, IfOk, OnOk};
 ghost use Rattle.mufom_expr.specs.Terms.{FindsTooFew};
@@ -29,10 +29,10 @@ const ENTRY_OFFSET: u64 = 4;
 // The alignment of a section, in addressable units.
 const SECTION_ALIGNMENT: u64 = 4;
 
-// How often a module loads the lowest byte of its number and a byte 0.
+// The number of times that a module loads the lowest byte of its number and a byte 0.
 const REPEAT_COUNT: u64 = 2;
 
-// How many loads a module has.
+// The number of loads of a module.
 const LOAD_COUNT: usize = 5;
 
 // The length of an address, in addressable units.
@@ -41,7 +41,7 @@ const ADDRESS_SIZE: u8 = 4;
 // The base of the region in which all sections are placed.
 const FIRST_BASE: u64 = 4096;
 
-// The name that is a letter, and a number in decimal after it.
+// The name that consists of a letter and a number in decimal.
 fn name_at(alloc: Global, letter: &str, number: u32) -> Result<Bytes, NoMemory>
     ensures { IfOk result (λ name. name ≡ name_at letter.now number) }
 {
@@ -65,7 +65,7 @@ fn code_section(alloc: Global) -> Result<Section, NoMemory>
     })
 }
 
-// Adds a token that finds its terms, if there are fewer than 255.
+// Adds a token whose operands are there, to fewer than 255 tokens.
 fn add(builder: &mut Builder, token: Token) -> Result<(), NoMemory>
     requires room { length builder.old < 255 }
     requires found { FindsTooFew builder.old token → ⊥ }
@@ -103,7 +103,8 @@ fn entry_at(alloc: Global, number: u32) -> Result<Public, NoMemory>
     })
 }
 
-// The references of the module with this number: to the public of the next, and none in the last.
+// The references of the module with this number: one to the public of the next module; none in the last
+// module.
 fn references_at(alloc: Global, last: bool, number: u32) -> Result<List<Reference>, NoMemory>
     requires { number < 2 ^ 31 }
     ensures { IfOk result (λ references. references ≡ references_at last number) }
@@ -119,7 +120,7 @@ fn references_at(alloc: Global, last: bool, number: u32) -> Result<List<Referenc
     List::single(alloc, next)
 }
 
-// The address of the public of the next module, and 0 in the last.
+// The address of the public of the next module; 0 in the last module.
 fn next_value(last: bool) -> Postfix
     ensures { result ≡ next_value last }
 {
@@ -166,7 +167,7 @@ fn loads_at(alloc: Global, last: bool, number: u32) -> Result<List<Load>, NoMemo
     Ok(loads)
 }
 
-// States in bare parts what the module with this number states.
+// Fills empty parts with the entries of the module with this number.
 fn state_module(alloc: Global, parts: &mut Parts, last: bool, number: u32) -> Result<(), NoMemory>
     requires number { number < 2 ^ 31 }
     requires bare { parts.old ≡ bare_parts 4 Most }
@@ -181,7 +182,7 @@ fn state_module(alloc: Global, parts: &mut Parts, last: bool, number: u32) -> Re
     Ok(())
 }
 
-// What the module with this number states.
+// The parts of the module with this number.
 fn parts_at(alloc: Global, last: bool, number: u32) -> Result<Parts, NoMemory>
     requires { number < 2 ^ 31 }
     ensures { IfOk result (λ parts. parts ≡ module_at last number) }

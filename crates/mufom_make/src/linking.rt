@@ -1,4 +1,4 @@
-//! The links of the generated modules: in pairs, and the pairs into one.
+//! Links the generated modules in pairs, and the pairs into one module.
 
 ghost use Rattle.std.specs.Prelude.{◌≡◌, ◌-◌, ◌*◌, ◌<◌, ◌≤◌, ◌^◌, [], length, None, IfOk};
 ghost use Rattle.mufom_module.specs.Defects.{IsValid};
@@ -25,7 +25,7 @@ fn name_of(entry: &Module) -> &[u8]
     entry.parts().name.as_slice()
 }
 
-// The modules with the numbers from `first` up to `end`, of `count`.
+// The modules with the numbers from `first` up to, but not including, `end`, out of `count`.
 fn modules_between(alloc: Global, count: u32, first: u32, end: u32) -> Result<Vec<Module>, NoMemory>
     requires order { first ≤ end }
     requires few { end ≤ MOST_MODULES }
@@ -38,7 +38,7 @@ fn modules_between(alloc: Global, count: u32, first: u32, end: u32) -> Result<Ve
     Ok(modules)
 }
 
-// The link of modules about which no link fact holds, under the name of the first.
+// The link of modules that can be linked, under the name of the first.
 fn linked(alloc: Global, list: Vec<Module>) -> Result<Module, NoMemory>
     requires some { 0 < length list.items }
     requires light { total_weight list.items ≤ 2 ^ 31 }
@@ -55,7 +55,7 @@ fn linked(alloc: Global, list: Vec<Module>) -> Result<Module, NoMemory>
     }
 }
 
-// The link of the modules from `first` up to `end`, which are dropped.
+// The link of the modules from `first` up to, but not including, `end`. The modules are dropped.
 fn linked_between(alloc: Global, count: u32, first: u32, end: u32) -> Result<Module, NoMemory>
     requires some { first < end }
     requires few { end ≤ MOST_MODULES }
@@ -65,7 +65,7 @@ fn linked_between(alloc: Global, count: u32, first: u32, end: u32) -> Result<Mod
     linked(alloc, modules)
 }
 
-// The links of two modules each, and of a last one alone.
+// The link of each pair of modules, and of a last module alone if their number is odd.
 fn linked_pairs(alloc: Global, count: u32) -> Result<Vec<Module>, NoMemory>
     requires some { 1 ≤ count }
     requires few { count ≤ MOST_MODULES }
@@ -83,8 +83,7 @@ fn linked_pairs(alloc: Global, count: u32) -> Result<Vec<Module>, NoMemory>
     Ok(pairs)
 }
 
-/// The module into which `count` generated modules are linked: first in pairs, and then the links of
-/// the pairs.
+/// Links `count` generated modules into one: first in pairs, then the links of the pairs.
 pub(crate) fn linked_modules(alloc: Global, count: u32) -> Result<Module, NoMemory>
     requires some { 1 ≤ count }
     requires few { count ≤ MOST_MODULES }

@@ -12,12 +12,11 @@ use crate::linking::linked_modules;
 use mufom_image::{LocateRefusal, Located, locate};
 use std::alloc::Global;
 
-/// Builds `count` generated modules, links them in pairs and the results into one module, and locates
-/// that.
+/// Builds `count` generated modules, links them in pairs and the results into one module, and locates it.
 ///
-/// There are 1 to [`MOST_MODULES`](mufom_numbers::limits::MOST_MODULES) of them. Each has one section of 16
-/// addressable units with a public symbol in it. A module loads the address of the next module's public;
-/// the last one loads 0 in its place. The modules of a pair are dropped as soon as they are linked.
+/// `count` is from 1 to [`MOST_MODULES`](mufom_numbers::limits::MOST_MODULES). Each module has one section of
+/// 16 addressable units with a public symbol in it. A module loads the address of the next module's public;
+/// the last one loads 0 instead. The modules of a pair are dropped as soon as they are linked.
 pub fn made(alloc: Global, count: u32) -> Result<Located, LocateRefusal>
     requires some { 1 ≤ count }
     requires few { count ≤ MOST_MODULES }

@@ -8,7 +8,7 @@ use mufom_image::{Located, Run};
 use mufom_numbers::NoMemory;
 use std::alloc::Global;
 
-// How many bytes the runs have.
+// The number of bytes of the runs.
 fn byte_count(runs: &[Run]) -> u64
     requires { sum_by (λ run. length run.bytes) runs.now ≤ MOST_IMAGE_BYTES }
     ensures { result ≡ sum_by (λ run. length run.bytes) runs.now }
@@ -45,8 +45,8 @@ fn run_sum(runs: &[Run]) -> u64
     total
 }
 
-/// What is printed of the location of `count` generated modules: their number, the number of located
-/// publics, the number of loaded bytes, and the sum of these, a line for each.
+/// Returns the text that is printed about the location of `count` generated modules: their number, the number
+/// of located publics, the number of loaded bytes, and the sum of these bytes, one per line.
 pub fn summary_text(alloc: Global, count: u32, located: &Located) -> Result<Vec<u8>, NoMemory>
     ensures { IfOk result (λ text. text.items ≡ summary count located.now) }
 {

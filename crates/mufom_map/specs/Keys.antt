@@ -1,4 +1,4 @@
--- What sections and publics are put in order by, as the code has it: a key and a position.
+-- The keys by which sections and publics are sorted, as the code has them: a number and a position.
 use Rattle.std.specs.Prelude.{ℕ, ◌+◌, ◌≤◌, List, [], ◌∷◌}
 use Rattle.mufom_sections.specs.declared.section.Section.{Section}
 use Rattle.mufom_meaning.specs.declared.located.PublicValue.{PublicValue}
@@ -18,7 +18,7 @@ section_key s = (base_of s.1, s.0)
 abbrev pub public_key : ℕ × PublicValue → Key
 public_key p = (p.1.value, p.0)
 
--- the positions rise, from this one on
+-- the positions are increasing, from this one on
 abbrev pub ArePositions : ℕ → List Key → Type 0
 ArePositions n [] = Unit {0}
 ArePositions n (k ∷ keys) = (n ≤ k.1) × ArePositions (k.1 + 1) keys

@@ -12,13 +12,13 @@ use Rattle.mufom_map.specs.Room.{bar, used_in}
 
 -- ---- words
 
--- digits without some leading zeros, at most this many
+-- digits without leading zeros, of which at most this many are left out
 abbrev pub without_zeros : ℕ → Text → Text
 without_zeros zero digits = digits
 without_zeros (suc count) [] = []
 without_zeros (suc count) (digit ∷ digits) = if nat_lt 0x30 digit then digit ∷ digits else without_zeros count digits
 
--- an address in upper-case hexadecimal: two digits for each MAU, and more if it is longer
+-- an address in upper-case hexadecimal: two digits for each of the `maus` units, and more if the number needs them
 abbrev pub hex : ℕ → ℕ → Text
 hex maus a = without_zeros (16 - 2 * maus) (encode_upper (bytes_high_first 8 a))
 
@@ -38,12 +38,12 @@ in_region (Some k) = counted (codes " region ") k
 
 -- ---- order
 
--- an element before those of a list with its key or a greater one
+-- an element, inserted before the elements whose keys are equal or greater
 abbrev pub put_in : {X : Type 0} → (X → ℕ) → X → List X → List X
 put_in key x [] = x ∷ []
 put_in key x (y ∷ ys) = if nat_lt (key y) (key x) then y ∷ put_in key x ys else x ∷ y ∷ ys
 
--- elements in the order of their keys; those of one key stay in their order
+-- elements sorted by their keys; elements with the same key stay in their order
 abbrev pub by_key : {X : Type 0} → (X → ℕ) → List X → List X
 by_key key [] = []
 by_key key (x ∷ xs) = put_in key x (by_key key xs)
@@ -63,12 +63,12 @@ region_line maus sections k region =
     ++ (counted (codes " size ") region.size ++ (counted (codes " used ") used ++ (counted (codes " free ") (region.size - used)
     ++ (codes " " ++ bar region sections)))))))))
 
--- what a section or a common is, after its number
+-- the description of a section or a common, from its number on
 abbrev pub placed_text : ℕ → MappedSection → Text
 placed_text maus s = counted [] s.number ++ (codes " " ++ (hex maus s.base ++ (counted (codes " size ") s.size
     ++ (counted (codes " align ") s.align ++ (codes " " ++ quoted s.name)))))
 
--- a section has a module, and a common has none
+-- the word for an entry: a section has a module, a common has none
 abbrev pub kind_word : Option ℕ → Text
 kind_word (Some j) = codes "section "
 kind_word None = codes "common "
@@ -89,7 +89,7 @@ total_line m = line (counted (codes "sections ") (length m.sections)
 
 -- ---- the whole
 
--- modules and regions in their order, sections and commons by base and then by number, publics by value and then by position
+-- the text of a map: modules and regions in their order, sections and commons by base and then by number, publics by value and then by position
 abbrev pub map_text : Mapped → Text
 map_text m =
     each module_line m.origins

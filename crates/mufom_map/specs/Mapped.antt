@@ -1,4 +1,4 @@
--- What a map shows of a located list of modules.
+-- The contents of the map of a located list of modules.
 use Rattle.std.specs.Prelude.{ℕ, List, ◌++◌, length, map, Option, option_map, position, sum_by}
 use Rattle.std.specs.List.{enumerate_from}
 use Rattle.mufom_sections.specs.declared.section.Section.{Section}
@@ -14,7 +14,7 @@ use Rattle.mufom_origins.specs.declared.origins.Place.{Place}
 use Rattle.mufom_origins.specs.Origins.{FileModule, modules_of, origins_of}
 use Rattle.mufom_origins.specs.Places.{place_in}
 
--- a section or a common: its number, what it is, where it is, and the position of its module, which a common lacks
+-- a section or a common: its number, its properties, its address and region, and the position of its module, which a common does not have
 pub record MappedSection : Type 0 where
   pub number : ℕ
   pub name : List ℕ
@@ -30,8 +30,8 @@ pub record MappedPublic : Type 0 where
   pub value : ℕ
   pub origin : Option ℕ
 
--- what a map shows: the modules, the regions, the sections and after them the commons by their numbers, the publics by their
--- positions, the start with the position of its module, and the number of loaded bytes
+-- the contents of a map: the modules, the regions, the sections followed by the commons, by their numbers, the publics by their positions, the start
+-- with the position of its module, and the number of loaded bytes
 pub record Mapped : Type 0 where
   pub maus : ℕ
   pub origins : List Origin
@@ -41,11 +41,11 @@ pub record Mapped : Type 0 where
   pub start : Option (ℕ × Option ℕ)
   pub loaded : ℕ
 
--- the module of the entry with a number, if the modules have these numbers of entries
+-- the module of the entry with a number, given the numbers of entries of the modules
 abbrev pub module_in : List ℕ → ℕ → Option ℕ
 module_in counts number = option_map (λ (p : Place). p.«module») (place_in counts number)
 
--- a section or a common with its number, of a list of sections and commons that a plan places
+-- a section or a common with its number; `sections` and `commons` are those that the plan places
 abbrev pub mapped_section : List Origin → Plan → (sections commons : List Section) → ℕ × Section → MappedSection
 mapped_section origins plan sections commons s = let site = site_of plan sections commons s in record {
   number = s.0;
@@ -60,7 +60,7 @@ mapped_section origins plan sections commons s = let site = site_of plan section
 abbrev pub mapped_public : List Origin → ℕ × PublicValue → MappedPublic
 mapped_public origins p = record { name = p.1.name; value = p.1.value; origin = module_in (map (λ (o : Origin). o.publics) origins) p.0 }
 
--- what a map shows of sections and commons that a plan places, whose location this is, and which come from modules with these origins
+-- the contents of the map of this location, by the plan that places these sections and commons, whose modules have these origins
 abbrev pub mapped_by : List Origin → Plan → (sections commons : List Section) → LocatedParts → Mapped
 mapped_by origins plan sections commons r = record {
   maus = r.maus;
@@ -72,6 +72,6 @@ mapped_by origins plan sections commons r = record {
   loaded = sum_by (λ run. length run.bytes) r.runs;
 }
 
--- what the map of a flat list shows, whose location by the plan this is
+-- the contents of the map of a flat list at this location by the plan
 abbrev pub mapped : List FileModule → Plan → LocatedParts → Mapped
 mapped files plan r = let ms = modules_of files in mapped_by (origins_of files) plan (flat_sections ms) (placed_commons ms plan) r

@@ -1,4 +1,4 @@
--- What a map shows of located sections, as the code has it: each section has its base, and its region and module are found beside it.
+-- The contents of the map of located sections, as the code has them: each section has its base, and its region and module are looked up.
 use Rattle.std.specs.Prelude.{ℕ, ◌+◌, List, map, false, Option, None, unwrap_or, slice_index_or}
 use Rattle.std.specs.List.{enumerate_from}
 use Rattle.mufom_sections.specs.declared.section.Section.{Section}
@@ -23,7 +23,7 @@ section_extent s = record { base = base_of s.1; section = s.0; size = s.1.size }
 abbrev pub section_extents : List Section → List Extent
 section_extents sections = map section_extent (enumerate_from 0 sections)
 
--- a located section with its number, if these are the regions of all sections
+-- a located section with its number, given the regions of all sections
 abbrev pub shown_section : List Origin → List (Option ℕ) → ℕ × Section → MappedSection
 shown_section origins regions s = record {
   number = s.0;
@@ -35,6 +35,6 @@ shown_section origins regions s = record {
   origin = module_in (map (λ (o : Origin). o.sections) origins) s.0;
 }
 
--- all of them, by their numbers
+-- all sections, with their numbers
 abbrev pub shown_sections : List Origin → List (Option ℕ) → List Section → List MappedSection
 shown_sections origins regions sections = map (shown_section origins regions) (enumerate_from 0 sections)

@@ -1,4 +1,4 @@
--- What is shown of a map, as the code holds it.
+-- The contents of a map, as the code holds it.
 use Rattle.std.specs.Prelude.{ℕ, length, map, option_map, position, sum_by}
 use Rattle.std.specs.List.{enumerate_from}
 use Rattle.mufom_origins.specs.declared.origins.Origin.{Origin}

@@ -1,10 +1,10 @@
-//! The map of a located program: which modules it is made of, how full each region is, and what is at
-//! which address.
+//! The map of a located program: the modules of which it consists, the used part of each region, and the
+//! sections and symbols at each address.
 //!
 //! It uses `mufom_plan`, `mufom_place`, `mufom_meaning` and `mufom_located` for the addresses,
-//! `mufom_origins` for the modules that entries come from, and `mufom_text` for the words of texts
-//! and for printing. Its main clause is that of [`print_map`]: the output grows by exactly the text of
-//! the map, or a print failed, the count of failed prints rose, and the output grew by a prefix of that text.
+//! `mufom_origins` for the modules from which entries come, and `mufom_text` for numbers and names in text
+//! and for printing. Its main clause is that of [`print_map`]: the output grows by exactly the text of the
+//! map; or a print failed, the count of failed prints rose, and the output grew by a prefix of that text.
 #![tactic(auto)]
 
 mod laws;

@@ -35,7 +35,7 @@ pub(crate) fn module_lines<K: Output>(out: &mut K, origins: &[Origin])
     }
 }
 
-// The position of a module, after the word.
+// The position of a module, after the word `module`.
 fn in_module<K: Output>(out: &mut K, origin: Option<usize>)
     ensures { K.takes out.old out.new (in_module origin) }
 {
@@ -47,7 +47,7 @@ fn in_module<K: Output>(out: &mut K, origin: Option<usize>)
 
 // ---- sections
 
-// The position of a region, after the word.
+// The position of a region, after the word `region`.
 fn in_region<K: Output>(out: &mut K, region: Option<u32>)
     ensures { K.takes out.old out.new (in_region region) }
 {
@@ -57,7 +57,7 @@ fn in_region<K: Output>(out: &mut K, region: Option<u32>)
     }
 }
 
-// A section has a module, and a common has none.
+// The word for an entry: a section has a module, a common has none.
 fn kind_word(origin: Option<usize>) -> &'static [u8]
     ensures { result.now ≡ kind_word origin }
 {

@@ -1,4 +1,4 @@
-//! Making a map of a location.
+//! Makes the map of a location.
 
 ghost use Rattle.std.specs.Prelude.{◌≡◌, ◌<◌, ◌^◌, ◌∷◌, ◌++◌, [], IfOk, length, map};
 ghost use Rattle.mufom_module.specs.Defects.{IsValid};
@@ -69,8 +69,8 @@ fn regions_of(
     section_regions(alloc, own, &commons, plan)
 }
 
-/// The map of the location of a module by a plan. Takes memory in proportion to the number of sections and
-/// publics.
+/// Returns the map of the location of a module by a plan. Memory is in proportion to the number of sections
+/// and publics.
 pub(crate) fn map_of<'a>(
     alloc: Global,
     origins: &'a Origins,

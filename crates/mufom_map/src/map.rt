@@ -1,4 +1,4 @@
-//! A map, with all that its lines are made from.
+//! A map, with everything from which its lines are made.
 
 ghost use Rattle.std.specs.Prelude.{◌≡◌, ◌<◌, ◌^◌, length, map};
 ghost use Rattle.std.specs.List.{enumerate_from};
@@ -11,8 +11,8 @@ use mufom_meaning::{PublicValue, Run};
 use mufom_origins::Origins;
 use mufom_plan::Region;
 
-/// A map of a location: the located sections with their room and their regions, the publics and the
-/// loaded rows, and the order of sections and publics.
+/// A map of a location: the located sections with the space that they use and their regions, the publics, the
+/// loaded runs, and the order of sections and publics.
 #[derive(Drop)]
 pub(crate) struct Map<'a> {
     pub(crate) maus: u8,

@@ -1,4 +1,4 @@
-//! Sections and publics in the order in which a map shows them.
+//! The order in which a map shows sections and publics.
 
 ghost use Rattle.std.specs.Prelude.{◌≡◌, ◌<◌, ◌^◌, ℕ, IfOk, length, map};
 ghost use Rattle.std.specs.List.{enumerate_from};
@@ -11,7 +11,7 @@ use mufom_numbers::NoMemory;
 use mufom_sections::Section;
 use std::alloc::Global;
 
-// Keys with positions that rise, in the order of the keys; those of one key stay in their order.
+// Sorts keys whose positions are increasing. Keys with the same number stay in their order.
 fn in_order(mut keys: Vec<(u64, u32)>) -> Result<Vec<(u64, u32)>, NoMemory>
     requires { ArePositions 0 keys.items }
     ensures { IfOk result (λ sorted. sorted.items ≡ by_key key_of keys.items) }
@@ -44,7 +44,7 @@ fn public_keys(alloc: Global, publics: &[PublicValue]) -> Result<Vec<(u64, u32)>
     Ok(keys)
 }
 
-/// The bases and the numbers of sections, in the order of their bases; those at one base by their numbers.
+/// Returns the bases and numbers of sections, sorted by base and then by number.
 pub(crate) fn sections_in_order(
     alloc: Global,
     sections: &[Section],
@@ -55,8 +55,7 @@ pub(crate) fn sections_in_order(
     in_order(section_keys(alloc, sections)?)
 }
 
-/// The values and the positions of publics, in the order of their values; those of one value by their
-/// positions.
+/// Returns the values and positions of publics, sorted by value and then by position.
 pub(crate) fn publics_in_order(
     alloc: Global,
     publics: &[PublicValue],

@@ -1,4 +1,4 @@
-//! Points of the address space in order, and how far addresses are above them.
+//! Sorted points of the address space, and the distances of addresses above them.
 
 ghost use Rattle.std.specs.Prelude.{◌≡◌, ◌≤◌, ◌<◌, ◌^◌, ℕ, IfOk, All, length, sum_by, slice_index, nat_lt};
 ghost use Rattle.std.specs.List.Sorted.{IsNonDecreasing};
@@ -7,7 +7,7 @@ ghost use Rattle.mufom_map.specs.Points.{AreSums, above, most_point};
 use mufom_numbers::NoMemory;
 use std::alloc::Global;
 
-/// Points in order, with the sums of the first ones of them.
+/// Sorted points, with the sums of the first i of them.
 #[derive(Drop)]
 pub(crate) struct Points {
     points: Vec<u128>,
@@ -18,7 +18,7 @@ pub(crate) struct Points {
     ghost sums_are: { AreSums points.items sums.items },
 }
 
-// The sums of the first points, of none and so on to all.
+// The sums of the first i points, for each i from 0 to the number of points.
 fn sums_of(alloc: Global, points: &[u128]) -> Result<Vec<u128>, NoMemory>
     requires low { All (λ p. p ≤ most_point) points.now }
     requires few { length points.now < 2 ^ 32 }
@@ -34,7 +34,7 @@ fn sums_of(alloc: Global, points: &[u128]) -> Result<Vec<u128>, NoMemory>
     Ok(sums)
 }
 
-/// The points in order, with their sums.
+/// Sorts the points, and adds them up.
 pub(crate) fn points_of(alloc: Global, mut points: Vec<u128>) -> Result<Points, NoMemory>
     requires low { All (λ p. p ≤ most_point) points.items }
     requires few { length points.items < 2 ^ 32 }
@@ -45,7 +45,7 @@ pub(crate) fn points_of(alloc: Global, mut points: Vec<u128>) -> Result<Points, 
     Ok(Points { points, sums })
 }
 
-// How many points are below an address.
+// The number of points below an address.
 fn count_below(points: &[u128], address: u128) -> usize
     requires { IsNonDecreasing points.now }
     ensures within { result ≤ length points.now }
@@ -60,8 +60,8 @@ fn count_below(points: &[u128], address: u128) -> usize
 }
 
 impl Points {
-    /// The sum of how far an address is above each of the points. Takes time that grows with the
-    /// logarithm of their number.
+    /// Returns the sum of the address's distances above the points; a point that is not below it counts 0.
+    /// The time grows with the logarithm of the number of points.
     pub(crate) fn sum_above(&self, address: u128) -> u128
         requires { address ≤ most_point }
         ensures value { result ≡ sum_by (above address) self.now.points.items }

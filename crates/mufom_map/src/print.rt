@@ -47,7 +47,7 @@ fn region_at(regions: &[Option<u32>], number: u32) -> Option<u32>
     }
 }
 
-// The sizes of all sections together.
+// The total size of all sections.
 fn total_size(sections: &[Section]) -> u128
     ensures { result ≡ sum_by (λ s. s.size) sections.now }
 {
@@ -121,13 +121,13 @@ impl<'a> Lines for Map<'a> {
     }
 }
 
-/// Prints the map of the location of a module by a plan, in chunks of about 65,536 bytes and a
-/// shorter last one. The module is the link of those that the origins list, or what is kept of it.
+/// Prints the map of the location of a module by a plan, in chunks of about 65,536 bytes, the last of which
+/// may be shorter. The module is the link of those that the origins list, or what is kept of it.
 ///
 /// No section name occurs twice in the plan, and it has fewer than 2^32 regions, as
-/// [`read_plan`](mufom_plan::read_plan) gives it. `NoMemory` is returned before anything is printed. `Fault`
-/// is returned only if a print failed and the count of failed prints rose; a prefix of the text may then be
-/// printed. Takes time that grows as `n log n` with the number of sections, publics and regions.
+/// [`read_plan`](mufom_plan::read_plan) returns it. `NoMemory` is returned before anything is printed.
+/// `Fault` is returned only if a print failed and the count of failed prints rose; a prefix of the text may
+/// then be printed. The time grows as `n log n` with the number of sections, publics and regions.
 pub fn print_map<H: Host>(
     alloc: Global,
     host: &mut H,

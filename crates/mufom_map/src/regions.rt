@@ -16,7 +16,7 @@ use mufom_text::{Output, quoted};
 // The number of cells of a bar.
 const CELLS: u32 = 32;
 
-// The first address of a cell; that of the cell after the last is the end of the region.
+// The first address of a cell; for the cell after the last, the end of the region.
 fn cell_start(region: &Region, cell: u32) -> u128
     requires { cell ≤ cell_count }
     ensures value { result ≡ cell_start region.now cell }

@@ -1,4 +1,4 @@
-//! How much of the address space is used by sections.
+//! The space of the address space that sections use.
 
 ghost use Rattle.std.specs.Prelude.{◌≡◌, ◌≤◌, ◌<◌, ◌^◌, ℕ, IfOk, All, length, map, sum_by};
 ghost use Rattle.mufom_map.specs.Room.{used_between};
@@ -10,7 +10,7 @@ use mufom_numbers::NoMemory;
 use mufom_sections::Section;
 use std::alloc::Global;
 
-/// Located sections, and the points where they start and end, which tell how much room they use.
+/// Located sections, with the points at which they start and end, from which the used space is computed.
 #[derive(Drop)]
 pub(crate) struct Room<'a> {
     pub(crate) sections: &'a [Section],
@@ -27,7 +27,7 @@ pub(crate) fn base_of(section: &Section) -> u64
     section.base.unwrap_or(0)
 }
 
-// Where sections start.
+// The points at which sections start.
 fn starts_of(alloc: Global, sections: &[Section]) -> Result<Vec<u128>, NoMemory>
     ensures are { IfOk result (λ points. points.items ≡ map base_of sections.now) }
     ensures low { IfOk result (λ points. All (λ p. p ≤ most_point) points.items) }
@@ -39,7 +39,7 @@ fn starts_of(alloc: Global, sections: &[Section]) -> Result<Vec<u128>, NoMemory>
     Ok(points)
 }
 
-// Where sections end.
+// The points at which sections end.
 fn ends_of(alloc: Global, sections: &[Section]) -> Result<Vec<u128>, NoMemory>
     ensures are { IfOk result (λ points. points.items ≡ map end_of sections.now) }
     ensures low { IfOk result (λ points. All (λ p. p ≤ most_point) points.items) }
@@ -52,8 +52,8 @@ fn ends_of(alloc: Global, sections: &[Section]) -> Result<Vec<u128>, NoMemory>
 }
 
 impl<'a> Room<'a> {
-    /// The room that these sections use, each at its base. Takes time that grows as `n log n` with the
-    /// number of sections, and memory in proportion to it.
+    /// Prepares the sections, each at its base, for `used`. The time grows as `n log n` with the number of
+    /// sections, and memory in proportion to it.
     pub(crate) fn of(alloc: Global, sections: &'a [Section]) -> Result<Room<'a>, NoMemory>
         requires { length sections.now < 2 ^ 32 }
         ensures { IfOk result (λ room. room.sections.now ≡ sections.now) }
@@ -67,8 +67,8 @@ impl<'a> Room<'a> {
         })
     }
 
-    /// How many addresses from one up to, and not including, another lie in a section. The time
-    /// grows with the logarithm of the number of sections.
+    /// Returns the number of addresses, from `from` up to but not including `to`, that lie in a section. The
+    /// time grows with the logarithm of the number of sections.
     pub(crate) fn used(&self, from: u128, to: u128) -> u128
         requires order { from ≤ to }
         requires bound { to ≤ most_point }

@@ -61,7 +61,7 @@ fn digits_of(at: u64) -> [u8; 16]
     ]
 }
 
-// Digits without leading zeros, of which at most this many are left out.
+// The digits without leading zeros, of which at most `most` are left out.
 fn without_zeros(digits: &[u8], most: usize) -> &[u8]
     ensures { result.now ≡ without_zeros most digits.now }
 {
@@ -80,7 +80,7 @@ fn without_zeros(digits: &[u8], most: usize) -> &[u8]
     rest
 }
 
-/// An address: two digits for each of `maus` units, and more if it is longer.
+/// Puts an address: two digits for each of `maus` units, and more if the number needs them.
 pub fn hex<K: Output>(out: &mut K, maus: u8, at: u64)
     requires { IsUnitCount maus }
     ensures { K.takes out.old out.new (hex maus at) }

@@ -1,4 +1,4 @@
--- The module that a location is written as (IEEE Std 695, an absolute object module).
+-- The absolute module of a location, as which it is written (IEEE Std 695, an absolute object module).
 use Rattle.std.specs.Prelude.{ℕ, zero, suc, ◌+◌, ◌-◌, max, List, [], ◌∷◌, length, map, take, drop, flat_map, Option, Some, None, option_map}
 use Rattle.std.specs.List.{enumerate_from}
 use Rattle.mufom_expr.specs.Tree.{number}
@@ -13,29 +13,29 @@ use Rattle.mufom_meaning.specs.declared.located.PublicValue.{PublicValue}
 use Rattle.mufom_meaning.specs.declared.located.Run.{Run}
 use Rattle.mufom_meaning.specs.declared.located.LocatedParts.{LocatedParts}
 
--- the greatest number of bytes of a literal
+-- the greatest length of a literal, in bytes
 abbrev pub literal_limit : ℕ
 literal_limit = 65535
 
--- a list in chunks of a length, the last one shorter if needed, if there are at most `n` chunks
+-- the first `n` chunks of a list that is cut into chunks of `size` elements, of which the last may be shorter
 abbrev pub chunks_within : {X : Type 0} → ℕ → ℕ → List X → List (List X)
 chunks_within zero size xs = []
 chunks_within (suc n) size [] = []
 chunks_within (suc n) size (x ∷ xs) = take size (x ∷ xs) ∷ chunks_within n size (drop size (x ∷ xs))
 
--- a list in chunks of a length, which is not 0, the last one shorter if needed
+-- a list cut into chunks of `size` elements (not 0), of which the last may be shorter
 abbrev pub chunks : {X : Type 0} → ℕ → List X → List (List X)
 chunks size xs = chunks_within (length xs) size xs
 
--- the part of a run that lies from one address up to another
+-- the part of a run from address `from` up to, but not including, address `to`
 abbrev pub run_within : ℕ → ℕ → Run → Run
 run_within from to run = record { address = max from run.address; bytes = drop (from - run.address) (take (to - run.address) run.bytes) }
 
--- what loads a row of bytes: the counter is set to a number, and literals follow
+-- the loads of a run: the program counter is set to the address of the run, and literals follow
 abbrev pub row_loads : ℕ → Run → List Load
 row_loads section row = SetPc section (number row.address) ∷ map (λ chunk. One (Literal chunk)) (chunks literal_limit row.bytes)
 
--- the same, and nothing for a row without bytes
+-- the same loads, or none for a run without bytes
 abbrev pub loads_of_bytes : ℕ → Run → List ℕ → List Load
 loads_of_bytes section row [] = []
 loads_of_bytes section row (byte ∷ bytes) = row_loads section row
@@ -44,7 +44,7 @@ loads_of_bytes section row (byte ∷ bytes) = row_loads section row
 abbrev pub loads_between : ℕ → List Run → ℕ → ℕ → List Load
 loads_between section runs from to = flat_map (λ run. let row = run_within from to run in loads_of_bytes section row row.bytes) runs
 
--- the section is made the current one if something is loaded
+-- the loads, preceded by one that makes the section the current one if there are any
 abbrev pub with_section : ℕ → List Load → List Load
 with_section section [] = []
 with_section section (load ∷ loads) = SetSection section ∷ load ∷ loads
@@ -54,8 +54,8 @@ abbrev pub section_loads_at : ℕ → List Run → Section → Option ℕ → Li
 section_loads_at n runs section None = []
 section_loads_at n runs section (Some base) = with_section n (loads_between n runs base (base + section.size))
 
--- The loads of a section, by its position: for each row of loaded addresses inside it, as long as possible, its counter is set and
--- literals follow.
+-- The loads of a section, which is given with its position: for each run, or part of a run, inside the section, the program
+-- counter of the section is set, and literals follow.
 abbrev pub section_loads : List Run → ℕ × Section → List Load
 section_loads runs s = section_loads_at s.0 runs s.1 s.1.base
 
@@ -63,8 +63,8 @@ section_loads runs s = section_loads_at s.0 runs s.1 s.1.base
 abbrev pub absolute_public : PublicValue → Public
 absolute_public p = record { name = p.name; value = number p.value; notes = p.notes }
 
--- The module that a location is written as. It has no extension, no environment and no references, and each of its expressions is
--- one number.
+-- The absolute module of a location. It has no extension, no environment and no references, and each of its expressions is one
+-- number.
 abbrev pub absolute_of : LocatedParts → Parts
 absolute_of r = record {
   processor = r.processor;

@@ -1,4 +1,4 @@
--- The address map of a list of modules: the loaded bytes by their addresses, and the rows that they make.
+-- The address map of a list of modules: the loaded bytes by their addresses, and the runs that they form.
 use Rattle.std.specs.Prelude.{ℕ, suc, ◌+◌, ◌<◌, ◌≤◌, ◌↔◌, List, [], ◌∷◌, length, flat_map, Option, Some, None, Contains}
 use Rattle.mufom_expr.specs.declared.token.FieldKind.{FieldKind}
 use Rattle.mufom_module.specs.declared.module.Order.{Order}
@@ -10,17 +10,17 @@ use Rattle.mufom_meaning.specs.Fields.{field_bytes}
 abbrev pub Cell : Type 0
 Cell = ℕ × ℕ
 
--- bytes at neighbouring addresses, from this one on
+-- the cells of bytes at consecutive addresses, from this one on
 abbrev pub cells_from : ℕ → List ℕ → List Cell
 cells_from a [] = []
 cells_from a (byte ∷ bytes) = (a, byte) ∷ cells_from (suc a) bytes
 
--- the cells that a literal fills, if its counter has a value
+-- the cells that a literal fills; none if its program counter has no value
 abbrev pub literal_cells : Option ℕ → List ℕ → List Cell
 literal_cells None bytes = []
 literal_cells (Some at) bytes = cells_from at bytes
 
--- the cells of a field
+-- the cells that a field fills; none if its program counter or its expression has no value
 abbrev pub field_cells : Order → ℕ → Option ℕ → FieldKind → ℕ → Option ℕ → List Cell
 field_cells order modulus None kind size v = []
 field_cells order modulus (Some at) kind size None = []
@@ -40,13 +40,13 @@ address_map order modulus steps = flat_map (step_cells order modulus) steps
 abbrev pub run_cells : List Run → List Cell
 run_cells runs = flat_map (λ run. cells_from run.address run.bytes) runs
 
--- Each run has a byte, and between the end of one and the next lies at least one address that is in none: so each run is
--- a maximal row, and they go by address.
+-- No run is empty, the runs are in the order of their addresses, and between two runs there is at least one address without
+-- a byte. So each run is as long as possible.
 abbrev pub AreApart : ℕ → List Run → Type 0
 AreApart from [] = Unit {0}
 AreApart from (run ∷ runs) = (from ≤ run.address) × (0 < length run.bytes) × AreApart (run.address + length run.bytes + 1) runs
 
--- the runs are the maximal rows of the address map
+-- the runs have exactly the cells of the address map, and each is as long as possible
 pub record AreRowsOf (cells : List Cell) (runs : List Run) : Type 0 where
   pub apart : AreApart 0 runs
   pub same : (cell : Cell) → Contains cells cell ↔ Contains (run_cells runs) cell

@@ -1,7 +1,7 @@
 -- The bases of the sections and commons of a list of modules.
 use Rattle.std.specs.Prelude.{ℕ, List, [], Option, None}
 
--- A number for each section, by its flat number, and a number for some names besides: those of the commons that have room.
+-- The base of each section, by its flat number, and the base of each common that is placed, by its name.
 pub record Bases : Type 0 where
   pub sections : List ℕ
   pub commons : List ℕ → Option ℕ

@@ -1,5 +1,5 @@
--- What callers need: that a module without a defect may be placed, at which positions the bases are, and that a slice of such modules is
--- a list of them.
+-- Laws that callers need: a module without a defect may be placed, the bases are found by position, and two ways to state that all
+-- modules of a list are without a defect agree.
 use Rattle.std.specs.Prelude.{◌≡◌, ◌<◌, ◌≤◌, ◌^◌, false, ◌↔◌, List, [], ◌∷◌, length, All, ℕ, ◌+◌, Some, None, slice_get, true}
 use Rattle.std.specs.Str.{bytes_eq}
 use Rattle.mufom_module.specs.declared.module.Parts.{Parts}
@@ -11,8 +11,8 @@ use Rattle.mufom_meaning.specs.Flat.{distinct, flat_sections, common_names, widt
 use Rattle.mufom_meaning.specs.Placed.{placed_commons, extended_sections, base_list, planned_bases}
 use Rattle.mufom_meaning.specs.Staging.{AreValid}
 
--- What placing asks of the sections of a list with the commons after them, which are the last of them by their count, and of the width
--- of addresses.
+-- The preconditions of placing, for the width of addresses and for the list of all sections, the last of which are the commons that
+-- the plan places.
 pub record MayBePlaced (ms : List Parts) (plan : Plan) : Type 0 where
   pub addresses : IsAddressWidth (width ms)
   pub alignments : All IsAligned (extended_sections ms plan)
@@ -23,7 +23,7 @@ pub record MayBePlaced (ms : List Parts) (plan : Plan) : Type 0 where
   pub last : last_sections (length (placed_commons ms plan)) (extended_sections ms plan) ≡ placed_commons ms plan
   pub without_base : All HasNoBase (last_sections (length (placed_commons ms plan)) (extended_sections ms plan))
 
--- A module without a defect may be placed by each plan.
+-- A module without a defect satisfies these preconditions for every plan.
 abbrev pub ModulesMayBePlaced : Type 0
 ModulesMayBePlaced = (m : Parts) (plan : Plan) → IsValid m → MayBePlaced (m ∷ []) plan
 
@@ -35,10 +35,10 @@ pub record AreByPosition (ms : List Parts) (plan : Plan) : Type 0 where
       → (planned_bases ms plan).commons name ≡ slice_get (base_list ms plan) (length (flat_sections ms) + n)
   pub of_no_common : has_common plan.regions ≡ false → (name : List ℕ) → (planned_bases ms plan).commons name ≡ None
 
--- This holds of all lists and plans.
+-- This holds for all lists and plans.
 abbrev pub BasesByPosition : Type 0
 BasesByPosition = (ms : List Parts) (plan : Plan) → AreByPosition ms plan
 
--- Each module of a list is without a defect if each element of the list is.
+-- Each element of a list is without a defect if and only if all modules of the list are.
 abbrev pub AreValidIsAll : Type 0
 AreValidIsAll = (ms : List Parts) → All IsValid ms ↔ AreValid ms

@@ -4,7 +4,7 @@ use Rattle.mufom_loads.specs.Lengths.{byte_count, lengths_loaded}
 use Rattle.mufom_module.specs.declared.module.Parts.{Parts}
 use Rattle.mufom_meaning.specs.Steps.{Step, counter_step, item_step}
 
--- the number of bytes that all loads load, a repeat by its product
+-- the number of bytes that all loads put into sections; for a repeat it is a product
 abbrev pub loaded_total : List Parts → ℕ
 loaded_total ms = sum_by (λ m. lengths_loaded m.loads) ms
 

@@ -20,7 +20,7 @@ pub data LinkFact : Type 0 where
   duplicate : (name : List ℕ) → LinkFact
   duplicate_start : LinkFact
 
--- What keeps modules from being located: sections cannot be placed, a name is undefined or asks for room, public names form
+-- What keeps modules from being located: sections cannot be placed, a name is undefined, no region takes a common, public names form
 -- a cycle, too many bytes are loaded, a divisor is 0, or a byte lies outside its section, on another or in too small a field.
 pub data LocateFact : Type 0 where
   placement : (refusal : PlaceRefusal) → LocateFact

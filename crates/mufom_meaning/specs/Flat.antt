@@ -19,7 +19,7 @@ pub record Sited : Type 0 where
   pub first_public : ℕ
   pub first_name : ℕ
 
--- how many debug names the records declare
+-- the number of debug names that the records declare
 abbrev pub name_count : List DebugMark → ℕ
 name_count [] = 0
 name_count (block_begin head name ∷ marks) = name_count marks
@@ -81,7 +81,7 @@ distinct same (x ∷ xs) = x ∷ filter (λ y. not (same x y)) (distinct same xs
 abbrev pub is_strong : Reference → Bool
 is_strong reference = is_none reference.weak
 
--- the size of a weak reference, and 0 of a strong one
+-- the size of a weak reference, or 0 for a strong one
 abbrev pub common_size : Option Weak → ℕ
 common_size None = 0
 common_size (Some weak) = weak.size
@@ -94,7 +94,7 @@ unresolved_references ms = filter (λ reference. not (has_name (public_names ms)
 abbrev pub needs : List Parts → List (List ℕ)
 needs ms = distinct bytes_eq (map (λ reference. reference.name) (filter is_strong (unresolved_references ms)))
 
--- a weak reference whose size is not 0 asks for room
+-- a weak reference whose size is not 0, which is a common if no public has its name
 abbrev pub is_common : Reference → Bool
 is_common reference = not (common_size reference.weak == 0)
 
@@ -102,7 +102,7 @@ is_common reference = not (common_size reference.weak == 0)
 abbrev pub same_common : List ℕ × ℕ → List ℕ × ℕ → Bool
 same_common c d = bytes_eq c.0 d.0 && (c.1 == d.1)
 
--- the names and sizes that weak references ask room for and no public has, each pair once
+-- the commons as pairs of name and size, each pair once: weak references whose size is not 0 and whose names no public has
 abbrev pub commons : List Parts → List (List ℕ × ℕ)
 commons ms = distinct same_common (map (λ reference. (reference.name, common_size reference.weak)) (filter is_common (unresolved_references ms)))
 
@@ -110,7 +110,7 @@ commons ms = distinct same_common (map (λ reference. (reference.name, common_si
 abbrev pub common_names : List Parts → List (List ℕ)
 common_names ms = map (λ common. common.0) (commons ms)
 
--- the width of an address in bits, by the first module of the list
+-- the width of an address in bits, which the first module of the list states
 abbrev pub width : List Parts → ℕ
 width [] = 0
 width (m ∷ ms) = 8 * m.maus

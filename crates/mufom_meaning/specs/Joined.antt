@@ -1,4 +1,4 @@
--- A partial link: one module in the place of a list of modules.
+-- A partial link: one module that replaces a list of modules.
 use Rattle.std.specs.Prelude.{◌≡◌, ℕ, suc, ◌+◌, ◌==◌, List, [], ◌∷◌, map, length, flat_map, Option, Some, None, option_map, option_to_list, slice_get}
 use Rattle.std.specs.Prelude.{Bool, true, false, ◌&&◌, if◌then◌else◌}
 use Rattle.std.specs.Str.{bytes_eq}
@@ -37,7 +37,7 @@ same_note m n = (m.type_index == n.type_index) && (m.attribute == n.attribute) &
 abbrev pub same_reference : Reference → Reference → Bool
 same_reference r q = bytes_eq r.name q.name && same_weak r.weak q.weak && pointwise same_note r.notes q.notes
 
--- what is left of the references: those whose names no public of the list has, each once
+-- the references that are kept: those whose names no public of the list has, each once
 abbrev pub kept_references : List Parts → List Reference
 kept_references ms = distinct same_reference (unresolved_references ms)
 
@@ -46,8 +46,8 @@ abbrev pub position_of : {A : Type 0} → (A → Bool) → List A → ℕ
 position_of test [] = 0
 position_of test (x ∷ xs) = if test x then 0 else suc (position_of test xs)
 
--- A reference to a public of the list becomes that public, and any other the same reference among those kept. A position
--- past the end of the references, which no valid module names, becomes one past their end.
+-- A reference to a public of the list becomes that public, and any other becomes the same reference among those kept. A
+-- position past the end of the references, which no valid module names, becomes one past the end of those kept.
 abbrev pub joined_reference : List Parts → Option Reference → Letter × ℕ
 joined_reference ms None = (letters.X, length (kept_references ms))
 joined_reference ms (Some r) =
@@ -67,23 +67,23 @@ joined_variable ms site letters.X n = joined_reference ms (slice_get site.parts.
 abbrev pub joined_tree : List Parts → Sited → Tree → Tree
 joined_tree ms site t = with_variables (joined_variable ms site) t
 
--- a public of a module of the list, as the link has it
+-- a public of a module of the list, as it is in the partial link
 abbrev pub joined_public : List Parts → Sited → Public → Public
 joined_public ms site entry = record { name = entry.name; value = joined_tree ms site entry.value; notes = entry.notes }
 
--- the same of an item
+-- the same for an item
 abbrev pub joined_item : List Parts → Sited → Item → Item
 joined_item ms site (Literal bytes) = Literal bytes
 joined_item ms site (Field kind size t) = Field kind size (joined_tree ms site t)
 
--- the same of a load, whose section is given by its flat number
+-- the same for a load, whose section is given by its flat number
 abbrev pub joined_load : List Parts → Sited → Load → Load
 joined_load ms site (SetSection section) = SetSection (site.first_section + section)
 joined_load ms site (SetPc section t) = SetPc (site.first_section + section) (joined_tree ms site t)
 joined_load ms site (One item) = One (joined_item ms site item)
 joined_load ms site (Repeat count items) = Repeat count (map (joined_item ms site) items)
 
--- the same of the head of a debug block
+-- the same for the head of a debug block
 abbrev pub joined_head : List Parts → Sited → BlockHead → BlockHead
 joined_head ms site heads.Module = heads.Module
 joined_head ms site (heads.Global stack type_index offset) = heads.Global stack type_index (joined_tree ms site offset)
@@ -92,7 +92,7 @@ joined_head ms site (heads.Source numbers) = heads.Source numbers
 joined_head ms site (heads.Section section_type section offset) =
     heads.Section section_type (site.first_section + section) (joined_tree ms site offset)
 
--- the same of a debug record, whose debug name is given by its flat number
+-- the same for a debug record, whose debug name is given by its flat number
 abbrev pub joined_mark : List Parts → Sited → DebugMark → DebugMark
 joined_mark ms site (block_begin head name) = block_begin (joined_head ms site head) name
 joined_mark ms site (block_end end) = block_end (option_map (joined_tree ms site) end)

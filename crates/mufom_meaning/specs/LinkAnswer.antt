@@ -1,4 +1,4 @@
--- What linking a list of modules returns in place of a module.
+-- The fact that linking a list of modules returns in place of a module.
 use Rattle.std.specs.Prelude.{ℕ, ◌==◌, List, [], ◌∷◌, find, Option, Some, None, option_map, Bool, true, false, not, ◌&&◌, if◌then◌else◌}
 use Rattle.mufom_expr.specs.Tree.{Tree}
 use Rattle.mufom_module.specs.declared.module.Order.{Order}
@@ -25,7 +25,7 @@ abbrev pub first_mismatch : List Parts → Option LinkFact
 first_mismatch [] = None
 first_mismatch (m ∷ ms) = option_map (λ other. mismatch (descriptor m) (descriptor other)) (find (λ other. not (same_descriptor m other)) ms)
 
--- the first name that occurs earlier too
+-- the first name that also occurs earlier
 abbrev pub first_duplicate : List (List ℕ) → List (List ℕ) → Option (List ℕ)
 first_duplicate earlier [] = None
 first_duplicate earlier (name ∷ names) = if has_name earlier name then Some name else first_duplicate (name ∷ earlier) names
@@ -36,6 +36,6 @@ two_starts (first ∷ second ∷ more) = Some duplicate_start
 two_starts (first ∷ []) = None
 two_starts [] = None
 
--- what linking the list returns in place of a module
+-- the fact that linking the list returns in place of a module, if any: a mismatch, a duplicate name or a second start, in this order
 abbrev pub link_answer : List Parts → Option LinkFact
 link_answer ms = first_mismatch ms or_else (option_map duplicate (first_duplicate [] (public_names ms)) or_else two_starts (flat_starts ms))

@@ -1,4 +1,4 @@
--- What locating a list of modules by a plan returns in place of a location.
+-- The fact that locating a list of modules by a plan returns in place of a location.
 use Rattle.std.specs.Prelude.{ℕ, List, find, Option, Some, None, option_map, slice_get, not, nat_lt, if◌then◌else◌}
 use Rattle.mufom_numbers.specs.declared.limits.TheConstants.{MOST_IMAGE_BYTES}
 use Rattle.mufom_module.specs.declared.module.Parts.{Parts}
@@ -26,11 +26,11 @@ first_unplaced_common ms plan = if has_common plan.regions then None else slice_
 abbrev pub cycle_at : List Parts → List ℕ → Option LocateFact
 cycle_at ms name = if is_on_cycle ms name then Some (cycle name) else None
 
--- an image has at most 2 ^ 26 bytes
+-- the fact that too many bytes are loaded, if there are more than 2 ^ 26
 abbrev pub image_limit_at : ℕ → Option LocateFact
 image_limit_at total = if nat_lt MOST_IMAGE_BYTES total then Some (image_limit total) else None
 
--- what locating the list by the plan returns in place of a location, the first in this order
+-- the fact that locating the list by the plan returns in place of a location, if any: the first one in this order
 unfoldable pub locate_answer : List Parts → Plan → Option LocateFact
 locate_answer ms plan = let s = setting ms (planned_bases ms plan) in
     option_map placement (place_refusal (width ms) plan (flat_sections ms) (placed_commons ms plan))

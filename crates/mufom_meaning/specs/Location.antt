@@ -1,4 +1,4 @@
--- What a location of a list of modules is.
+-- The definition of the location of a list of modules.
 use Rattle.std.specs.Prelude.{◌≡◌, ℕ, ◌^◌, List, [], ◌∷◌, map, Option, Some, None, option_map, slice_get, true, option_to_list}
 use Rattle.std.specs.List.{enumerate_from}
 use Rattle.mufom_expr.specs.Tree.{number}
@@ -19,15 +19,15 @@ use Rattle.mufom_meaning.specs.LinkAnswer.{link_answer}
 use Rattle.mufom_meaning.specs.LocateAnswer.{locate_answer}
 use Rattle.mufom_meaning.specs.AddressMap.{AreRowsOf, address_map}
 
--- a section as it is placed: absolute, and at the base of its position
+-- a section after placing: absolute, and with the base that is at its position
 abbrev pub placed_section : List ℕ → ℕ × Section → Section
 placed_section placed s = record s.1 { absolute = true; base = slice_get placed s.0 }
 
--- all sections, each at the base of its position
+-- all sections, each with the base that is at its position
 abbrev pub placed_sections : List ℕ → List Section → List Section
 placed_sections placed sections = map (placed_section placed) (enumerate_from 0 sections)
 
--- the sections of a location: those of the modules and after them the commons that the plan places
+-- the sections of a location: those of the modules, followed by the commons that the plan places
 abbrev pub located_sections : List Parts → Plan → List Section
 located_sections ms plan = placed_sections (base_list ms plan) (extended_sections ms plan)
 
@@ -43,12 +43,12 @@ located_head (local_head stack type_index offset) = option_map (λ n. heads.Loca
 located_head (source_head numbers) = Some (heads.Source (record { items = numbers }))
 located_head (section_head section_type section offset) = option_map (λ n. heads.Section section_type section (number n)) offset
 
--- the end of a block, likewise
+-- the end of a block, with one number in place of its expression
 abbrev pub located_end : Option (Option ℕ) → Option DebugMark
 located_end None = Some (block_end None)
 located_end (Some value) = option_map (λ n. block_end (Some (number n))) value
 
--- A debug record as it is located: with one number in place of its expression. An expression without a value has none.
+-- A debug record after locating, with one number in place of its expression; None if the expression has no value.
 abbrev pub located_mark : MarkReading → Option DebugMark
 located_mark (begin_reading head name) = option_map (λ h. block_begin h name) (located_head head)
 located_mark (end_reading end) = located_end end
@@ -56,7 +56,7 @@ located_mark (name_reading name) = Some (name_mark name)
 located_mark (note_reading name note) = Some (note_mark name note)
 located_mark (value_reading name value) = option_map (λ n. value_mark name (number n)) value
 
--- what a location takes from the first module: processor, name, bytes of an address and their order
+-- what a location takes from the first module: the processor, the name, the number of bytes of an address and their order
 abbrev pub Header : Type 0
 Header = List ℕ × List ℕ × ℕ × Order
 
@@ -65,8 +65,8 @@ abbrev pub first_header : List Parts → Option Header
 first_header [] = None
 first_header (m ∷ ms) = Some (m.processor, m.name, m.maus, m.order)
 
--- r is the location of the list by the plan: no fact holds, the sections and commons are at their bases, each public, start and debug
--- expression is its value there, and the runs are the rows of the loaded bytes.
+-- r is the location of the list by the plan: no fact is returned, the sections and commons are at their bases, each public, start and
+-- debug expression is replaced by its value for these bases, and the runs are those of the loaded bytes.
 pub record IsLocation (ms : List Parts) (plan : Plan) (r : LocatedParts) : Type 0 where
   pub links : link_answer ms ≡ None
   pub locates : locate_answer ms plan ≡ None

@@ -1,4 +1,4 @@
--- What holds of locations and of selected members.
+-- Laws about locations and selected members.
 use Rattle.std.specs.Prelude.{◌≡◌, ℕ, List, [], ◌∷◌, ◌≢◌, ◌+◌, ◌*◌, ◌<◌, ◌≤◌, length, filter, Option, Some, None, ◌^◌, Contains}
 use Rattle.mufom_debug.specs.Marks.{DebugMark}
 use Rattle.mufom_module.specs.declared.module.Parts.{Parts}
@@ -24,7 +24,7 @@ use Rattle.mufom_meaning.specs.Staging.{AreValid}
 abbrev pub HasValue : Option ℕ → Type 0
 HasValue value = (n : ℕ) × (value ≡ Some n)
 
--- a step has its counter, and what it sets or puts there a value
+-- the numbers of a step have values: the one to which it sets a counter, the counter of an item, and the one of a field
 abbrev pub StepHasValue : StepReading → Type 0
 StepHasValue (counter_reading section value) = HasValue value
 StepHasValue (literal_reading section at bytes) = HasValue at
@@ -49,33 +49,33 @@ LocationsExist =
     (ms : List Parts) (plan : Plan) → ms ≢ [] → AreValid ms → link_answer ms ≡ None → locate_answer ms plan ≡ None
     → (r : LocatedParts) × IsLocation ms plan r
 
--- A list has one location by a plan at most.
+-- A list has at most one location by a plan.
 abbrev pub LocationIsSingle : Type 0
 LocationIsSingle = (ms : List Parts) (plan : Plan) (r q : LocatedParts) → IsLocation ms plan r → IsLocation ms plan q → r ≡ q
 
--- The module that a location is written as, located alone by a plan without regions, is located as itself.
+-- Locating the absolute module of a location alone, by a plan without regions, results in the same location.
 abbrev pub AbsoluteIsLocatedAsItself : Type 0
 AbsoluteIsLocatedAsItself =
     (ms : List Parts) (plan : Plan) (r : LocatedParts) → AreValid ms → IsLocation ms plan r → IsLocation (absolute_of r ∷ []) no_regions r
 
--- The module that a location is written as has no defect, if it is not too heavy.
+-- The absolute module of a location has no defect, if its weight is below 2^32.
 abbrev pub AbsoluteIsValid : Type 0
 AbsoluteIsValid =
     (ms : List Parts) (plan : Plan) (r : LocatedParts) → AreValid ms → IsLocation ms plan r → weight (absolute_of r) < 2 ^ 32
     → IsValid (absolute_of r)
 
--- how many weak references ask for room
+-- the number of weak references of a size above 0
 abbrev pub asking_count : List Parts → ℕ
 asking_count ms = length (filter is_common (flat_references ms))
 
--- That module weighs at most what the list weighs, and 31 more for each section, 31 for each loaded byte and 42 for each weak
--- reference of a size above 0.
+-- The absolute module of a location weighs at most as much as the list, plus 31 for each section, 31 for each loaded byte and 42
+-- for each weak reference of a size above 0.
 abbrev pub AbsoluteWeighs : Type 0
 AbsoluteWeighs =
     (ms : List Parts) (plan : Plan) (r : LocatedParts) → AreValid ms → IsLocation ms plan r
     → weight (absolute_of r) ≤ total_weight ms + 31 * length (flat_sections ms) + 31 * loaded_total ms + 42 * asking_count ms
 
--- The members that are selected for a list are determined.
+-- A list has at most one selection of members.
 abbrev pub SelectionIsSingle : Type 0
 SelectionIsSingle =
     (ms members : List Parts) (chosen other : List ℕ) → IsSelected ms members chosen → IsSelected ms members other → chosen ≡ other

@@ -1,4 +1,4 @@
--- Where a plan puts the sections and commons of a list of modules (IEEE Std 695, commons).
+-- The bases that a plan gives to the sections and commons of a list of modules (IEEE Std 695, commons).
 use Rattle.std.specs.Prelude.{ℕ, List, [], ◌∷◌, ◌++◌, map, length, take, drop, max, Option, Some, None, false, if◌then◌else◌}
 use Rattle.std.specs.Str.{bytes_eq}
 use Rattle.mufom_sections.specs.declared.section.Section.{Section}
@@ -9,12 +9,12 @@ use Rattle.mufom_place.specs.Bases.{bases}
 use Rattle.mufom_meaning.specs.Bases.{Bases}
 use Rattle.mufom_meaning.specs.Flat.{distinct, flat_sections, commons, common_names}
 
--- the greatest size that weak references of this name ask for
+-- the greatest size that weak references of this name request
 abbrev pub greatest_size : List (List ℕ × ℕ) → List ℕ → ℕ
 greatest_size [] name = 0
 greatest_size (common ∷ more) name = if bytes_eq common.0 name then max common.1 (greatest_size more name) else greatest_size more name
 
--- the section that a common is placed as: it is not absolute, has the greatest size for its name, and begins at a multiple of 8
+-- the section as which a common is placed: it is not absolute, has the greatest size for its name, and is aligned to 8
 abbrev pub common_section : List (List ℕ × ℕ) → List ℕ → Section
 common_section asked name = record { name = name; absolute = false; purpose = None; size = greatest_size asked name; align = 8; base = None }
 
@@ -30,7 +30,7 @@ placed_commons ms plan = if has_common plan.regions then common_sections ms else
 abbrev pub extended_sections : List Parts → Plan → List Section
 extended_sections ms plan = flat_sections ms ++ placed_commons ms plan
 
--- their bases, one for each
+-- the bases of all these sections, one for each
 abbrev pub base_list : List Parts → Plan → List ℕ
 base_list ms plan = bases plan (flat_sections ms) (placed_commons ms plan)
 
@@ -40,7 +40,7 @@ base_named [] placed name = None
 base_named (section ∷ sections) [] name = None
 base_named (section ∷ sections) (base ∷ placed) name = if bytes_eq section.name name then Some base else base_named sections placed name
 
--- the first of these bases are those of the sections of the modules, by their flat numbers, and the others those of the commons
+-- the first of these bases belong to the sections of the modules, by their flat numbers, and the others to the commons
 abbrev pub planned_bases : List Parts → Plan → Bases
 planned_bases ms plan = let count = length (flat_sections ms) in record {
   sections = take count (base_list ms plan);

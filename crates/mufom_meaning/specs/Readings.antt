@@ -60,8 +60,8 @@ mark_reading s site (value_mark name t) = value_reading (site.first_name + name)
 abbrev pub public_reading : Setting → SitedPublic → PublicReading
 public_reading s q = record { name = q.entry.name; notes = q.entry.notes; value = value s q.site None q.entry.value }
 
--- What a list of modules means: its sections, publics, steps, starts and debug records with their values, the names that it needs, and
--- the room that it asks for.
+-- What a list of modules means: its sections, publics, steps, starts and debug records with their values, the undefined names that
+-- it needs, and its commons.
 pub record Readings : Type 0 where
   pub sections : List Section
   pub publics : List PublicReading

@@ -1,4 +1,4 @@
--- Which members are selected for a list of modules.
+-- The members that are selected for a list of modules.
 use Rattle.std.specs.Prelude.{ℕ, suc, List, [], ◌∷◌, map, filter, flat_map, Option, Some, None, slice_get, Bool, true, ◌&&◌, ◌||◌, if◌then◌else◌}
 use Rattle.std.specs.Prelude.{IsTrue, Contains}
 use Rattle.std.specs.List.{list_all}
@@ -21,7 +21,7 @@ provider_from n (member ∷ members) name = if has_name (public_names (member �
 abbrev pub provider : List Parts → List ℕ → Option ℕ
 provider members name = provider_from 0 members name
 
--- the members at these positions
+-- the member as a list, empty if there is none
 abbrev pub member_at : Option Parts → List Parts
 member_at None = []
 member_at (Some m) = m ∷ []

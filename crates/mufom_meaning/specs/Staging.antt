@@ -1,4 +1,4 @@
--- Stages of linking: when a module can replace a list of modules, and which lists come from one another by partial links.
+-- Linking in stages: when a module can replace a list of modules, and which lists result from one another by partial links.
 use Rattle.std.specs.Prelude.{◌≡◌, ℕ, List, [], ◌∷◌, ◌++◌, length, not, IsTrue}
 use Rattle.std.specs.List.{list_all, IsDistinct}
 use Rattle.mufom_names.specs.Names.{AreDistinct}
@@ -25,8 +25,8 @@ abbrev pub HaveDescriptorOf : List Parts → List Parts → Type 0
 HaveDescriptorOf [] others = Unit {0}
 HaveDescriptorOf (m ∷ ms) others = HaveDescriptor m others
 
--- A context of the list: valid modules before it and after it, of its descriptor, such that no public name occurs twice, and a
--- base for each section; commons may have any bases. It speaks of the list alone and of no link of it.
+-- A context of the list: valid modules before and after it that have its descriptor, such that no public name occurs twice, and a
+-- base for each section; commons may have any bases. The definition refers to the list alone, not to a link of it.
 pub record IsContext (before ms after : List Parts) (bases : Bases) : Type 0 where
   pub before_valid : AreValid before
   pub after_valid : AreValid after
@@ -45,13 +45,13 @@ pub record HasSettledReferences (M : Parts) : Type 0 where
   pub apart : IsDistinct same_reference M.names.references
   pub unresolved : IsTrue (list_all (λ reference. not (has_name (public_names (M ∷ [])) reference.name)) M.names.references)
 
--- what a context of a group has to keep for the outer link to give the same module: a group at the beginning gives its name
+-- the condition for an outer link to result in the same module: the link of a group at the beginning has the group's first name
 abbrev pub NameStays : List Parts → Parts → List Parts → Type 0
 NameStays [] M [] = ⊥
 NameStays [] M (m ∷ ms) = M.name ≡ m.name
 NameStays (a ∷ before) M ms = Unit {0}
 
--- The list ms comes from the list leaves by partial links of neighbours, one after another. A link at the beginning keeps
+-- The list ms results from the list leaves by partial links of neighbours, one after another. A link at the beginning keeps
 -- the name of its first module.
 pub data IsStaged : List Parts → List Parts → Type 0 where
   unlinked : (ms : List Parts) → IsStaged ms ms

@@ -1,4 +1,4 @@
--- What holds of stages of linking.
+-- Laws about linking in stages.
 use Rattle.std.specs.Prelude.{◌≡◌, ℕ, List, [], ◌∷◌, ◌++◌, flat_map, length, None, Contains, ◌↔◌, ◌+◌, ◌<◌, ◌≤◌, ◌^◌, sum_by}
 use Rattle.mufom_names.specs.Names.{AreDistinct}
 use Rattle.mufom_module.specs.declared.module.Parts.{Parts}
@@ -25,7 +25,7 @@ JoinedStandsFor =
     (M : Parts) (ms : List Parts) (name : List ℕ) → IsJoined M ms name → AreValid ms
     → StandsFor M ms × (M.sections ≡ flat_sections ms) × (public_names (M ∷ []) ≡ public_names ms) × HasSettledReferences M
 
--- Links compose: linking a list in which a group was linked before gives the link of the flat list, and conversely.
+-- Links compose: linking a list in which a group was linked before results in the link of the flat list, and conversely.
 abbrev pub JoinedComposes : Type 0
 JoinedComposes =
     (M N : Parts) (ms before after : List Parts) (inner outer : List ℕ)
@@ -34,22 +34,22 @@ JoinedComposes =
     → (IsJoined N (before ++ (M ∷ after)) outer → IsJoined N (before ++ (ms ++ after)) outer)
     × (IsJoined N (before ++ (ms ++ after)) outer → IsJoined N (before ++ (M ∷ after)) outer)
 
--- The result in place of an outer link is the same if a group was linked before, also if a link fact holds. Only the group must have
--- one descriptor.
+-- The fact that is returned in place of an outer link does not change if a group was linked before, even if link facts hold. Only the
+-- modules of the group must have the same descriptor.
 abbrev pub LinkAnswersAgree : Type 0
 LinkAnswersAgree =
     (M : Parts) (ms before after : List Parts) (name : List ℕ)
     → IsJoined M ms name → HaveDescriptorOf ms ms
     → link_answer (before ++ (M ∷ after)) ≡ link_answer (before ++ (ms ++ after))
 
--- The link facts do not change either, none of them.
+-- The link facts that hold do not change either.
 abbrev pub LinkFactsAgree : Type 0
 LinkFactsAgree =
     (M : Parts) (ms before after : List Parts) (name : List ℕ) (fact : LinkFact)
     → IsJoined M ms name → HaveDescriptorOf ms ms
     → LinkFactStands (before ++ (M ∷ after)) fact ↔ LinkFactStands (before ++ (ms ++ after)) fact
 
--- A module is in a list for a group of modules: it is the one module of the group, or the link of a group that can be linked.
+-- A module represents a group of modules: it is the only module of the group, or the link of a group that can be linked.
 pub data IsLinkOrItself : Parts → List Parts → Type 0 where
   itself : (m : Parts) → IsLinkOrItself m (m ∷ [])
   a_link : (M : Parts) (group : List Parts) (name : List ℕ) → IsJoined M group name → link_answer group ≡ None → IsLinkOrItself M group
@@ -61,25 +61,25 @@ StandForGroups (M ∷ Ms) (group ∷ groups) = IsLinkOrItself M group × StandFo
 StandForGroups [] (group ∷ groups) = ⊥
 StandForGroups (M ∷ Ms) [] = ⊥
 
--- What is returned in place of the link of a list goes by its groups: a link fact about a group is one about the whole list, and if
--- each group was linked, or is one module, linking the list of the links gives the result of linking the whole list.
+-- A list may be linked group by group: a link fact that holds about a group holds about the whole list, and if each group was linked,
+-- or is one module, linking the links returns the same fact, or none, as linking the whole list.
 pub record GroupsAnswer (groups : List (List Parts)) : Type 0 where
   pub facts_stand : (group : List Parts) → Contains groups group → (fact : LinkFact) → LinkFactStands group fact
       → LinkFactStands (flat_map (λ own. own) groups) fact
   pub same_answer : (Ms : List Parts) → StandForGroups Ms groups → link_answer Ms ≡ link_answer (flat_map (λ own. own) groups)
 
--- This holds of all groups.
+-- This holds for all groups.
 abbrev pub AllGroupsAnswer : Type 0
 AllGroupsAnswer = (groups : List (List Parts)) → GroupsAnswer groups
 
--- The facts about a list with a link are those about the flat list, all of them and the returned one.
+-- The same facts hold about a list with a link and about the flat list, and the same one is returned.
 pub record FactsAgreeOn (linked flat : List Parts) (plan : Plan) : Type 0 where
   pub link_facts : (fact : LinkFact) → LinkFactStands linked fact ↔ LinkFactStands flat fact
   pub locate_facts : (fact : LocateFact) → LocateFactStands linked plan fact ↔ LocateFactStands flat plan fact
   pub link_answers : link_answer linked ≡ link_answer flat
   pub locate_answers : locate_answer linked plan ≡ locate_answer flat plan
 
--- This holds wherever the flat list is without a defect, has one descriptor and has no public name twice.
+-- This holds if the flat list has no defect, all its modules have the same descriptor, and no public name occurs twice.
 abbrev pub FactsAgree : Type 0
 FactsAgree =
     (M : Parts) (ms before after : List Parts) (name : List ℕ) (plan : Plan)
@@ -107,15 +107,15 @@ pub record MeansTheSame (ms leaves : List Parts) : Type 0 where
   pub same_location : (plan : Plan) (r : LocatedParts) → IsLocation ms plan r ↔ IsLocation leaves plan r
   pub same_members : (members : List Parts) (chosen : List ℕ) → IsSelected ms members chosen ↔ IsSelected leaves members chosen
 
--- Files that earlier runs linked, in whatever stages, mean what the list means that those runs began with. d is any module
--- with the descriptor of the list.
+-- A list that results from linking modules in whatever stages means the same as the list of the original modules. d is any
+-- module with the descriptor of the list.
 abbrev pub StagedMeansTheSame : Type 0
 StagedMeansTheSame =
     (d : Parts) (ms leaves : List Parts) → IsStaged ms leaves → AreValid leaves → HaveDescriptor d leaves
     → AreDistinct (public_names leaves)
     → MeansTheSame ms leaves
 
--- A list has one partial link under a name at most.
+-- A list has at most one partial link under a name.
 abbrev pub JoinedIsSingle : Type 0
 JoinedIsSingle = (M N : Parts) (ms : List Parts) (name : List ℕ) → IsJoined M ms name → IsJoined N ms name → M ≡ N
 
@@ -134,6 +134,6 @@ pub record JoinedIsSound (M : Parts) (ms : List Parts) (name : List ℕ) : Type 
   pub weighs : weight M + first_name_length ms ≤ total_weight ms + length name
   pub valid : length name < 2 ^ 16 → total_weight ms + length name < 2 ^ 32 → IsValid M
 
--- This holds of each partial link of modules without a defect.
+-- This holds for each partial link of modules without a defect.
 abbrev pub JoinedIsValid : Type 0
 JoinedIsValid = (M : Parts) (ms : List Parts) (name : List ℕ) → IsJoined M ms name → AreValid ms → JoinedIsSound M ms name

@@ -35,7 +35,7 @@ LinkFactStands ms (mismatch d e) = (m : Parts) × (n : Parts) × StandsIn m ms �
 LinkFactStands ms (duplicate name) = (place : ℕ) × (slice_get (public_names ms) place ≡ Some name) × RepeatsAt (public_names ms) place
 LinkFactStands ms duplicate_start = 1 < length (flat_starts ms)
 
--- the steps before, the latest first, put back before the others
+-- the earlier steps, the latest of them first, put back in front of the others
 abbrev pub put_back : List Step → List Step → List Step
 put_back [] more = more
 put_back (step ∷ earlier) more = put_back earlier (step ∷ more)
@@ -72,8 +72,8 @@ StandsBeforeWalk ms plan s (cycle name) = IsOnCycle ms name
 StandsBeforeWalk ms plan s (image_limit count) = (loaded_total ms ≡ count) × (MOST_IMAGE_BYTES < count)
 StandsBeforeWalk ms plan s _ = ⊥
 
--- The facts that the walk finds. The byte at offset q of an item lies at the counter and q: outside its section if that exact
--- sum is, and at an address that was loaded before, by an earlier step or by the same item.
+-- The facts that the walk finds. The byte at offset q of an item is at the program counter plus q. It is outside its section if
+-- that exact sum is, and it is loaded twice if an earlier step, or an earlier byte of the item, is at the same address.
 abbrev pub StandsInWalk : List Parts → Setting → LocateFact → Type 0
 StandsInWalk ms s (zero_divisor place) = HasZeroDivisor ms s place
 StandsInWalk ms s (load_outside section address) =
@@ -88,7 +88,7 @@ StandsInWalk ms s (overflow section at kind size v) =
     × (value s site (Some at) t ≡ Some v) × ¬ IsTrue (fits s.modulus kind size v)
 StandsInWalk ms s _ = ⊥
 
--- A fact holds. A fact of the walk holds only if no other fact does, link facts included.
+-- A fact holds. A fact of the walk holds only if no link fact and no fact before the walk does.
 abbrev pub LocateFactStands : List Parts → Plan → LocateFact → Type 0
 LocateFactStands ms plan fact = let s = setting ms (planned_bases ms plan) in
     StandsBeforeWalk ms plan s fact

@@ -11,7 +11,7 @@ use Rattle.mufom_module.specs.declared.module.Parts.{Parts}
 use Rattle.mufom_meaning.specs.Flat.{Sited, sited}
 use Rattle.mufom_meaning.specs.Values.{Setting, value}
 
--- a step sets the counter of a section, or loads an item there; the section goes by its flat number
+-- a step sets the counter of a section, or loads an item there; the section is given by its flat number
 pub data Step : Type 0 where
   counter_step : (site : Sited) → (section : ℕ) → (value : Tree) → Step
   item_step : (site : Sited) → (section : ℕ) → (item : Item) → Step
@@ -34,9 +34,9 @@ steps_of site current (Repeat count items ∷ loads) = repeated count (item_step
 abbrev pub steps : List Parts → List Step
 steps ms = flat_map (λ site. steps_of site None site.parts.loads) (sited ms)
 
--- The counter of a section after some steps, the latest first: the value of the last step that set it, and the lengths
--- of what the section was loaded with since; the section's base if no step set it. That value is found with the
--- counter before it, and a counter after a value that is none has none either.
+-- The program counter of a section after some steps, the latest first: the value to which a step last set it, or the
+-- section's base if no step did, plus the number of bytes loaded into the section since. That value is computed with the
+-- counter before the step. After a value that is None, the counter is None too.
 unfoldable pub counter : Setting → List Step → ℕ → Option ℕ
 counter s [] section = option_map (λ base. base % s.modulus) (slice_get s.bases section)
 counter s (counter_step site other t ∷ earlier) section =

@@ -1,4 +1,4 @@
--- When an expression has a value (IEEE Std 695, expressions): its place, what it mentions, and the divisors of value 0 on its way.
+-- When an expression has a value (IEEE Std 695, expressions): its place, what it mentions, and the zero divisors that it meets.
 use Rattle.std.specs.Prelude.{◌≡◌, ◌≢◌, ℕ, ◌==◌, ◌⊎◌, ◌↔◌, List, [], ◌∷◌, Option, Some, None, Contains, if◌then◌else◌, IsTrue}
 use Rattle.mufom_expr.specs.declared.token.FieldKind.{FieldKind}
 use Rattle.mufom_expr.specs.declared.token.Letter.{Letter}
@@ -20,12 +20,12 @@ use Rattle.mufom_meaning.specs.Stands.{StandsIn, IsStepAfter, LinkFactStands, St
 use Rattle.mufom_meaning.specs.Cycles.{mentioned}
 use Rattle.mufom_meaning.specs.Walk.{start_trees, debug_trees}
 
--- Where an expression finds its program counter: at a section, after some steps, the latest first. A public, a start and a
--- debug expression find none.
+-- Where an expression finds its program counter: at a section, after some steps, the latest first. The expressions of publics,
+-- starts and debug records have no program counter.
 abbrev pub CounterPlace : Type 0
 CounterPlace = Option (List Step × ℕ)
 
--- the counter there, or none if an expression finds none
+-- the program counter at this place, or None if there is none
 abbrev pub counter_there : Setting → CounterPlace → Option ℕ
 counter_there s None = None
 counter_there s (Some c) = counter s c.0 c.1
@@ -48,7 +48,7 @@ last_set [] section = None
 last_set (counter_step site other t ∷ earlier) section = if other == section then Some (earlier, site, t) else last_set earlier section
 last_set (item_step site other item ∷ earlier) section = last_set earlier section
 
--- The expression, or a public or a counter that it goes through, divides by 0.
+-- The expression divides by 0, or a public or a counter that its value depends on does.
 pub data MeetsZeroDivisor (s : Setting) : CounterPlace → Sited → Tree → Type 0 where
   itself : (c : CounterPlace) (site : Sited) (t : Tree) → IsTrue (has_zero_divisor s site (counter_there s c) t) → MeetsZeroDivisor s c site t
   through_name : (c : CounterPlace) (site : Sited) (t : Tree) (q : SitedPublic) → IsMentionedIn s site t q
@@ -67,8 +67,8 @@ pub record HaveValues (ms : List Parts) (s : Setting) : Type 0 where
   pub expressions : (c : CounterPlace) (site : Sited) (t : Tree) → IsExpressionAt ms c site t → value s site (counter_there s c) t ≢ None
   pub counters : (earlier : List Step) (step : Step) → IsStepAfter ms earlier step → counter s earlier (section_of step) ≢ None
 
--- If no link fact holds about modules without a defect, and none that needs no walk, an expression has no
--- value exactly if it, or a public or a counter that it goes through, divides by 0.
+-- If no link fact and no fact that needs no walk holds about modules without a defect, an expression has no
+-- value if and only if it, or a public or a counter that its value depends on, divides by 0.
 abbrev pub NoneByDivision : Type 0
 NoneByDivision =
     (ms : List Parts) (plan : Plan) → AreValid ms

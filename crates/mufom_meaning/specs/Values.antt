@@ -11,7 +11,7 @@ use Rattle.mufom_plan.specs.Names.{has_name}
 use Rattle.mufom_meaning.specs.Bases.{Bases}
 use Rattle.mufom_meaning.specs.Flat.{Sited, SitedPublic, flat_sections, flat_publics, first_named, common_names, width}
 
--- what an expression's value depends on beside its own module: the address space, and all sections, publics and commons
+-- what an expression's value depends on besides its own module: the address space, and all sections, publics and commons
 pub record Setting : Type 0 where
   pub modulus : ℕ
   pub sections : List Section
@@ -33,7 +33,7 @@ setting ms bases = record {
   common_base = bases.commons;
 }
 
--- the value of the expression of a public in its module
+-- gives an expression in a module its value
 abbrev pub Valuation : Type 0
 Valuation = Sited → Tree → Option ℕ
 
@@ -47,12 +47,12 @@ abbrev pub default_of : Option Weak → Option ℕ
 default_of None = None
 default_of (Some weak) = if weak.size == 0 then Some weak.default else None
 
--- The value of a reference whose name no public has: the base of the common of this name, whatever the reference itself asks for,
--- and if there is no such common, its default.
+-- The value of a reference whose name no public has: the base of the common of this name, whatever the reference itself requests,
+-- or its default if there is no such common.
 abbrev pub unresolved_value : Setting → Reference → Option ℕ
 unresolved_value s reference = if has_name s.commons reference.name then s.common_base reference.name else default_of reference.weak
 
--- a reference has the value of the first public of its name, and if there is none, its value without one
+-- a reference has the value of the first public of its name, or its unresolved value if there is no such public
 abbrev pub reference_value : Valuation → Option SitedPublic → Option ℕ → Option ℕ
 reference_value valuation (Some q) unresolved = valuation q.site q.entry.value
 reference_value valuation None unresolved = unresolved
@@ -74,13 +74,13 @@ environment s valuation site pc letters.P n = pc
 environment s valuation site pc letters.I n = valuation_of valuation (slice_get s.publics (site.first_public + n))
 environment s valuation site pc letters.X n = valuation_of_reference s valuation (slice_get site.parts.names.references n)
 
--- The value of an expression in a module, going through at most `k` names on any way down. With no
--- step left a public has no value.
+-- The value of an expression in a module, computed through chains of at most `k` publics. A public
+-- beyond that has no value.
 unfoldable pub value_within : Setting → ℕ → Sited → Option ℕ → Tree → Option ℕ
 value_within s zero site pc t = value_at s.modulus (environment s (λ site' t'. None) site pc) t
 value_within s (suc k) site pc t = value_at s.modulus (environment s (λ site' t'. value_within s k site' None t') site pc) t
 
--- The value: a step for each public is enough, unless the names form a cycle.
+-- The value: chains as long as the list of publics are enough, unless publics form a cycle.
 abbrev pub value : Setting → Sited → Option ℕ → Tree → Option ℕ
 value s site pc t = value_within s (length s.publics) site pc t
 

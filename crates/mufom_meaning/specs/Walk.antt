@@ -40,7 +40,7 @@ abbrev pub outside_at : ℕ → ℕ → ℕ → ℕ → ℕ → Option LocateFac
 outside_at modulus section base size a =
     if nat_lt a base || nat_le (base + size) a then Some (load_outside section (a % modulus)) else None
 
--- the first address that is earlier too
+-- the first address that also occurs earlier
 abbrev pub first_twice : List ℕ → List ℕ → Option LocateFact
 first_twice earlier [] = None
 first_twice earlier (a ∷ more) = if has_number earlier a then Some (loaded_twice a) else first_twice (a ∷ earlier) more
@@ -55,7 +55,7 @@ abbrev pub step_addresses : Setting → List Step → Step → List ℕ
 step_addresses s earlier (counter_step site section t) = []
 step_addresses s earlier (item_step site section item) = addresses_at s.modulus (counter s earlier section) item
 
--- what was loaded by some steps, the latest first
+-- the addresses that some steps, the latest first, have loaded
 abbrev pub loaded_addresses : Setting → List Step → List ℕ
 loaded_addresses s [] = []
 loaded_addresses s (step ∷ earlier) = step_addresses s earlier step ++ loaded_addresses s earlier
@@ -106,7 +106,7 @@ SitedTree = Sited × Tree
 abbrev pub start_trees : List Parts → List SitedTree
 start_trees ms = flat_map (λ site. map (λ t. (site, t)) (option_to_list site.parts.start)) (sited ms)
 
--- the same of debug expressions
+-- the debug expressions of all modules, in order
 abbrev pub debug_trees : List Parts → List SitedTree
 debug_trees ms = flat_map (λ site. map (λ t. (site, t)) (expressions_of (marks_of site.parts.debug))) (sited ms)
 

@@ -1,9 +1,10 @@
-//! Laws that callers need, each the contract of a function that does nothing.
+//! Laws that callers need. Each law is the contract of a function with an empty body.
 
 ghost use Rattle.mufom_meaning.specs.CallLaws.{ModulesMayBePlaced, BasesByPosition, AreValidIsAll};
 
-/// A module without a defect fulfils the conditions of placing, for each plan: its addresses have a width of 8
-/// to 64 bits, its sections and commons are aligned and fewer than 2^32, and no common has a base.
+/// A module without a defect satisfies the preconditions of placing, for each plan: its addresses are 8 to
+/// 64 bits wide, its sections and commons have valid alignments and are fewer than 2^32, and no common has
+/// a base.
 pub fn modules_may_be_placed()
     ensures { ModulesMayBePlaced }
 {}
@@ -14,8 +15,8 @@ pub fn bases_by_position()
     ensures { BasesByPosition }
 {}
 
-/// All modules of a list are without a defect if each element of the list is: what is known of the
-/// elements of a slice of modules is what the laws require of a list.
+/// Each element of a list is without a defect if and only if all modules of the list are: what is known
+/// about the elements of a slice of modules is what the laws require of a list.
 pub fn are_valid_is_all()
     ensures { AreValidIsAll }
 {}

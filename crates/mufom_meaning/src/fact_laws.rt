@@ -1,4 +1,4 @@
-//! Laws of facts and results, each the contract of a function that does nothing.
+//! Laws about facts and results. Each law is the contract of a function with an empty body.
 
 ghost use Rattle.mufom_meaning.specs.FactLaws.{AllAnswersAreFacts, LinkFactsGrow, NoLinkAnswerIsLinkable, CountsAgree, CyclesAreShort};
 
@@ -8,13 +8,13 @@ pub fn answers_are_facts()
     ensures { AllAnswersAreFacts }
 {}
 
-/// A link fact about a part of a list is one about the list.
+/// A link fact that holds about a part of a list holds about the list.
 pub fn link_facts_grow()
     ensures { LinkFactsGrow }
 {}
 
-/// Nothing is returned in place of a link exactly if the list has one descriptor, no public name
-/// twice and no more than one start.
+/// No fact is returned in place of a link if and only if all modules of the list have the same
+/// descriptor, no public name occurs twice, and there is at most one start.
 pub fn no_link_answer_is_linkable()
     ensures { NoLinkAnswerIsLinkable }
 {}
@@ -25,7 +25,7 @@ pub fn counts_agree()
     ensures { CountsAgree }
 {}
 
-/// Some chain of mentions leads back to a name exactly if one does that is no longer than the list of
+/// If a chain of mentions leads back to a name, then so does one that is no longer than the list of
 /// publics.
 pub fn cycles_are_short()
     ensures { CyclesAreShort }

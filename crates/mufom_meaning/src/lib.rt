@@ -1,11 +1,11 @@
-//! What a list of modules means: the value of each expression, the bytes that are loaded and where,
-//! and what keeps the list from being linked or located.
+//! What a list of modules means: the value of each expression, the bytes that are loaded and their
+//! addresses, and the facts that keep the list from being linked or located.
 //!
 //! The crate has definitions and laws, and the types that callers share: the parts of a location,
 //! descriptors, and the sites of expressions. It depends on the crates of a module's values and on
 //! `mufom_plan` and `mufom_place`. Linking, selecting and locating share its definitions; each law
-//! is the contract of a function that does nothing. The main one is [`staged_means_the_same`]:
-//! whatever way a list was linked in stages, it means the same.
+//! is the contract of a function with an empty body. The main one is [`staged_means_the_same`]: a
+//! list means the same, in whatever stages it was linked.
 #![tactic(auto)]
 
 mod call_laws;

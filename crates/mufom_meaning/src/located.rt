@@ -9,7 +9,7 @@ use mufom_sections::Section;
 /// What all modules of a link share: the length of an address, and the order of bytes.
 #[derive(Clone, Copy, Debug, PartialEq, Eq)]
 pub struct Descriptor {
-    /// How many minimum addressable units (of eight bits) an address has.
+    /// The number of minimum addressable units (MAUs, of eight bits each) in an address.
     pub maus: u8,
     /// The order of the bytes of a field.
     pub order: Order,
@@ -24,9 +24,9 @@ pub enum Site {
     Counter(u32),
     /// A field at this address, in addressable units.
     Field { section: u32, address: u64 },
-    /// The start.
+    /// The start address.
     Start,
-    /// The debug expression of this number, from 0, in the order of the file.
+    /// The debug expression with this number, counted from 0 over the modules in their order.
     Debug(u32),
 }
 
@@ -39,7 +39,7 @@ pub struct PublicValue {
     pub notes: List<Note>,
 }
 
-/// Loaded bytes at neighbouring addresses.
+/// A run: loaded bytes at consecutive addresses.
 #[derive(Debug, Drop)]
 pub struct Run {
     /// The address of the first byte, in addressable units (of eight bits).
@@ -47,18 +47,18 @@ pub struct Run {
     pub bytes: Bytes,
 }
 
-/// What a list of modules is once its sections are placed: nothing in it waits for a value.
+/// The location of a list of modules: each section has a base, and each expression is replaced by its value.
 #[derive(Debug, Drop)]
 pub struct LocatedParts {
     pub processor: Bytes,
     pub name: Bytes,
-    /// How many minimum addressable units (of eight bits) an address has.
+    /// The number of minimum addressable units (MAUs, of eight bits each) in an address.
     pub maus: u8,
     pub order: Order,
     /// Each section is absolute and has its base.
     pub sections: List<Section>,
     pub publics: List<PublicValue>,
-    /// The loaded bytes, in rows that are as long as possible, in order of their addresses.
+    /// The loaded bytes, as runs that are as long as possible, in the order of their addresses.
     pub runs: List<Run>,
     /// The start address, in addressable units.
     pub start: Option<u64>,

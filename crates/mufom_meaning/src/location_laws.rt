@@ -1,11 +1,11 @@
-//! Laws of values, locations and selections, each the contract of a function that does nothing.
+//! Laws about values, locations and selections. Each law is the contract of a function with an empty body.
 
 ghost use Rattle.mufom_meaning.specs.Valued.{NoneByDivision, ValuesExist};
 ghost use Rattle.mufom_meaning.specs.LocationLaws.{AllValued, LocationsExist, LocationIsSingle, AbsoluteIsLocatedAsItself, AbsoluteIsValid};
 ghost use Rattle.mufom_meaning.specs.LocationLaws.{AbsoluteWeighs, SelectionIsSingle};
 
-/// If no link fact holds, and none that needs no walk, an expression of modules without a
-/// defect has no value exactly if it, or a public or a counter that it goes through, divides by 0.
+/// If no link fact and no fact that needs no walk holds, an expression of modules without a defect has no
+/// value if and only if it, or a public or a counter that its value depends on, divides by 0.
 pub fn none_by_division()
     ensures { NoneByDivision }
 {}
@@ -31,26 +31,26 @@ pub fn location_is_single()
     ensures { LocationIsSingle }
 {}
 
-/// The module that a location is written as, located alone by a plan without regions, is located as
-/// itself: a location of modules without a defect. Its commons are sections then.
+/// Locating the absolute module of a location alone, by a plan without regions, results in the same
+/// location, if the located modules have no defect. In the absolute module the commons are sections.
 pub fn absolute_is_located_as_itself()
     ensures { AbsoluteIsLocatedAsItself }
 {}
 
-/// The module that a location of modules without a defect is written as has no defect, if it is
-/// not too heavy.
+/// The absolute module of a location of modules without a defect has no defect, if its weight is below
+/// 2^32.
 pub fn absolute_is_valid()
     ensures { AbsoluteIsValid }
 {}
 
-/// The module that a location of modules without a defect is written as weighs at most what they
-/// weigh, and 31 more for each section, 31 for each loaded byte and 42 for each weak reference of a
-/// size above 0.
+/// The absolute module of a location of modules without a defect weighs at most as much as they do
+/// together, plus 31 for each section, 31 for each loaded byte and 42 for each weak reference of a size
+/// above 0.
 pub fn absolute_weighs()
     ensures { AbsoluteWeighs }
 {}
 
-/// The members that are selected for a list are determined.
+/// A list has at most one selection of members.
 pub fn selection_is_single()
     ensures { SelectionIsSingle }
 {}

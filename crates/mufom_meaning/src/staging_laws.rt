@@ -1,4 +1,4 @@
-//! Laws of staging, each the contract of a function that does nothing.
+//! Laws about linking in stages. Each law is the contract of a function with an empty body.
 
 ghost use Rattle.mufom_meaning.specs.StagingLaws.{JoinedStandsFor, JoinedComposes, JoinedIsSingle, JoinedIsValid, LinkAnswersAgree, LinkFactsAgree};
 ghost use Rattle.mufom_meaning.specs.StagingLaws.{AllGroupsAnswer, FactsAgree, SelectionAgrees, StagedMeansTheSame};
@@ -9,8 +9,8 @@ pub fn joined_stands_for()
     ensures { JoinedStandsFor }
 {}
 
-/// Linking a list in which a group was linked before gives the link of the flat list, and conversely, for
-/// modules without a defect that have one descriptor and no public name twice.
+/// Linking a list in which a group was linked before results in the link of the flat list, and conversely,
+/// for modules without a defect that have the same descriptor and no public name twice.
 pub fn joined_composes()
     ensures { JoinedComposes }
 {}
@@ -27,32 +27,32 @@ pub fn joined_is_valid()
     ensures { JoinedIsValid }
 {}
 
-/// The result in place of an outer link is the same if a group was linked before, also if a link fact
-/// holds. Only the group must have one descriptor.
+/// The fact that is returned in place of an outer link does not change if a group was linked before, even
+/// if link facts hold. Only the modules of the group must have the same descriptor.
 pub fn link_answers_agree()
     ensures { LinkAnswersAgree }
 {}
 
-/// The link facts about a list in which a group was linked before are those about the flat list, also
-/// if descriptors differ or a name occurs twice. Only the group must have one descriptor.
+/// The same link facts hold about a list in which a group was linked before and about the flat list, even
+/// if descriptors differ or a name occurs twice. Only the modules of the group must have the same
+/// descriptor.
 pub fn link_facts_agree()
     ensures { LinkFactsAgree }
 {}
 
-/// A link fact about a group of a list is one about the list. If each group was linked without
-/// one, or is one module, what is returned in place of linking the links is what is returned in
-/// place of linking the list.
+/// A link fact that holds about a group of a list holds about the list. If each group was linked, or is
+/// one module, linking the links returns the same fact, or none, as linking the whole list.
 pub fn groups_answer()
     ensures { AllGroupsAnswer }
 {}
 
-/// The facts about a list with a group linked are those about the flat list, all of them and the
-/// returned one: of modules without a defect, with one descriptor and no public name twice.
+/// The same facts hold about a list with a linked group and about the flat list, and the same one is
+/// returned, for modules without a defect that have the same descriptor and no public name twice.
 pub fn facts_agree()
     ensures { FactsAgree }
 {}
 
-/// The members selected for a list with a group linked are those selected for the flat list.
+/// The members selected for a list with a linked group are those selected for the flat list.
 pub fn selection_agrees()
     ensures { SelectionAgrees }
 {}

@@ -65,15 +65,15 @@ placed_from current (load ∷ loads) = (current, load) ∷ placed_from (current_
 abbrev pub placed_loads : Parts → List (Option ℕ × Load)
 placed_loads m = placed_from None m.loads
 
--- the heads and ends of all blocks, at any depth
+-- the head and the end of a block
 abbrev pub HeadAndEnd : Type 0
 HeadAndEnd = BlockHead × Option Tree
 
--- one level of a block, with the blocks inside it already found
+-- a block and the blocks inside it, given the blocks of each of its items
 abbrev pub block_step : Block-F (List HeadAndEnd) (List HeadAndEnd) → List HeadAndEnd
 block_step b = (b.head, b.end) ∷ joined b.items
 
--- one level of an item, with the blocks inside it already found
+-- the blocks of an item; those of a block are given
 abbrev pub item_step : DebugItem-F (List HeadAndEnd) (List HeadAndEnd) → List HeadAndEnd
 item_step (DebugItem-F.Block blocks) = blocks
 item_step (DebugItem-F.Name name) = []

@@ -32,7 +32,7 @@ use Rattle.mufom_module.specs.Written.{weight}
 abbrev pub is_long : List ℕ → Bool
 is_long text = nat_lt 65535 (length text)
 
--- a mark that gives such a name
+-- a mark with a name that is too long
 abbrev pub has_long_name : DebugMark → Bool
 has_long_name (block_begin head name) = is_long name
 has_long_name (block_end end) = false
@@ -53,11 +53,11 @@ has_long_string m = is_long m.processor || (is_long m.name
 abbrev pub is_unit_count : ℕ → Bool
 is_unit_count n = nat_le 1 n && nat_le n 8
 
--- an alignment is 1 to 2^31
+-- a section whose alignment is not 1 to 2^31
 abbrev pub has_bad_alignment : Section → Bool
 has_bad_alignment s = (s.align == 0) || nat_lt MOST_ALIGNMENT s.align
 
--- a section with the letters of an absolute one has a base
+-- an absolute section (letters `A S`) without a base
 abbrev pub lacks_base : Section → Bool
 lacks_base s = s.absolute && is_none s.base
 
@@ -66,7 +66,7 @@ abbrev pub is_long_literal : Item → Bool
 is_long_literal (Literal bytes) = is_long bytes
 is_long_literal (Field kind size value) = false
 
--- a field has 1 to 8 bytes
+-- a field whose size is not 1 to 8 bytes
 abbrev pub has_bad_size : Item → Bool
 has_bad_size (Literal bytes) = false
 has_bad_size (Field kind size value) = (size == 0) || nat_lt 8 size
@@ -90,7 +90,7 @@ count_for n X = n.references
 abbrev pub is_outside : Counts → Letter × ℕ → Bool
 is_outside n v = nat_le (count_for n v.0) v.1
 
--- an expression with such a variable
+-- an expression with a variable whose position is outside its list
 abbrev pub names_outside : Counts → Tree → Bool
 names_outside n tree = list_any (is_outside n) (variables_of tree)
 
@@ -101,7 +101,7 @@ names_no_section n (SetPc section value) = nat_le n.sections section
 names_no_section n (One item) = false
 names_no_section n (Repeat count items) = false
 
--- such a load, or one with such a variable
+-- a load that names a section that the module does not have, or has a variable whose position is outside its list
 abbrev pub has_bad_place : Counts → Load → Bool
 has_bad_place n load = names_no_section n load || load_any (names_outside n) load
 
@@ -121,11 +121,11 @@ begins_badly n (name_mark name) = false
 begins_badly n (note_mark name note) = false
 begins_badly n (value_mark name value) = false
 
--- a mark of the debug part that begins such a block, or has such a variable
+-- a mark that begins a block for a section that the module does not have, or has a variable whose position is outside its list
 abbrev pub has_bad_mark : Counts → DebugMark → Bool
 has_bad_mark n mark = begins_badly n mark || any_expression (names_outside n) mark
 
--- the number of debug names declared after a mark, or none if the mark uses one that is not declared yet
+-- the number of debug names declared after a mark, or None if the mark uses a name that is not declared yet
 abbrev pub declared_after_mark : ℕ → DebugMark → Option ℕ
 declared_after_mark n (block_begin head name) = Some n
 declared_after_mark n (block_end end) = Some n
@@ -149,7 +149,7 @@ has_bad_position m = let n = counts_of m in
 
 -- ---- program counters
 
--- the section is this one
+-- a section is given, and it is at this position
 abbrev pub is_this : Option ℕ → ℕ → Bool
 is_this None place = false
 is_this (Some section) place = section == place
@@ -163,7 +163,7 @@ is_other_counter allowed (R, place) = false
 is_other_counter allowed (S, place) = false
 is_other_counter allowed (X, place) = false
 
--- an expression with such a program counter
+-- an expression with such a program counter: one that it may not use
 abbrev pub has_other_counter : Option ℕ → Tree → Bool
 has_other_counter allowed tree = list_any (is_other_counter allowed) (variables_of tree)
 
@@ -178,7 +178,7 @@ counter_of current (Repeat count items) = current
 abbrev pub misplaces_counter : Option ℕ × Load → Bool
 misplaces_counter p = load_any (has_other_counter (counter_of p.0 p.1)) p.1
 
--- a program counter in a public, the start or a debug expression, or one in a load that the load may not use
+-- a public, the start or a debug expression uses a program counter, or a load uses one that it may not use
 abbrev pub has_misplaced_counter : Parts → Bool
 has_misplaced_counter m = list_any (λ p. has_other_counter None p.value) m.names.publics
     || (any_of (has_other_counter None) m.start
@@ -187,14 +187,14 @@ has_misplaced_counter m = list_any (λ p. has_other_counter None p.value) m.name
 
 -- ---- loads and debug items
 
--- an item or a repeat, also one without items
+-- an item or a repeat, even one without items
 abbrev pub is_loading : Load → Bool
 is_loading (SetSection section) = false
 is_loading (SetPc section value) = false
 is_loading (One item) = true
 is_loading (Repeat count items) = true
 
--- such a load while no section is set
+-- an item or a repeat while no section is set
 abbrev pub loads_nowhere : Option ℕ × Load → Bool
 loads_nowhere p = is_none p.0 && is_loading p.1
 
@@ -214,7 +214,7 @@ ends_plainly (heads.Source numbers) = true
 ends_plainly (heads.Local stack type_index offset) = false
 ends_plainly (heads.Section section_type section offset) = false
 
--- a block of such a kind with an expression at its end
+-- a block with an expression at its end that its kind does not have
 abbrev pub has_bad_end : HeadAndEnd → Bool
 has_bad_end block = ends_plainly block.0 && is_some block.1
 
@@ -254,6 +254,6 @@ defects = d.Depth ∷ d.LongId ∷ d.BadMaus ∷ d.BadAlign ∷ d.MissingBase �
 abbrev pub first_defect : Parts → Option Defect
 first_defect m = find (has_defect m) defects
 
--- the parts have none of the defects
+-- the parts have no defect
 abbrev pub IsValid : Parts → Type 0
 IsValid m = first_defect m ≡ None

@@ -140,7 +140,7 @@ head_by ix p kind (tail.Scope stack type_index offset) = let value = positioned 
 head_by ix p kind (tail.Source ns) = head.Source ns
 head_by ix p kind (tail.Section section_type section offset) = head.Section section_type (position_in ix.sections section) (positioned ix (tree_in p offset))
 
--- the mark that a record of the debug part is
+-- the mark that a record of the debug part states
 abbrev pub mark_by : Indexes → SpelledRecord → Record → Option DebugMark
 mark_by ix p (r.BlockBegin kind _ name block) = Some (block_begin (head_by ix p kind block) (text_in p name))
 mark_by ix p (r.BlockEnd value) = Some (block_end (option_map (λ span. positioned ix (tree_in p span)) value))
@@ -155,7 +155,7 @@ marks ix part = filter_map (λ p. mark_by ix p p.row) part
 
 -- ---- loads
 
--- the item that a record is; a field without a size is as wide as an address
+-- the item that a record states; a field without a size is as wide as an address
 abbrev pub item_by : Indexes → ℕ → SpelledRecord → Record → Option Item
 item_by ix maus p (r.ConstantItem run) = Some (Literal (text_in p run))
 item_by ix maus p (r.FieldItem kind value n) = Some (Field kind (unwrap_or n maus) (positioned ix (tree_in p value)))

@@ -1,4 +1,4 @@
--- When bytes are the file of a module, as a relation on the whole file (IEEE Std 695, module structure, in this project's
+-- Which bytes are the file of a module, as a relation on the whole file (IEEE Std 695, module structure, in this project's
 -- profile).
 use Rattle.std.specs.Prelude.{◌≡◌, ◌⊎◌, ℕ, ◌+◌, ◌≤◌, Bool, true, false, not, ◌&&◌, List, [], ◌∷◌, ◌++◌, length, filter_map, Option, Some, None}
 use Rattle.std.specs.Prelude.{option_to_list, MatchBool}
@@ -37,7 +37,7 @@ pub record FileParts : Type 0 where
   pub sections : List SpelledRecord
   pub externals : List SpelledRecord
   pub debug : List SpelledRecord
-  -- the bytes of a debug part that is passed over
+  -- the bytes of a debug part that is skipped
   pub skipped : List ℕ
   pub loads : List SpelledRecord
   pub trailer : List SpelledRecord
@@ -119,7 +119,7 @@ offset_in _ = None
 abbrev pub offsets_in : List SpelledRecord → List ℕ
 offsets_in records = filter_map (λ p. offset_in p.row) records
 
--- each offset is that of the first byte of its part, or 0 if the part is empty; the last one is the offset of their end
+-- each offset is that of the first byte of its part, or possibly 0 if the part is empty; the last one is the offset of the end
 abbrev pub StandAt : List ℕ → ℕ → List (List ℕ) → Type 0
 StandAt offsets at [] = offsets ≡ at ∷ []
 StandAt [] at (bytes ∷ parts) = ⊥
@@ -129,7 +129,7 @@ StandAt (w ∷ offsets) at (bytes ∷ parts) = ((w ≡ at) ⊎ ((w ≡ 0) × (by
 abbrev pub file_limit : ℕ
 file_limit = MOST_FILE_BYTES
 
--- The file is these parts. The debug part is read, or its bytes are passed over.
+-- The file consists of these parts. The debug part is read, or its bytes are skipped.
 pub record IsCutInto (bytes : List ℕ) (reads_debug : Bool) (f : FileParts) : Type 0 where
   pub all : bytes ≡ bytes_of (header_of f) ++ after_header f
   pub limit : length bytes ≤ file_limit
@@ -157,19 +157,19 @@ indexes_of f = record {
 abbrev pub records_of : FileParts → List SpelledRecord
 records_of f = f.sections ++ (f.externals ++ (f.debug ++ (f.loads ++ f.trailer)))
 
--- the record declares an index that its kind has already
+-- the record declares an index that is already declared for the same kind of entry
 abbrev pub declares_again : List SpelledRecord → Record → Bool
 declares_again before row = any_of (is_declared before) (declared_by row)
 
--- it states something for an index that may be stated only once, and was stated before
+-- the record states again what may be stated only once
 abbrev pub states_again : List SpelledRecord → Record → Bool
 states_again before row = any_of (is_assigned before) (assigned_by row)
 
--- it names an index that is not declared
+-- the record uses an index that is not declared yet
 abbrev pub names_unknown : List SpelledRecord → SpelledRecord → Bool
 names_unknown before p = not (list_all (is_declared before) (named_at_once p))
 
--- it is an LD, an LR or an RE, and no section is set
+-- the record is an LD, an LR or an RE, and no section is set
 abbrev pub has_no_section : List SpelledRecord → Record → Bool
 has_no_section before row = is_loading row && not (list_any (λ q. is_set_section q.row) before)
 
@@ -180,12 +180,12 @@ pub record Follows (before : List SpelledRecord) (p : SpelledRecord) : Type 0 wh
   pub once : states_again before p.row ≡ false
   pub placed : has_no_section before p.row ≡ false
 
--- each record meets these conditions
+-- each record satisfies these conditions
 abbrev pub FollowFrom : List SpelledRecord → List SpelledRecord → Type 0
 FollowFrom before [] = Unit {0}
 FollowFrom before (p ∷ records) = Follows before p × FollowFrom (before ++ p ∷ []) records
 
--- the indexes of the file are declared once, and those that it names are declared
+-- each record satisfies the conditions above, the variables of the publics' values are declared, and each public has a value
 pub record HasNames (f : FileParts) : Type 0 where
   pub follow : FollowFrom [] (records_of f)
   -- the variables of a public's value are declared up to the end of the external part
@@ -210,7 +210,7 @@ abbrev pub Describes : Parts → Record → Type 0
 Describes m (r.Descriptor bits maus letter) = (bits ≡ 8) × (maus ≡ m.maus) × IsLetterOf m.order letter
 Describes m _ = ⊥
 
--- what the parts state is what the module has
+-- the parts of the file state exactly what the module contains
 pub record States (f : FileParts) (ix : Indexes) (m : Parts) : Type 0 where
   pub begin : NamesModule m f.begin f.begin.row
   pub descriptor : Describes m f.descriptor.row
@@ -223,6 +223,6 @@ pub record States (f : FileParts) (ix : Indexes) (m : Parts) : Type 0 where
   pub loads : m.loads ≡ loads_of ix m.maus f.loads
   pub start : option_to_list m.start ≡ starts_of ix f.trailer
 
--- The bytes are a file of the module; its debug part is read, or passed over.
+-- The bytes are a file of the module. Its debug part is read if the flag is true, and skipped otherwise.
 abbrev pub SpellsModule : Parts → List ℕ → Bool → Type 0
 SpellsModule m bytes reads_debug = (f : FileParts) × IsCutInto bytes reads_debug f × HasNames f × States f (indexes_of f) m × IsValid m

@@ -1,5 +1,5 @@
--- The bounds that the parts of a module have by their types: those of numbers, positions, bytes and
--- expressions. A law on all parts that writes or reads them has it as its premise.
+-- The bounds that the types of numbers, positions, bytes and expressions set to the parts of a module. Laws about
+-- the writing or the reading of all parts have these bounds as a premise.
 use Rattle.std.specs.Prelude.{ℕ, ◌<◌, ◌≤◌, ◌^◌, length, All, IfSome}
 use Rattle.std.specs.List.{AllByRecursion}
 use Rattle.mufom_numbers.specs.Spelling.{AreBytes}
@@ -27,7 +27,7 @@ IsNumber n = n < 2 ^ 64
 abbrev pub IsPosition : ℕ → Type 0
 IsPosition n = n < 2 ^ 32
 
--- the tree of an expression: 1 to 255 tokens, each of which the code can hold
+-- the tree of an expression: at most 255 tokens, each of which the code can represent
 abbrev pub IsMadeTree : Tree → Type 0
 IsMadeTree tree = (length (tokens_of tree) ≤ 255) × AllByRecursion IsInRange (tokens_of tree)
 

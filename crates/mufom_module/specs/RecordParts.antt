@@ -30,7 +30,7 @@ number_of data_part = 5
 number_of trailer_part = 6
 number_of end_part = 7
 
--- the part that a record is in; those of the header are in none
+-- the part to which a record belongs; the records of the header belong to none
 abbrev pub part_of : Record → Option Part
 part_of (r.ModuleBegin _ _) = None
 part_of (r.Descriptor _ _ _) = None
@@ -70,7 +70,7 @@ is_this_part part (Some other) = number_of part == number_of other
 abbrev pub stands_in : Part → Record → Bool
 stands_in part row = is_this_part part (part_of row)
 
--- further items may follow an LR and its items
+-- items may follow the record: it is an LR, an RE of an LR, or an item
 abbrev pub opens_items : Record → Bool
 opens_items r.Relocate = true
 opens_items (r.RepeatRelocate _) = true

@@ -25,7 +25,7 @@ pub record SpelledRecord : Type 0 where
 abbrev pub bytes_of : List SpelledRecord → List ℕ
 bytes_of records = joined (map (λ p. p.bytes) records)
 
--- the bytes of a part of the record
+-- the bytes of the record at a position in it
 abbrev pub text_in : SpelledRecord → Span → List ℕ
 text_in p span = slice_range p.bytes span.start (span.start + span.len)
 
@@ -35,7 +35,7 @@ tree_in p span = the_term (tokens_in (text_in p span))
 
 -- ---- indexes
 
--- what an index is an index of
+-- the kinds of entries to which a file gives indexes
 pub data Kind : Type 0 where
   section : Kind
   public : Kind
@@ -162,7 +162,7 @@ is_same_statement (section_base i) (section_base j) = i == j
 is_same_statement start_address start_address = true
 is_same_statement _ _ = false
 
--- what the record states of this: ASI, WX, SA, ASS, ASL and ASG state something
+-- what the record states that may be stated only once; the records ASI, WX, SA, ASS, ASL and ASG do
 abbrev pub assigned_by : Record → Option Once
 assigned_by (r.PublicValue i _) = Some (value_of_public i)
 assigned_by (r.WeakReference i _ _) = Some (weakness i)
@@ -172,13 +172,13 @@ assigned_by (r.SectionBase i _) = Some (section_base i)
 assigned_by (r.Start _) = Some start_address
 assigned_by _ = None
 
--- a record states it
+-- one of the records states it
 abbrev pub is_assigned : List SpelledRecord → Once → Bool
 is_assigned records once = list_any (is_same_statement once) (filter_map (λ p. assigned_by p.row) records)
 
 -- ---- positions
 
--- the position of an index that is declared
+-- the position of an index in the list, or 0 if it is not there
 abbrev pub position_in : List ℕ → ℕ → ℕ
 position_in indexes i = unwrap_or (position (λ j. j == i) indexes) 0
 

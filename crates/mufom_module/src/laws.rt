@@ -1,4 +1,4 @@
-//! Laws of modules and their files, each the contract of a function that does nothing.
+//! Laws about modules and their files. Each law is the contract of a function with an empty body.
 
 ghost use Rattle.std.specs.Prelude.{◌≡◌, ◌≤◌, ℕ, Bool, List, true};
 ghost use Rattle.mufom_expr.specs.Tree.{Tree};
@@ -27,8 +27,8 @@ pub fn a_file_is_one_module()
     ensures { (m n : Parts) (bytes : List ℕ) (reads_debug : Bool) → SpellsModule m bytes reads_debug → SpellsModule n bytes reads_debug → m ≡ n }
 {}
 
-/// The bytes that a module loads, with the items of a repeat counted once, are at most its weight. So
-/// [`loaded_bytes`](mufom_loads::loaded_bytes) may be called with the loads of any module.
+/// The number of bytes that a module loads, with the items of each repeat counted once, is at most its
+/// weight. So [`loaded_bytes`](mufom_loads::loaded_bytes) may be called with the loads of any module.
 pub fn items_are_within_the_weight()
     ensures { (m : Parts) → IsValid m → lengths_once m.loads ≤ weight m }
 {}

@@ -4,10 +4,10 @@
 //! [`assemble`] checks them for thirteen defects in a fixed order. It returns the parts with the first
 //! defect that they have, or a [`Module`] of exactly these parts: so a `Module` is valid by its type.
 //! The crate depends on `mufom_numbers`, `mufom_expr`, `mufom_records`, `mufom_sections`,
-//! `mufom_names`, `mufom_loads`, `mufom_debug`, `arrayvec` and `thiserror`. Its main clause is that of
-//! [`assemble`], in both directions. [`Module::weight`] is the length in bytes that the written form
-//! would have with nine bytes for each number (except the eight offsets of the parts) and three for the
-//! lead of each string.
+//! `mufom_names`, `mufom_loads`, `mufom_debug`, `arrayvec` and `thiserror`. Its main clause is that
+//! [`assemble`] returns a module if and only if the parts have no defect. [`Module::weight`] is the length
+//! in bytes that the written form would have with nine bytes for each number (except the eight offsets of
+//! the parts) and three for the lead of each string.
 //!
 //! `SpellsModule`, in `specs/Grammar.antt`, defines which bytes are the file of a module. It is a
 //! relation on the whole file, which readers and writers share. The laws are the contracts of this

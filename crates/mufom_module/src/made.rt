@@ -1,4 +1,4 @@
-//! The bounds that the parts of a module have by their types, shown for each entry in one walk. It computes nothing.
+//! Proves, in a walk over the parts of a module, the bounds that their types set. The walk computes nothing.
 
 ghost use Rattle.std.specs.Prelude.{◌<◌, ◌≤◌, ◌^◌, All, IfSome, length};
 ghost use Rattle.mufom_numbers.specs.Spelling.{AreBytes};

@@ -86,14 +86,14 @@ pub enum Defect {
     /// An alignment is 0, or more than 2^31 MAUs.
     #[error("invalid alignment")]
     BadAlign,
-    /// A section with the letters of an absolute one has no base.
+    /// An absolute section (letters `A S`) has no base.
     #[error("an absolute section has no base")]
     MissingBase,
     /// A position is outside its list, or a debug name is used before it is declared.
     #[error("an entry refers to a position outside its list")]
     Position,
-    /// A public, the start address or a debug item uses a program counter, or a load uses that of a
-    /// section into which it does not load and whose counter it does not set.
+    /// A public, the start address or a debug item uses a program counter, or a load uses the program
+    /// counter of a section other than the one that it loads into or whose counter it sets.
     #[error("misplaced program counter")]
     MisplacedP,
     /// An item or a repeat is loaded before any section is set.
@@ -147,7 +147,7 @@ impl Drop for Module {
 }
 
 impl Module {
-    /// The module of parts that are known to have no defects. Does not check them, and does not allocate.
+    /// Makes a module of parts that are known to have no defect, without checking them. Does not allocate.
     pub fn sound(parts: Parts) -> Module
         requires { IsValid parts }
         ensures same { result ≡ parts }

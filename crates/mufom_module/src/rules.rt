@@ -29,13 +29,13 @@ pub(crate) struct Counts {
 /// A rule that a mark of the debug part may break.
 #[derive(Clone, Copy)]
 pub(crate) enum Rule {
-    /// The length of its name.
+    /// Its name must not be too long.
     Length,
-    /// The positions that it names, except those of debug names.
+    /// The positions that it names, except those of debug names, must be inside their lists.
     Position(Counts),
-    /// That its expressions contain no program counter.
+    /// Its expressions must not contain a program counter.
     Counter,
-    /// The attribute of a note.
+    /// The attribute of a note must be one that the profile includes.
     Attribute,
 }
 
@@ -144,7 +144,7 @@ pub(crate) fn has_other_counter(allowed: Option<u32>, value: &Postfix) -> bool
 
 // ---- one defect each
 
-/// More than 32 blocks are open at once.
+/// Whether more than 32 blocks are open at once.
 pub(crate) fn is_too_deep(parts: &Parts) -> bool
     ensures { result ≡ has_defect parts.now Defect.Depth }
 {
@@ -172,7 +172,7 @@ fn reference_names_are_long(references: &[Reference]) -> bool
     references.iter().any(|r| is_long(r.name.as_slice()))
 }
 
-/// A string is too long.
+/// Whether a string is too long.
 pub(crate) fn has_long_string(parts: &Parts) -> bool
     ensures { result ≡ has_defect parts.now Defect.LongId }
 {
@@ -184,14 +184,14 @@ pub(crate) fn has_long_string(parts: &Parts) -> bool
         || any_breaks(Rule::Length, parts.debug.as_slice())
 }
 
-/// The size of an address is not 1 to 8 addressable units.
+/// Whether the size of an address is not 1 to 8 addressable units.
 pub(crate) fn has_bad_units(parts: &Parts) -> bool
     ensures { result ≡ has_defect parts.now Defect.BadMaus }
 {
     parts.maus < 1 || parts.maus > 8
 }
 
-/// An alignment is 0 or too large.
+/// Whether an alignment is 0 or too large.
 pub(crate) fn has_bad_alignment(parts: &Parts) -> bool
     ensures { result ≡ has_defect parts.now Defect.BadAlign }
 {
@@ -202,7 +202,7 @@ pub(crate) fn has_bad_alignment(parts: &Parts) -> bool
         .any(|s| s.align == 0 || s.align > MOST_ALIGNMENT)
 }
 
-/// A section with the letters of an absolute one has no base.
+/// Whether an absolute section (letters `A S`) has no base.
 pub(crate) fn lacks_base(parts: &Parts) -> bool
     ensures { result ≡ has_defect parts.now Defect.MissingBase }
 {
@@ -244,7 +244,7 @@ fn has_bad_place(counts: Counts, load: &Load) -> bool
     }
 }
 
-// Whether one of the loads does.
+// Whether one of the loads has a section or a variable with a position outside its list.
 fn loads_have_bad_place(counts: Counts, loads: &[Load]) -> bool
     ensures { result ≡ list_any (has_bad_place counts) loads.now }
 {
@@ -268,8 +268,8 @@ fn start_names_outside(counts: Counts, start: &Option<Postfix>) -> bool
     }
 }
 
-/// A variable, a load or a block has a position outside its list, or a debug name is used before it is
-/// declared.
+/// Whether a variable, a load or a block has a position outside its list, or a debug name is used before
+/// it is declared.
 pub(crate) fn has_bad_position(parts: &Parts) -> bool
     ensures { result ≡ has_defect parts.now Defect.Position }
 {
@@ -301,8 +301,8 @@ fn items_have_other_counter(allowed: Option<u32>, items: &[Item]) -> bool
         .any(|item| item_has_other_counter(allowed, item))
 }
 
-// Whether the load contains a program counter of a section other than the one that it sets or goes
-// to.
+// Whether the load contains the program counter of a section other than the one that it loads into or
+// whose counter it sets.
 fn misplaces_counter(current: Option<u32>, load: &Load) -> bool
     ensures { result ≡ misplaces_counter (current, load.now) }
 {
@@ -357,8 +357,8 @@ fn start_has_counter(start: &Option<Postfix>) -> bool
     }
 }
 
-/// A public, the start or a debug expression contains a program counter, or a load contains one of a
-/// section that it may not name.
+/// Whether a public, the start address or a debug expression contains a program counter, or a load
+/// contains one that it may not use.
 pub(crate) fn has_misplaced_counter(parts: &Parts) -> bool
     ensures { result ≡ has_defect parts.now Defect.MisplacedP }
 {
@@ -380,7 +380,7 @@ fn load_is_nowhere(current: Option<u32>, load: &Load) -> bool
     }
 }
 
-/// An item or a repeat is before the first section is set.
+/// Whether an item or a repeat is loaded before any section is set.
 pub(crate) fn loads_nowhere(parts: &Parts) -> bool
     ensures { result ≡ has_defect parts.now Defect.NoSection }
 {
@@ -423,7 +423,7 @@ fn load_has_long_literal(load: &Load) -> bool
     }
 }
 
-/// A literal is too long.
+/// Whether a literal is too long.
 pub(crate) fn has_long_literal(parts: &Parts) -> bool
     ensures { result ≡ has_defect parts.now Defect.LongRun }
 {
@@ -463,7 +463,7 @@ fn load_has_bad_size(load: &Load) -> bool
     }
 }
 
-/// The size of a field is not 1 to 8 bytes.
+/// Whether the size of a field is not 1 to 8 bytes.
 pub(crate) fn has_bad_size(parts: &Parts) -> bool
     ensures { result ≡ has_defect parts.now Defect.FieldSize }
 {
@@ -474,14 +474,14 @@ pub(crate) fn has_bad_size(parts: &Parts) -> bool
         .any(|load| load_has_bad_size(load))
 }
 
-/// The attribute of a debug note is unknown.
+/// Whether the attribute of a debug note is unknown.
 pub(crate) fn has_unknown_attribute(parts: &Parts) -> bool
     ensures { result ≡ has_defect parts.now Defect.Attribute }
 {
     any_breaks(Rule::Attribute, parts.debug.as_slice())
 }
 
-/// A module or source block has an expression at its end.
+/// Whether a module block or a source block has an expression at its end.
 pub(crate) fn has_bad_end(parts: &Parts) -> bool
     ensures { result ≡ has_defect parts.now Defect.Nesting }
 {

@@ -273,7 +273,7 @@ pub(crate) fn module_weight(parts: &Parts) -> u64
         .saturating_add(start_weight(&parts.start))
 }
 
-/// The weight is 2^32 or more.
+/// Whether the weight is 2^32 or more.
 pub(crate) fn is_too_heavy(parts: &Parts) -> bool
     ensures { result ≡ has_defect parts.now Defect.Weight }
 {

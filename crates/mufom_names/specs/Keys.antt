@@ -1,4 +1,4 @@
--- The keys of references: bytes that are equal exactly if the references are.
+-- The keys of references: two keys are equal if and only if the references are equal.
 use Rattle.std.specs.Prelude.{◌≡◌, ◌↔◌, ℕ, ◌<◌, ◌^◌, List, [], ◌∷◌, ◌++◌, length, flat_map, Option, Some, None, IfSome}
 use Rattle.std.specs.List.{AllByRecursion}
 use Rattle.std.specs.Int.{w64, to_be_bytes}
@@ -6,7 +6,7 @@ use Rattle.mufom_names.specs.declared.name.Note.{Note}
 use Rattle.mufom_names.specs.declared.name.Weak.{Weak}
 use Rattle.mufom_names.specs.declared.name.Reference.{Reference}
 
--- a number is eight bytes, the most significant first
+-- a number as eight bytes, the most significant first
 unfoldable pub number_key : ℕ → List ℕ
 number_key n = to_be_bytes w64 n
 
@@ -25,7 +25,7 @@ abbrev pub weak_key : Option Weak → List ℕ
 weak_key None = number_key 0
 weak_key (Some weak) = number_key 1 ++ (number_key weak.size ++ number_key weak.default)
 
--- the length of the name and the name, what makes it weak, the count of the notes, and the notes
+-- the length of the name and the name, the weak part, the count of the notes, and the notes
 abbrev pub reference_key : Reference → List ℕ
 reference_key r = number_key (length r.name) ++ (r.name ++ (weak_key r.weak ++ (number_key (length r.notes) ++ notes_key r.notes)))
 
@@ -71,6 +71,6 @@ pub record IsShortReference (r : Reference) : Type 0 where
   pub count : IsShort (length r.notes)
   pub notes : AllByRecursion IsShortNote r.notes
 
--- Two references have equal keys exactly if they are equal.
+-- Two references have equal keys if and only if they are equal.
 abbrev pub EqualKeysAreEqualReferences : Type 0
 EqualKeysAreEqualReferences = (r q : Reference) → IsShortReference r → IsShortReference q → (reference_key r ≡ reference_key q) ↔ IsSameReference r q

@@ -59,7 +59,7 @@ fn add_weak(key: &mut Vec<u8>, weak: Option<Weak>) -> Result<(), NoMemory>
     add_number(key, weak.default)
 }
 
-/// The key by which an index finds a reference: two references have equal keys exactly if their names,
+/// The key by which an index finds a reference. Two references have equal keys if and only if their names,
 /// their weak parts and their notes are equal.
 ///
 /// A key consists of the length of the name and the name; 0 for a strong reference, or 1, the size
@@ -81,8 +81,8 @@ pub fn reference_key(alloc: Global, reference: &Reference) -> Result<Vec<u8>, No
     Ok(key)
 }
 
-/// A law that a proof can cite: two references have equal keys exactly if their names, their weak parts
-/// and their notes are equal.
+/// A law that a proof can cite: two references have equal keys if and only if their names, their weak
+/// parts and their notes are equal.
 pub fn equal_keys_are_equal_references()
     ensures { EqualKeysAreEqualReferences }
 {}

@@ -4,8 +4,8 @@
 //! It depends on `mufom_numbers`, `mufom_expr`, `indexmap` and `arrayvec`. Names are bytes of no
 //! character set, and two names are the same if their bytes are. [`NameTable::find`] returns the first
 //! public with a name, and [`NameTable::duplicate`] the first public whose name an earlier one has;
-//! neither allocates. A [`NameIndex`] finds names by hashing, and a [`KeyIndex`] equal references by
-//! the keys that [`reference_key`] makes of them.
+//! neither allocates. A [`NameIndex`] finds names by hashing, and a [`KeyIndex`] finds equal references
+//! by the keys that [`reference_key`] builds from them.
 #![tactic(auto)]
 
 mod hash_seed;

@@ -11,7 +11,7 @@ use Rattle.mufom_numbers.specs.declared.taken.Taken.TheVariants.{Got, More, Bad}
 abbrev pub AreBytes : List ℕ → Type 0
 AreBytes bytes = AllByRecursion (λ b. b < 256) bytes
 
--- the number whose digits are those of n and then these bytes, the most significant first
+-- the number n with these bytes appended as further digits in base 256, the most significant first
 abbrev pub value_after : ℕ → List ℕ → ℕ
 value_after n [] = n
 value_after n (b ∷ bytes) = value_after (256 * n + b) bytes
@@ -58,13 +58,13 @@ shortest_lead len = if nat_lt len 128 then len ∷ []
 abbrev pub shortest_string : List ℕ → List ℕ
 shortest_string text = shortest_lead (length text) ++ text
 
--- no spelling of the same has fewer bytes
+-- every spelling (a list that satisfies Spells) has at least as many bytes as this one
 abbrev pub NoneIsShorter : (List ℕ → Type 0) → List ℕ → Type 0
 NoneIsShorter Spells bytes = (other : List ℕ) → Spells other → length bytes ≤ length other
 
 -- ---- reading at the start of an input
 
--- the number at the start, and how many bytes it takes
+-- reads the number at the start of the input: the number and the length of its spelling in bytes, More, or an error
 abbrev pub number_at : List ℕ → Taken ℕ
 number_at [] = More
 number_at (lead ∷ bytes) = if nat_lt lead 128 then Got lead 1
@@ -72,12 +72,12 @@ number_at (lead ∷ bytes) = if nat_lt lead 128 then Got lead 1
     else (if nat_lt (length bytes) (lead - 128) then More
     else Got (big_endian (take (lead - 128) bytes)) (lead - 127)))
 
--- the span of a string of len bytes after a lead of `lead` bytes, if they are there
+-- the span of a string of `len` bytes that follows a lead of `lead` bytes, or More if the input ends before the string does
 abbrev pub string_after : ℕ → ℕ → List ℕ → Taken Span
 string_after lead len input = if nat_lt (length input) (lead + len) then More
     else Got (record { start = lead; len = len }) (lead + len)
 
--- the span of the bytes of the string at the start, and how many bytes it takes with its lead
+-- reads the string at the start of the input: the span of its bytes and the length of lead and string in bytes, More, or an error
 abbrev pub string_at : List ℕ → Taken Span
 string_at [] = More
 string_at (lead ∷ bytes) = if nat_lt lead 128 then string_after 1 lead (lead ∷ bytes)
@@ -94,13 +94,13 @@ string_at (lead ∷ bytes) = if nat_lt lead 128 then string_after 1 lead (lead �
 
 -- ---- definitions for clauses
 
--- a fact about the value and the number of bytes that were taken
+-- if a value was read, P holds for the value and the number of bytes that it takes
 abbrev pub IfGot : {X : Type 0} → Taken X → (X → ℕ → Type 0) → Type 0
 IfGot (Got x used) P = P x used
 IfGot More P = Unit {0}
 IfGot (Bad offset reason) P = Unit {0}
 
--- a fact about the offset of an error
+-- if there is an error, P holds for its offset
 abbrev pub IfBad : {X : Type 0} → Taken X → (ℕ → Type 0) → Type 0
 IfBad (Got x used) P = Unit {0}
 IfBad More P = Unit {0}
@@ -110,7 +110,7 @@ IfBad (Bad offset reason) P = P offset
 abbrev pub IsCutOff : (List ℕ → Type 0) → List ℕ → Type 0
 IsCutOff Spells input = (rest : List ℕ) × (rest ≢ []) × Spells (input ++ rest)
 
--- the first byte is in the range from low to high
+-- there is a first byte, and it is between low and high, inclusive
 abbrev pub BeginsIn : ℕ → ℕ → List ℕ → Type 0
 BeginsIn low high [] = ⊥
 BeginsIn low high (b ∷ _) = (low ≤ b) × (b ≤ high)

@@ -1,6 +1,6 @@
-//! The codes of a module file: records, letters, functions and brackets, one byte each. Reader, writer and definitions
-//! share them. Those of records, letters, brackets, the sum and the difference are those of the public `ieee.h` (IEEE Std
-//! 695); those of the other functions are this project's profile.
+//! The codes of a module file: records, letters, functions and brackets, one byte each. The reader, the
+//! writer and the specs use them. The codes of records, letters, brackets, the sum and the difference are
+//! those of the public `ieee.h` (IEEE Std 695); those of the other functions are this project's profile.
 
 // Leads of numbers and strings.
 

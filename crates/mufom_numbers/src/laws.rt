@@ -1,4 +1,4 @@
-//! Laws of the spellings, each the contract of a function that does nothing.
+//! Laws about spellings. Each law is the contract of a function with an empty body.
 
 ghost use Rattle.std.specs.Prelude.{◌≡◌, ◌+◌, ◌<◌, ◌^◌, ℕ, List, [], ◌++◌, length};
 ghost use Rattle.mufom_numbers.specs.Spelling.{SpellsNumber, SpellsString, number_at, string_at, shortest_number, shortest_lead};

@@ -4,7 +4,7 @@
 //! This is the lowest layer: it depends only on `std`, `arrayvec`, `smallvec` and `thiserror`. Its
 //! main clause is that [`read_number`] and [`read_string`] accept exactly the spellings. If the input
 //! begins with a spelling, they return its value; if the input is a proper prefix of a spelling, they
-//! ask for more bytes; anything else is an error at the first byte.
+//! return [`Taken::More`]; anything else is an error at the first byte.
 #![tactic(auto)]
 
 mod bytes;

@@ -16,6 +16,6 @@ pub enum Taken<T> {
     Got(T, usize),
     /// There is no error so far, and more bytes are needed.
     More,
-    /// An error at this offset in the input, in bytes, whatever bytes follow.
+    /// An error at this byte offset in the input, whatever bytes follow.
     Bad { offset: usize, reason: Reason },
 }

@@ -1,4 +1,4 @@
--- Where the entries of a list of modules come from: the module, and the file in which it was read.
+-- The origins of the entries of a list of modules: the module, and the file from which it was read.
 use Rattle.std.specs.Prelude.{◌≡◌, ℕ, List, [], ◌∷◌, map, length, take, drop, count_by, Bool, Option, is_some, slice_get}
 use Rattle.std.specs.Option.{option_and_then}
 use Rattle.mufom_expr.specs.Tree.{Tree}
@@ -18,11 +18,11 @@ FileModule = ℕ × Parts
 abbrev pub numbered : List Parts → List FileModule
 numbered ms = enumerate_from 0 ms
 
--- the modules without the numbers of their files
+-- the modules, without the numbers of their files
 abbrev pub modules_of : List FileModule → List Parts
 modules_of files = map (λ f. f.1) files
 
--- what is kept of a module
+-- the origin of a module's entries
 abbrev pub origin_of : FileModule → Origin
 origin_of f = record {
   file = f.0;
@@ -36,15 +36,15 @@ origin_of f = record {
 abbrev pub origins_of : List FileModule → List Origin
 origins_of files = map origin_of files
 
--- What is left of the origins if a link keeps some of its sections and publics, by a mark for each of them: every module has as many of
--- them as are left of its own. References are counted as before.
+-- The origins once a link keeps only some of its sections and publics, given a mark for each of them: every module has the number of its own that are
+-- left. The numbers of references do not change.
 abbrev pub origins_left : (sections publics : List Bool) → List Origin → List Origin
 origins_left sections publics [] = []
 origins_left sections publics (o ∷ origins) =
     record o { sections = set_marks (take o.sections sections); publics = set_marks (take o.publics publics) }
     ∷ origins_left (drop o.sections sections) (drop o.publics publics) origins
 
--- how many entries of a kind a module has
+-- the number of a module's entries of a kind
 abbrev pub count_of : Kind → Origin → ℕ
 count_of Sections o = o.sections
 count_of Publics o = o.publics
@@ -53,17 +53,17 @@ count_of References o = o.references
 abbrev pub counts_of : Kind → List Origin → List ℕ
 counts_of kind origins = map (count_of kind) origins
 
--- the code's ends of the entries of a kind in each module
+-- the code's ends of the entries of a kind, for each module
 abbrev pub AreEnds : Kind → List Origin → List ℕ → Type 0
 AreEnds kind origins ends = ends ≡ map capped (ends_from 0 (counts_of kind origins))
 
--- the ends of all kinds are those of these modules
+-- the ends of each kind are those of these modules
 pub record AreIndexed (origins : List Origin) (sections publics references : List ℕ) : Type 0 where
   pub sections_end : AreEnds Sections origins sections
   pub publics_end : AreEnds Publics origins publics
   pub references_end : AreEnds References origins references
 
--- ---- what a place means
+-- ---- the entry at a place
 
 -- the entry at a place
 abbrev pub entry_of : {X : Type 0} → (Parts → List X) → List FileModule → Place → Option X

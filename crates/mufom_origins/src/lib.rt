@@ -1,10 +1,10 @@
-//! Where the entries of a flat list of modules come from: for each section, public and reference its
-//! module and the file that the module was read from.
+//! The origins of the entries of a flat list of modules: the module of each section, public and reference,
+//! and the file from which that module was read.
 //!
-//! A link keeps the order of sections, publics and references but forgets the modules; this crate
-//! keeps how many of each every module had. Its main clause is that [`Origins::section`] returns the
-//! module and the position in it of a section of the flat list, which [`sections_come_from_modules`]
-//! ties to the flat list itself.
+//! A link keeps the order of sections, publics and references but forgets the modules; this crate keeps the
+//! number of each that every module had. Its main clause is that [`Origins::section`] returns the module of a
+//! section of the flat list and the section's position in it, which [`sections_come_from_modules`] relates to
+//! the flat list itself.
 #![tactic(auto)]
 
 mod laws;

@@ -1,4 +1,4 @@
-//! Origins: how many sections, public symbols and references each module has.
+//! Origins: the numbers of sections, public symbols and references of each module.
 
 ghost use Rattle.std.specs.Prelude.{◌≡◌, ◌<◌, ◌≤◌, ◌^◌, ◌+◌, ◌++◌, drop, length, map, option_map, option_to_list, position, slice_get, take, nat_le};
 ghost use Rattle.std.specs.Prelude.{ℕ, List as list, IfOk, OnOk};
@@ -11,7 +11,7 @@ use mufom_numbers::{Bytes, NoMemory};
 use std::alloc::Global;
 use std::marker::Model;
 
-/// What is kept of a module.
+/// The origin of a module's entries.
 #[derive(Debug, Drop)]
 pub struct Origin {
     /// The number of the file that the module was read from, among the files of the command.
@@ -28,7 +28,7 @@ pub struct Origin {
     pub has_start: bool,
 }
 
-/// Where an entry of a flat list comes from.
+/// The place from which an entry of a flat list comes.
 #[derive(Clone, Copy, Debug, PartialEq, Eq)]
 pub struct Place {
     /// The position of its module in the flat list, from 0.
@@ -45,12 +45,12 @@ enum Kind {
     References,
 }
 
-/// The modules of a flat list, with the number of each one's entries. Contracts see the list of what is
-/// kept of each module.
+/// The modules of a flat list, with the numbers of their entries. Contracts see it as the list of the
+/// modules' origins.
 #[derive(Drop)]
 pub struct Origins {
     modules: Vec<Origin>,
-    // How many entries of a kind there are up to the end of each module.
+    // The number of entries of a kind up to the end of each module.
     sections: Vec<usize>,
     publics: Vec<usize>,
     references: Vec<usize>,
@@ -70,7 +70,7 @@ impl Model for Origins {
 
 // ---- the ends of a kind
 
-// How many entries of a kind the module has.
+// The number of a module's entries of a kind.
 fn count_of(kind: Kind, origin: &Origin) -> usize
     ensures { result ≡ count_of kind origin.now }
 {
@@ -81,7 +81,7 @@ fn count_of(kind: Kind, origin: &Origin) -> usize
     }
 }
 
-// How many entries of a kind there are up to the end of each module.
+// The number of entries of a kind up to the end of each module.
 fn ends_of(alloc: Global, kind: Kind, modules: &[Origin]) -> Result<Vec<usize>, NoMemory>
     ensures { IfOk result (λ ends. AreEnds kind modules.now ends.items) }
 {
@@ -94,7 +94,7 @@ fn ends_of(alloc: Global, kind: Kind, modules: &[Origin]) -> Result<Vec<usize>, 
     Ok(ends)
 }
 
-// The number of ends that are at most this number.
+// The number of ends that are not greater than `number`.
 fn ended(ends: &[usize], number: usize) -> usize
     requires { IsNonDecreasing ends.now }
     ensures { HasEnded ends.now number result }
@@ -106,7 +106,7 @@ fn ended(ends: &[usize], number: usize) -> usize
     )
 }
 
-// How many entries there are before the module with a position.
+// The number of entries before the module at a position.
 fn entries_before(ends: &[usize], position: usize) -> usize
     requires { position < length ends.now }
     ensures { result ≡ entries_before 0 ends.now position }
@@ -114,7 +114,7 @@ fn entries_before(ends: &[usize], position: usize) -> usize
     if position == 0 { 0 } else { ends[position - 1] }
 }
 
-// Where the entry with a number is.
+// The place of the entry with a number.
 fn place_of(ends: &[usize], number: u32) -> Option<Place>
     requires { IsNonDecreasing ends.now }
     ensures { (counts : list ℕ) → ends.now ≡ map capped (ends_from 0 counts) → result ≡ place_in counts number }
@@ -131,7 +131,7 @@ fn place_of(ends: &[usize], number: u32) -> Option<Place>
 
 // ---- modules
 
-// What is kept of a module, of the file with this number.
+// The origin of a module, read from the file with this number.
 fn origin_of(alloc: Global, file: u32, entry: &Module) -> Result<Origin, NoMemory>
     ensures { IfOk result (λ origin. origin ≡ origin_of (file, entry.now)) }
 {
@@ -147,7 +147,7 @@ fn origin_of(alloc: Global, file: u32, entry: &Module) -> Result<Origin, NoMemor
     })
 }
 
-// A copy of what is kept of a module.
+// A copy of an origin.
 fn copy_of(alloc: Global, origin: &Origin) -> Result<Origin, NoMemory>
     ensures { IfOk result (λ copy. copy ≡ origin.now) }
 {
@@ -162,7 +162,7 @@ fn copy_of(alloc: Global, origin: &Origin) -> Result<Origin, NoMemory>
     })
 }
 
-// Appends a copy, if there is one to make.
+// Appends a copy of the origin, if there is one.
 fn push_copy(
     alloc: Global,
     origin: Option<&Origin>,
@@ -210,7 +210,7 @@ fn copy_chosen(
     Ok(())
 }
 
-// How many marks are set.
+// The number of set marks.
 fn set_marks(marks: &[bool]) -> usize
     ensures { result ≡ set_marks marks.now }
 {
@@ -223,7 +223,7 @@ fn set_marks(marks: &[bool]) -> usize
     count
 }
 
-// The first marks, at most this many, and the others.
+// The first `count` marks, or all if there are fewer, and the others.
 fn split_marks(marks: &[bool], count: usize) -> (&[bool], &[bool])
     ensures first { result.0.now ≡ take count marks.now }
     ensures others { result.1.now ≡ drop count marks.now }
@@ -234,7 +234,7 @@ fn split_marks(marks: &[bool], count: usize) -> (&[bool], &[bool])
     }
 }
 
-// A copy of what is kept of a module, of whose sections and publics these are the marks.
+// A copy of an origin, with the sections and publics that these marks leave.
 fn copy_left(
     alloc: Global,
     origin: &Origin,
@@ -249,7 +249,7 @@ fn copy_left(
     Ok(copy)
 }
 
-// The modules that are kept from a position on.
+// The origins from a position on.
 fn after_first(modules: &[Origin], count: usize) -> &[Origin]
     ensures { result.now ≡ drop count modules.now }
 {
@@ -272,8 +272,8 @@ impl Origins {
         })
     }
 
-    /// The origins of the modules of a command's files, in their order: each module is that of the file
-    /// whose number is its position. Time and memory are proportional to the modules and their names.
+    /// Returns the origins of the modules of a command's files, in order: the number of a module's file is
+    /// its position. Time and memory are proportional to the number of modules and the length of their names.
     pub fn of(alloc: Global, modules: &[Module]) -> Result<Origins, NoMemory>
         requires { length modules.now < 2 ^ 32 }
         ensures { IfOk result (λ origins. origins ≡ origins_of (numbered modules.now)) }
@@ -285,8 +285,9 @@ impl Origins {
         Origins::indexed(alloc, origins)
     }
 
-    /// The origins of the first `roots` modules and of those of the others that were selected, by their
-    /// positions among these. Time and memory are proportional to the modules and their names.
+    /// Returns the origins of the first `roots` modules and of the selected others, whose positions are
+    /// counted after the first ones. Time and memory are proportional to the number of modules and the length
+    /// of their names.
     pub fn selected(&self, alloc: Global, roots: usize, chosen: &[u32]) -> Result<Origins, NoMemory>
         ensures { IfOk result (λ origins. origins ≡ with_chosen roots chosen.now self.now) }
     {
@@ -296,10 +297,10 @@ impl Origins {
         Origins::indexed(alloc, copies)
     }
 
-    /// The origins of the sections and publics that are left of a link, by a mark for each of them in the
-    /// order of the flat list; a mark is set if the entry is left. They are numbered without the others.
-    /// References keep their numbers. Time and memory are proportional to the marks, the modules and their
-    /// names.
+    /// Returns the origins of the sections and publics that are left of a link, given a mark for each of them
+    /// in the order of the flat list, which is set if the entry is left. The entries that are left are
+    /// numbered anew; references keep their numbers. Time and memory are proportional to the number of marks
+    /// and modules and the length of the names.
     pub fn left(
         &self,
         alloc: Global,
@@ -321,38 +322,38 @@ impl Origins {
         Origins::indexed(alloc, copies)
     }
 
-    /// What is kept of each module, in the order of the flat list.
+    /// Returns the origin of each module, in the order of the flat list.
     pub fn as_slice(&self) -> &[Origin]
         ensures { result.now ≡ self.now }
     {
         self.modules.as_slice()
     }
 
-    /// Where the section with a flat number comes from; `None` past the last section. Takes time that
-    /// grows with the logarithm of the number of modules, and does not allocate.
+    /// Returns the place from which the section with a flat number comes; `None` past the last section. The
+    /// time grows with the logarithm of the number of modules. Does not allocate.
     pub fn section(&self, number: u32) -> Option<Place>
         ensures { result ≡ place_in (map (λ o. o.sections) self.now) number }
     {
         place_of(&self.sections, number)
     }
 
-    /// Where the public with a flat number comes from; `None` past the last public. Takes time that
-    /// grows with the logarithm of the number of modules, and does not allocate.
+    /// Returns the place from which the public with a flat number comes; `None` past the last public. The
+    /// time grows with the logarithm of the number of modules. Does not allocate.
     pub fn public(&self, number: u32) -> Option<Place>
         ensures { result ≡ place_in (map (λ o. o.publics) self.now) number }
     {
         place_of(&self.publics, number)
     }
 
-    /// Where the reference with a flat number comes from; `None` past the last reference. Takes time
-    /// that grows with the logarithm of the number of modules, and does not allocate.
+    /// Returns the place from which the reference with a flat number comes; `None` past the last reference.
+    /// The time grows with the logarithm of the number of modules. Does not allocate.
     pub fn reference(&self, number: u32) -> Option<Place>
         ensures { result ≡ place_in (map (λ o. o.references) self.now) number }
     {
         place_of(&self.references, number)
     }
 
-    /// The position of the first module with a start, in the flat list. Does not allocate.
+    /// Returns the position of the first module with a start, in the flat list. Does not allocate.
     pub fn start(&self) -> Option<usize>
         ensures { result ≡ position (λ o. o.has_start) self.now }
     {

@@ -1,4 +1,4 @@
--- Where a plan puts sections and commons. All numbers are exact: nothing wraps here.
+-- The bases that a plan gives to sections and commons. All numbers are exact: nothing overflows here.
 --
 -- There are two lists. The first has the sections of the modules, which are placed at their own bases or by the lists of the
 -- plan's regions; the second has the commons, which have no base and go to the region that takes them. The positions of the commons
@@ -49,7 +49,7 @@ waiting s = record { section = s.0; align = s.1.align; size = s.1.size }
 abbrev pub waiting_among : List (List ℕ) → List Numbered → List ℕ → List Waiting
 waiting_among listed sections entry = map waiting (filter (goes_to listed entry) sections)
 
--- the sections that a region takes: by the order of its list, and for one entry in the order of the sections
+-- the sections that a region takes, in the order of its list and, for one entry, in the order of the sections
 abbrev pub taken_by : Plan → List Section → Region → List Waiting
 taken_by plan sections region = flat_map (waiting_among (listed_names plan.regions) (numbered sections)) region.sections
 
@@ -61,11 +61,11 @@ waiting_commons sections commons = map waiting (enumerate_from (length sections)
 abbrev pub commons_in : Region → List Waiting → List Waiting
 commons_in region commons = if region.common then commons else []
 
--- what is put into a region: the sections that it takes, and after them the commons if it takes those
+-- the contents of a region: the sections that it takes, followed by the commons if it takes them
 abbrev pub put_into : Plan → List Section → List Section → Region → List Waiting
 put_into plan sections commons region = taken_by plan sections region ++ commons_in region (waiting_commons sections commons)
 
--- sections put one after another from an address on, each aligned
+-- the bases of sections that are placed one after another from an address on, each aligned
 abbrev pub packed : ℕ → ℕ → List Waiting → List Placing
 packed region address [] = []
 packed region address (w ∷ more) = let base = aligned_up w.align address in
@@ -85,13 +85,13 @@ abbrev pub placing_of : List Placing → ℕ → Option Placing
 placing_of [] n = None
 placing_of (p ∷ more) n = last_of (if p.section == n then Some p else None) (placing_of more n)
 
--- a section is at its own base, or where a region puts it, or at 0 if no region does
+-- a section is at its own base, or at the base that a region gives it, or at 0 if no region does
 abbrev pub site_with : Option ℕ → Option Placing → AssignedBase
 site_with (Some base) placing = record { base = base; region = None }
 site_with None (Some placing) = record { base = placing.base; region = Some placing.region }
 site_with None None = record { base = 0; region = None }
 
--- the base of a section or a common, by what regions give
+-- the base of a section or a common, given the bases that regions give
 abbrev pub site_by : List Placing → Numbered → AssignedBase
 site_by given s = site_with s.1.base (placing_of given s.0)
 

@@ -1,5 +1,5 @@
--- What keeps sections and commons from being placed, and which of it is returned. There are two lists, the sections and the commons;
--- positions are those of the one list that has the commons after the sections.
+-- The errors that keep sections and commons from being placed, and which of them is returned. There are two lists, the sections and
+-- the commons; positions are those in the one list that has the commons after the sections.
 use Rattle.std.specs.Prelude.{◌≡◌, ◌≢◌, ◌≤◌, ◌<◌, ◌⊎◌, ℕ, ◌+◌, ◌-◌, ◌%◌, ◌^◌, ◌==◌, List, [], ◌∷◌, ◌++◌, length, take, drop, Option, Some, None}
 use Rattle.std.specs.Prelude.{slice_get, Bool, false, not, ◌&&◌, ◌||◌, nat_lt, nat_le, if◌then◌else◌}
 use Rattle.mufom_numbers.specs.declared.limits.TheConstants.{MOST_ALIGNMENT}
@@ -40,7 +40,7 @@ last_sections count sections = drop (length sections - count) sections
 abbrev pub IsAnswer : Option PlaceRefusal → PlaceRefusal → Type 0
 IsAnswer answer refusal = refusal ≢ NoMemory → answer ≡ Some refusal
 
--- the first of the two that is there
+-- the first of two values that is present
 infixr 20 ◌or_else◌
 abbrev pub ◌or_else◌ : {A : Type 0} → Option A → Option A → Option A
 (Some x) or_else other = Some x
@@ -67,7 +67,7 @@ abbrev pub is_past : List Region → Option ℕ → ℕ → Bool
 is_past regions None end = false
 is_past regions (Some n) end = is_past_region (slice_get regions n) end
 
--- a section lies or ends past the address space, or ends past the region that it is placed in
+-- a section begins outside the address space, ends past its end, or ends past the end of the region that it is placed in
 abbrev pub is_misfit : ℕ → List Region → AssignedBase → ℕ → Bool
 is_misfit modulus regions site size = nat_le modulus site.base || nat_lt modulus (site.base + size) || is_past regions site.region (site.base + size)
 
@@ -86,7 +86,7 @@ extents [] placed = []
 extents (s ∷ more) [] = []
 extents (s ∷ more) (base ∷ placed) = if s.1.size == 0 then extents more placed else record { base = base; section = s.0; size = s.1.size } ∷ extents more placed
 
--- one comes before another by its base, and at one base by its position
+-- the order of sections: by base and, at the same base, by position
 abbrev pub is_before : Extent → Extent → Bool
 is_before x y = nat_lt x.base y.base || ((x.base == y.base) && nat_lt x.section y.section)
 
@@ -99,20 +99,20 @@ abbrev pub in_order : List Extent → List Extent
 in_order [] = []
 in_order (x ∷ more) = put_in_order x (in_order more)
 
--- the first two neighbours of which the later begins before the earlier ends
+-- the first two neighbours of which the second begins before the first ends
 abbrev pub first_overlap : List Extent → Option PlaceRefusal
 first_overlap [] = None
 first_overlap (x ∷ []) = None
 first_overlap (x ∷ y ∷ more) = if nat_lt y.base (x.base + x.size) then Some (Overlap x.section y.section) else first_overlap (y ∷ more)
 
--- what is returned in place of the bases
+-- the error that is returned in place of the bases, if there is one
 abbrev pub place_refusal : ℕ → Plan → List Section → List Section → Option PlaceRefusal
 place_refusal width plan sections commons =
     first_some (unplaced_at (listed_names plan.regions)) (numbered sections)
     or_else (first_some (misfit_at (2 ^ width) plan sections commons) (numbered (sections ++ commons))
     or_else first_overlap (in_order (extents (numbered (sections ++ commons)) (bases plan sections commons))))
 
--- The same as relations, which state nothing of an order.
+-- The same errors as relations, which do not tell which of several errors is returned.
 
 -- the section or common at a position is at a site
 pub record IsAt (plan : Plan) (sections commons : List Section) (n : ℕ) (section : Section) (site : AssignedBase) : Type 0 where
@@ -132,8 +132,8 @@ pub record EndsPast (regions : List Region) (n end : ℕ) : Type 0 where
   pub found : slice_get regions n ≡ Some region
   pub past : region.base + region.size < end
 
--- The section or common at a position lies or ends past the address space, or ends past the region that it is placed in. The region
--- is none for a section with a base of its own.
+-- The section or common at a position begins outside the address space, ends past its end, or ends past the end of the region that
+-- it is placed in. The region is None for a section with a base of its own.
 pub record IsMisfit (modulus : ℕ) (plan : Plan) (sections commons : List Section) (n : ℕ) (region : Option ℕ) : Type 0 where
   pub section : Section
   pub site : AssignedBase
@@ -149,7 +149,7 @@ pub record Covers (plan : Plan) (sections commons : List Section) (n address : �
   pub above : site.base ≤ address
   pub below : address < site.base + section.size
 
--- two different ones share an address; none of them is empty then
+-- two different sections or commons share an address, so neither of them is empty
 pub record IsOverlap (plan : Plan) (sections commons : List Section) (m n : ℕ) : Type 0 where
   pub differ : m ≢ n
   pub address : ℕ

@@ -32,7 +32,7 @@ pub(crate) fn site(base: Option<u64>, placing: Option<Placing>) -> AssignedBase
     }
 }
 
-/// An end is above that of the region.
+/// Whether an end is above the end of the region.
 fn is_past(regions: &[Region], region: Option<u32>, end: u128) -> bool
     ensures { result ≡ ends_past regions.now region end }
 {

@@ -1,4 +1,4 @@
-//! Laws of the definitions, each the contract of a function that does nothing.
+//! Laws about the definitions. Each law is the contract of a function with an empty body.
 
 ghost use Rattle.std.specs.Prelude.{◌≡◌, ℕ, List, None, Some};
 ghost use Rattle.mufom_sections.specs.declared.section.Section.{Section};
@@ -6,8 +6,8 @@ ghost use Rattle.mufom_plan.specs.declared.plan.Plan.{Plan};
 ghost use Rattle.mufom_place.specs.declared.refusal.PlaceRefusal.{PlaceRefusal};
 ghost use Rattle.mufom_place.specs.Facts.{Stands, place_refusal};
 
-/// What is returned in place of bases is a fact that holds, and if nothing is returned no fact
-/// holds. So a fact is returned exactly if one holds.
+/// An error that is returned in place of bases is a fact that holds, and if no error is returned, no
+/// fact holds. So an error is returned if and only if some fact holds.
 pub fn place_refusals_are_facts()
     ensures sound { (width : ℕ) (plan : Plan) (sections commons : List Section) (fact : PlaceRefusal)
         → place_refusal width plan sections commons ≡ Some fact → Stands width plan sections commons fact }

@@ -30,7 +30,7 @@ fn extents(alloc: Global, sections: &[Section], bases: &[u64]) -> Result<Vec<Ext
     Ok(extents)
 }
 
-/// The first two neighbours of which the later begins before the earlier ends.
+/// The first two neighbours of which the second begins before the first ends.
 fn first_overlap(extents: &[Extent]) -> Option<PlaceRefusal>
     ensures { result ≡ overlap_of extents.now }
 {
@@ -46,7 +46,7 @@ fn first_overlap(extents: &[Extent]) -> Option<PlaceRefusal>
     None
 }
 
-/// The sections that overlap, the first by base and then by position.
+/// The first two neighbours that overlap, in the order of the bases and then of the positions.
 pub fn overlap(
     alloc: Global,
     sections: &[Section],

@@ -48,16 +48,16 @@ pub(crate) fn regional(
 /// other section that has a base stays there. The rest are placed in the regions whose lists match
 /// their names: in the order of the list, and for one entry in the order of the sections. Each is at the
 /// least multiple of its alignment that is not below the end of the section before it; for the first
-/// one, not below the region's base. The entry `*` matches the name `*` and all names that no list has. In the common
-/// region the commons follow in their order by the same rule, whatever their names. Bases and
-/// sizes are in addressable units.
+/// one, not below the region's base. The entry `*` matches the name `*` and all names that are in no list.
+/// In the region that takes the commons, they follow in their order by the same rule, whatever their names.
+/// Bases and sizes are in addressable units.
 ///
 /// `width` is the number of bits of an address, a multiple of 8 from 8 to 64. Alignments are 1 to
 /// 2^31, there are fewer than 2^32 sections and regions, no section name occurs twice in the plan,
-/// and at most one region is common, as [`read_plan`](mufom_plan::read_plan) gives it. There are
-/// commons only if a region is common. `Unplaced` is reported first, then `Misfit`, each with the
-/// first such section, and then `Overlap`, with the first two neighbours by base and then by
-/// position. Commons are never `Unplaced`.
+/// and at most one region takes the commons, as [`read_plan`](mufom_plan::read_plan) ensures. If there are
+/// commons, some region must take them. `Unplaced` is reported first, then `Misfit`, each with the first such
+/// section, and then `Overlap`, with the first two neighbours by base and then by position. Commons are
+/// never `Unplaced`.
 pub fn place(
     alloc: Global,
     sections: &[Section],

@@ -9,8 +9,8 @@ pub enum PlaceRefusal {
     /// A section has no base, and no list of the plan matches its name.
     #[error("no region takes section {0}")]
     Unplaced(u32),
-    /// A section lies or ends past the address space, or ends past the region that it is placed
-    /// in. A section with a base of its own is in no region.
+    /// A section begins outside the address space, ends past its end, or ends past the end of the region that
+    /// it is placed in. A section with a base of its own is in no region.
     #[error("section {section} does not fit")]
     Misfit { section: u32, region: Option<u32> },
     /// Two sections of positive size share an address. The one that begins first comes first.

@@ -19,8 +19,9 @@ use std::alloc::Global;
 /// The bases that the regions of a plan give to sections and commons, region by region and in the order in
 /// which a region is filled, whether they fit there or not.
 ///
-/// No section is unplaced by the plan. Alignments are 1 to 2^31, there are fewer than 2^32 sections,
-/// commons and regions, and no section name occurs twice in the plan. The only error is out of memory.
+/// Every section without a base must match a list of the plan. Alignments are 1 to 2^31, there are fewer than
+/// 2^32 sections and commons together and fewer than 2^32 regions, and no section name occurs twice in the
+/// plan. The only error is out of memory.
 pub fn all_placings(
     alloc: Global,
     sections: &[Section],
@@ -58,8 +59,9 @@ fn section_at<'a>(sections: &'a [Section], commons: &'a [Section], place: usize)
 /// The region of each section, and after them of each common, by a plan; `None` for a section with a
 /// base of its own.
 ///
-/// No section is unplaced by the plan. Alignments are 1 to 2^31, there are fewer than 2^32 sections,
-/// commons and regions, and no section name occurs twice in the plan. The only error is out of memory.
+/// Every section without a base must match a list of the plan. Alignments are 1 to 2^31, there are fewer than
+/// 2^32 sections and commons together and fewer than 2^32 regions, and no section name occurs twice in the
+/// plan. The only error is out of memory.
 pub fn section_regions(
     alloc: Global,
     sections: &[Section],

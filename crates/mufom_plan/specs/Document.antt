@@ -1,4 +1,4 @@
--- The document that bytes are, as `toml` defines it, and what is in it.
+-- The TOML document that bytes spell, as `toml` defines it, and the values in it.
 use Rattle.std.specs.Prelude.{ℕ, ◌==◌, ℤ, pos, negsuc, List, [], ◌∷◌, length, Option, Some, None, option_map, option_and_then, Bool, true, false}
 use Rattle.std.specs.Prelude.{◌&&◌, if◌then◌else◌}
 use Rattle.std.specs.Str.Lossy.{utf8_valid_len}
@@ -6,7 +6,7 @@ use Rattle.toml.specs.Data.{Data, as_bool, as_str, as_integer, as_array, Items, 
 use Rattle.toml.specs.Parse.{parse_document}
 use Rattle.mufom_plan.specs.Names.{has_name}
 
--- the members of the document that the bytes are; bytes that are not UTF-8 have none
+-- the members of the document that the bytes spell, or None if they are not UTF-8 or not a document
 abbrev pub document_of : List ℕ → Option Members
 document_of bytes = if utf8_valid_len bytes == length bytes then parse_document bytes else None
 
@@ -20,24 +20,24 @@ abbrev pub list_of : Items → List Data
 list_of no_items = []
 list_of (item value more) = value ∷ list_of more
 
--- the items of a value that is an array
+-- the items of a value, if it is an array
 abbrev pub items_at : Option Data → Option (List Data)
 items_at value = option_map list_of (option_and_then as_array value)
 
--- an integer that is not negative
+-- the integer as a natural number, or None if it is negative
 abbrev pub natural : ℤ → Option ℕ
 natural (pos n) = Some n
 natural (negsuc n) = None
 
--- the number of a value that is an integer and not negative
+-- the number, if the value is an integer that is not negative
 abbrev pub number_at : Option Data → Option ℕ
 number_at value = option_and_then natural (option_and_then as_integer value)
 
--- the bytes of a value that is a text
+-- the bytes of a value, if it is a text
 abbrev pub text_at : Option Data → Option (List ℕ)
 text_at value = option_and_then as_str value
 
--- the truth value that is at a key; a key that is absent has false
+-- the truth value at a key: false if the key is absent, and None if its value is not a truth value
 abbrev pub truth_at : Option Data → Option Bool
 truth_at None = Some false
 truth_at (Some value) = as_bool value

@@ -1,4 +1,4 @@
--- The plan that bytes state, or the first thing that is wrong with them.
+-- The plan that bytes state, or the first error in them.
 use Rattle.std.specs.Prelude.{ℕ, ◌+◌, ◌==◌, List, [], ◌∷◌, ◌++◌, length, Option, Some, None, option_map, option_and_then, Result, Ok, Err, Bool, true}
 use Rattle.std.specs.Prelude.{false, ◌&&◌, ◌||◌, not, nat_lt, is_some, if◌then◌else◌, codes}
 use Rattle.std.specs.List.{list_all}
@@ -12,7 +12,7 @@ use Rattle.mufom_plan.specs.Names.{has_name, region_names, listed_names}
 use Rattle.mufom_plan.specs.Commons.{has_common}
 use Rattle.mufom_plan.specs.Document.{document_of, has_only_keys, items_at, number_at, text_at, truth_at}
 
--- the value, or the error in its place
+-- passes the value to the next step, or returns the error
 infixl 10 ◌>>=◌
 abbrev pub ◌>>=◌ : {A B : Type 0} → Result A PlanRefusal → (A → Result B PlanRefusal) → Result B PlanRefusal
 (Ok value) >>= f = f value
@@ -35,25 +35,25 @@ plan_keys = codes "region" ∷ []
 abbrev pub region_keys : List (List ℕ)
 region_keys = codes "name" ∷ codes "base" ∷ codes "size" ∷ codes "sections" ∷ codes "common" ∷ []
 
--- the name, if it is not empty and is none of those before
+-- the name, if it is not empty and is none of the earlier names
 abbrev pub new_name : List (List ℕ) → List ℕ → Option (List ℕ)
 new_name earlier name = if (length name == 0) || has_name earlier name then None else Some name
 
--- the name, if it is none of those before, followed by more names
+-- the name followed by more names, if it is none of the earlier names
 abbrev pub before_names : List (List ℕ) → List ℕ → Option (List (List ℕ)) → Option (List (List ℕ))
 before_names earlier name more = if has_name earlier name then None else option_map (λ names. name ∷ names) more
 
--- the texts of an array, if each item is a text that neither the earlier names nor an item before it has
+-- the texts of an array, if each item is a text and none equals an earlier name or an item before it
 abbrev pub new_names : List (List ℕ) → List Data → Option (List (List ℕ))
 new_names earlier [] = Some []
 new_names earlier (value ∷ more) = option_and_then (λ name. before_names earlier name (new_names (earlier ++ name ∷ []) more)) (as_str value)
 
--- whether a region takes the commons, if none before does
+-- whether a region takes the commons, or None if an earlier region takes them too
 abbrev pub new_common : Bool → Bool → Option Bool
 new_common earlier common = if earlier && common then None else Some common
 
--- The region at a position of the plan, by what is in its table: whether the table has the keys of a region alone, the
--- name, the base, the size, the section names and whether it takes the commons, each if it has the shape that it must have.
+-- The region at a position of the plan, from what is in its table: whether the table has only the keys of a region; and the name,
+-- the base, the size, the section names and whether it takes the commons, each None if it does not have the required shape.
 abbrev pub region_with : ℕ → Bool → Option (List ℕ) → Option ℕ → Option ℕ → Option (List (List ℕ)) → Option Bool → Result Region PlanRefusal
 region_with place false name base size sections common = Err (Shape (Some place) field.Extra)
 region_with place true None base size sections common = Err (Shape (Some place) field.Name)
@@ -65,8 +65,8 @@ region_with place true (Some name) (Some base) (Some size) (Some sections) (Some
     if nat_lt 9223372036854775807 (base + size) then Err (Beyond place)
     else Ok (record { name = name; base = base; size = size; sections = sections; common = common })
 
--- the region of a table, at a position of the plan after regions with these names and these section names, of which one takes the
--- commons or none does
+-- the region of a table at a position of the plan, given the names and the section names of the earlier regions and whether one of
+-- them takes the commons
 abbrev pub region_of : ℕ → List (List ℕ) → List (List ℕ) → Bool → Members → Result Region PlanRefusal
 region_of place names listed earlier table =
     region_with place
@@ -77,7 +77,7 @@ region_of place names listed earlier table =
     (option_and_then (new_names listed) (items_at (get_member (codes "sections") table)))
     (option_and_then (new_common earlier) (truth_at (get_member (codes "common") table)))
 
--- regions before more regions
+-- the first regions followed by more regions, or the error of the latter
 abbrev pub in_prefix : List Region → Result (List Region) PlanRefusal → Result (List Region) PlanRefusal
 in_prefix first more = more >>= λ regions. Ok (first ++ regions)
 

@@ -1,4 +1,4 @@
-//! The document of a plan, and what is at its keys.
+//! The TOML document of a plan, and the values at its keys.
 
 ghost use Rattle.std.specs.Prelude.{◌≡◌, ◌≢◌, ◌<◌, ◌^◌, Some, None, IfOk, IfErr, IfSome, option_map, is_some, map, string_bytes};
 ghost use Rattle.std.specs.BTreeMap.{keys};
@@ -13,7 +13,7 @@ use crate::PlanRefusal;
 use std::alloc::Global;
 use toml::{Table, Value};
 
-/// The document that the bytes are.
+/// Parses the bytes as a TOML document. Returns `Syntax` if they are not one.
 pub fn document(alloc: Global, text: &[u8]) -> Result<Table, PlanRefusal>
     ensures ok { IfOk result (λ table. document_of text.now ≡ Some (table_view table)) }
     ensures only { IfErr result (λ refusal. refusal ≢ PlanRefusal.NoMemory → refusal ≡ PlanRefusal.Syntax) }
@@ -29,7 +29,7 @@ pub fn document(alloc: Global, text: &[u8]) -> Result<Table, PlanRefusal>
     }
 }
 
-/// The number of an integer that is not negative.
+/// The number, if the value is an integer that is not negative.
 pub fn number_of(value: Option<&Value>) -> Option<u64>
     ensures number { result ≡ number_at (option_map (λ v. view v.now) value.entry) }
     ensures bound { IfSome result (λ number. number < 2 ^ 63) }
@@ -40,7 +40,7 @@ pub fn number_of(value: Option<&Value>) -> Option<u64>
     }
 }
 
-/// The truth value at a key, which is false if the key is absent.
+/// The truth value at a key: false if the key is absent, `None` if its value is not a truth value.
 pub fn truth_of(value: Option<&Value>) -> Option<bool>
     ensures { result ≡ truth_at (option_map (λ v. view v.now) value.entry) }
 {
@@ -50,14 +50,14 @@ pub fn truth_of(value: Option<&Value>) -> Option<bool>
     }
 }
 
-/// The text of a string.
+/// The text, if the value is a string.
 pub fn text_of(value: Option<&Value>) -> Option<&str>
     ensures { option_map (λ text. text.now) result ≡ text_at (option_map (λ v. view v.now) value.entry) }
 {
     value?.as_str()
 }
 
-/// The items of an array.
+/// The items, if the value is an array.
 pub fn items_of(value: Option<&Value>) -> Option<&[Value]>
     ensures { option_map (λ values. map view values.now) result ≡ items_at (option_map (λ v. view v.now) value.entry) }
 {
@@ -70,7 +70,7 @@ fn are_tables(values: &[Value]) -> bool
     values.iter().all(|value| value.is_table())
 }
 
-/// Each value is a table.
+/// Whether each value is a table.
 pub fn all_tables(values: &[Value]) -> bool
     ensures { result ≡ every_table (map view values.now) }
 {
@@ -101,14 +101,14 @@ fn are_region_keys(table: &Table) -> bool
     table.keys().all(|key| is_region_key(key.as_str()))
 }
 
-/// The document has no key but `region`.
+/// Whether the document has no key except `region`.
 pub fn has_plan_keys(document: &Table) -> bool
     ensures { result ≡ has_only_keys plan_keys (table_view document.now) }
 {
     are_plan_keys(document)
 }
 
-/// The table has no key that a region has not.
+/// Whether the table has only keys that a region may have.
 pub fn has_region_keys(table: &Table) -> bool
     ensures { result ≡ has_only_keys region_keys (table_view table.now) }
 {

@@ -6,7 +6,7 @@ use mufom_numbers::NoMemory;
 use std::alloc::Global;
 use std::marker::Model;
 
-/// Names in the order in which they came, none of them twice, each found by its bytes.
+/// A list of distinct names, in the order in which they were added, with an index that finds each by hashing.
 ///
 /// Contracts see the list of the names.
 pub struct NameList {
@@ -14,7 +14,7 @@ pub struct NameList {
     names: IndexSet<Vec<u8>, HashSeed>,
 }
 
-// Written out so that whoever drops one makes one call: see "Drops" in docs/ARCHITECTURE.md.
+// Written out so that code that drops a list contains a single call: see "Drops" in docs/ARCHITECTURE.md.
 impl Drop for NameList {
     fn drop(self) {
         let NameList { alloc: _, names: _ } = self;
@@ -34,7 +34,7 @@ impl NameList {
     ghost use Rattle.std.specs.Str.{bytes_eq};
     ghost use Rattle.mufom_plan.specs.Names.{has_name};
 
-    /// No names. Keeps the allocator, and hashes from this seed.
+    /// An empty list, which keeps the allocator and hashes with this seed. Does not allocate.
     pub fn new(alloc: Global, seed: HashSeed) -> NameList
         ensures { result ≡ [] }
     {
@@ -44,7 +44,7 @@ impl NameList {
         }
     }
 
-    /// How many names there are.
+    /// The number of names.
     pub fn len(&self) -> usize
         ensures { result ≡ length self.now }
     {

@@ -1,9 +1,9 @@
-//! Memory plans: which regions the address space has, and which sections go where.
+//! Memory plans: the regions of the address space, and the sections that each of them takes.
 //!
-//! A plan is a TOML document. The crate depends on `mufom_numbers`, `mufom_names`, `indexmap`, `thiserror` and `toml`,
-//! which states what document the bytes are. Its main clause is that of [`read_plan`]: the plan that it
-//! returns is the one that the document states, and an error is the first thing that is wrong with
-//! it, in a fixed order. In a plan that was read no section name occurs twice.
+//! A plan is a TOML document. The crate depends on `mufom_numbers`, `mufom_names`, `indexmap`, `thiserror`
+//! and `toml`, which defines the document that the bytes spell. Its main clause is that of [`read_plan`]: it
+//! returns the plan that the document states, or the first error in a fixed order. In a plan that was read no
+//! section name occurs twice.
 #![tactic(auto)]
 
 mod document;

@@ -14,10 +14,10 @@ pub struct Region {
     /// The size of the region, in addressable units.
     pub size: u64,
     /// The names of the sections that are placed here, in this order. The name `*`
-    /// matches itself and each name that no list of the plan has.
+    /// matches itself and each name that is in no list of the plan.
     pub sections: List<Bytes>,
-    /// Whether the commons go here, after those sections. In a plan that was read, at most one
-    /// region has it true.
+    /// Whether the commons are placed here, after those sections. In a plan that was read, this is
+    /// true for at most one region.
     pub common: bool,
 }
 

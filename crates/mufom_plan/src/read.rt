@@ -1,4 +1,4 @@
-//! A plan from the bytes of its file.
+//! Reads a plan from the bytes of its file.
 
 ghost use Rattle.std.specs.Prelude.{◌≡◌, ◌≢◌, ◌^◌, ◌<◌, [], Some, None, Ok, Err, IfOk, IfErr, length, map, option_map};
 ghost use Rattle.toml.specs.View.{table_view, view};
@@ -62,7 +62,7 @@ fn regions_of_value(
     if !all_tables(values) {
         return Err(NO_REGIONS);
     }
-    // No 65,536 bytes state 2^32 regions.
+    // A plan of 65,536 bytes cannot state 2^32 regions.
     if values.len() > u32::MAX as usize {
         return Err(PlanRefusal::NoMemory);
     }
@@ -88,14 +88,14 @@ fn plan(alloc: Global, seed: HashSeed, document: &Table) -> Result<Plan, PlanRef
 /// The plan that the bytes of a file state.
 ///
 /// The plan is a TOML document whose only key is `region`, an array of tables, each with exactly
-/// the keys `name`, `base`, `size` and `sections`, and optionally `common`. No bytes are the plan
-/// without regions. What is wrong is returned in this order: too many bytes, no document, another
+/// the keys `name`, `base`, `size` and `sections`, and optionally `common`. An empty file is the plan
+/// without regions. Errors are returned in this order: too many bytes, no document, another
 /// key, no array of tables, and then region by region another key, the name, the base, the size,
 /// the section names, the truth value `common`, and an end above 2^63 - 1.
 pub fn read_plan(alloc: Global, text: &[u8]) -> Result<Plan, PlanRefusal>
     // The plan is the one that the document states.
     ensures ok { IfOk result (λ plan. plan_of_text text.now ≡ Ok plan) }
-    // The error is the first thing that is wrong, or out of memory.
+    // The error is the first one in the bytes, or out of memory.
     ensures refused { IfErr result (λ refusal. refusal ≢ PlanRefusal.NoMemory → plan_of_text text.now ≡ Err refusal) }
     // No section name occurs twice in the plan.
     ensures distinct { IfOk result (λ plan. AreDistinctNames (listed_names plan.regions)) }

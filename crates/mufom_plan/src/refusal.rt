@@ -8,15 +8,15 @@ use thiserror::Error;
 pub enum PlanField {
     /// The key `region`, which is an array of tables.
     Region,
-    /// A key that a plan, or a region, does not have.
+    /// A key that a plan or a region may not have.
     Extra,
-    /// The key `name`: a text that is not empty and that no region before has.
+    /// The key `name`: a text that is not empty and is not the name of an earlier region.
     Name,
     /// The key `base`: an integer that is not negative.
     Base,
     /// The key `size`: an integer that is not negative.
     Size,
-    /// The key `sections`: an array of texts, none of which is earlier in the plan.
+    /// The key `sections`: an array of texts, none of which occurs earlier in the plan.
     Sections,
     /// The key `common`: a truth value, true in at most one region.
     Common,

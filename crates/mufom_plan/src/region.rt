@@ -22,7 +22,8 @@ pub fn value_at<'a>(table: &'a Table, key: &str) -> Option<&'a Value>
     table.get(key)
 }
 
-/// The region's own name, added to the names of the regions before.
+/// Reads the name of a region, and adds it to the names of the earlier regions. Returns `None` if it does not
+/// have the required shape.
 fn new_name(
     alloc: Global,
     value: Option<&Value>,
@@ -41,7 +42,8 @@ fn new_name(
     Ok(Some(Bytes::from_slice(alloc, bytes)?))
 }
 
-/// The texts of an array, added to the names that lists before have.
+/// Reads the texts of an array, and adds them to the names of earlier lists. Returns `None` if an item is
+/// not a text or occurs already.
 fn texts(
     alloc: Global,
     values: &[Value],
@@ -63,7 +65,8 @@ fn texts(
     Ok(Some(names))
 }
 
-/// The section names of a region, added to those of the regions before.
+/// Reads the section names of a region, and adds them to those of the earlier regions. Returns `None` if they
+/// do not have the required shape.
 fn section_names(
     alloc: Global,
     value: Option<&Value>,
@@ -78,7 +81,8 @@ fn section_names(
     texts(alloc, values, earlier)
 }
 
-/// Whether a region takes the commons, which none does after one that takes them.
+/// Whether a region takes the commons. Returns `None` if an earlier region takes them too, or if the value
+/// is not a truth value.
 fn new_common(value: Option<&Value>, earlier: bool) -> Option<bool>
     ensures { result ≡ option_and_then (fresh_common earlier) (truth_at (option_map (λ v. view v.now) value.entry)) }
 {
@@ -98,8 +102,8 @@ fn shape(place: u32, field: PlanField) -> PlanRefusal
     }
 }
 
-/// The region of a table, whose names are added to those of the regions before. `common` is
-/// whether one of those takes the commons.
+/// Reads the region of a table, and adds its names to those of the earlier regions. `common` tells whether
+/// one of those takes the commons.
 pub fn region(
     alloc: Global,
     place: u32,

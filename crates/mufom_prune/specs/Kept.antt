@@ -1,5 +1,5 @@
--- What of a module is kept for a public symbol (IEEE Std 695, module structure). The entries of a module are its sections, then its
--- publics, then its references, numbered through.
+-- The entries of a module that are kept for a public symbol (IEEE Std 695, module structure). The entries are the sections, then the publics, then
+-- the references; they are numbered in this order.
 use Rattle.std.specs.Prelude.{ℕ, suc, ◌+◌, List, [], ◌∷◌, ◌++◌, length, map, flat_map, option_to_list, Option, Some, None, is_some, Bool, if◌then◌else◌}
 use Rattle.std.specs.Str.{bytes_eq}
 use Rattle.mufom_expr.specs.declared.token.Letter.{Letter}
@@ -17,9 +17,9 @@ use Rattle.mufom_module.specs.Contents.{placed_loads}
 use Rattle.mufom_module.specs.Defects.{counts_of, is_outside, is_this}
 use Rattle.mufom_prune.specs.Reached.{IsReached}
 
--- ---- what an expression mentions
+-- ---- the mentions of an expression
 
--- the number of the first entry that a letter speaks of
+-- the number of the first entry of the kind that a letter names
 abbrev pub first_for : Parts → Letter → ℕ
 first_for m I = length m.sections
 first_for m L = 0
@@ -40,7 +40,7 @@ mentions m t = flat_map (λ v. option_to_list (entry_of m v)) (variables_of t)
 abbrev pub all_mentions : Parts → List Tree → List ℕ
 all_mentions m ts = flat_map (mentions m) ts
 
--- ---- what an entry needs
+-- ---- the needs of an entry
 
 -- the expression of an item
 abbrev pub item_trees : Item → List Tree
@@ -54,23 +54,23 @@ load_trees (SetPc section value) = value ∷ []
 load_trees (One item) = item_trees item
 load_trees (Repeat count items) = flat_map item_trees items
 
--- the section that a load belongs to, if this one is current: the one that it names, or the current one
+-- the section to which a load belongs: the section that it names, or the current one
 abbrev pub home : Option ℕ → Load → Option ℕ
 home current (SetSection section) = Some section
 home current (SetPc section value) = Some section
 home current (One item) = current
 home current (Repeat count items) = current
 
--- what a load, with the section that is current before it, mentions for a section
+-- what a load mentions for a section; the load is paired with the section that is current before it
 abbrev pub mentions_for : Parts → ℕ → Option ℕ × Load → List ℕ
 mentions_for m section p = if is_this (home p.0 p.1) section then all_mentions m (load_trees p.1) else []
 
--- what the sections need, the first of which has this position: what their loads mention
+-- what each section needs, the first having this position: what its loads mention
 abbrev pub section_needs : Parts → List (Option ℕ × Load) → ℕ → List Section → List (List ℕ)
 section_needs m placed place [] = []
 section_needs m placed place (section ∷ sections) = flat_map (mentions_for m place) placed ∷ section_needs m placed (suc place) sections
 
--- the number of the first public with the name, if the first of all has this number
+-- the number of the first public with the name; the first of all publics has number n
 abbrev pub named_from : ℕ → List Public → List ℕ → Option ℕ
 named_from n [] name = None
 named_from n (public ∷ publics) name = if bytes_eq name public.name then Some n else named_from (suc n) publics name
@@ -88,15 +88,15 @@ needs m =
 
 -- ---- what is kept
 
--- the sections with a base, if the first of these has this position
+-- the positions of the sections with a base; the first section has position n
 abbrev pub based_from : ℕ → List Section → List ℕ
 based_from n [] = []
 based_from n (section ∷ sections) = if is_some section.base then n ∷ based_from (suc n) sections else based_from (suc n) sections
 
--- what is kept in any case: each section with a base, the public of the name, and what the start mentions
+-- what is kept in any case: each section with a base, the public with the name, and what the start mentions
 abbrev pub roots : Parts → List ℕ → List ℕ
 roots m keep = based_from 0 m.sections ++ (option_to_list (named m keep) ++ all_mentions m (option_to_list m.start))
 
--- The marked entries are those that are kept for the name: the least set that has the roots, and with each entry what it needs.
+-- The marked entries are those that are kept for the name: the smallest set that contains the roots and, with each entry, everything that it needs.
 abbrev pub IsKept : Parts → List ℕ → List Bool → Type 0
 IsKept m keep marks = IsReached (needs m) (roots m keep) marks

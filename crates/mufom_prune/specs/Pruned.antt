@@ -1,4 +1,4 @@
--- A module without what is not kept: the entries that remain, with the positions of the new lists.
+-- A module without the entries that are not kept: the entries that remain, with their positions in the new lists.
 use Rattle.std.specs.Prelude.{◌≡◌, ℕ, suc, List, [], ◌∷◌, length, map, filter, take, drop, get_or, Option, Some, None, option_map, Bool, true, false}
 use Rattle.std.specs.Prelude.{◌&&◌, ◌||◌}
 use Rattle.mufom_expr.specs.declared.token.Letter.{Letter}
@@ -19,7 +19,7 @@ use Rattle.mufom_select.specs.Choice.{is_marked}
 use Rattle.mufom_prune.specs.declared.positions.NewPositions.{NewPositions}
 use Rattle.mufom_prune.specs.Kept.{home, IsKept}
 
--- ---- lists of which marked elements remain
+-- ---- the marked elements of lists
 
 -- the marked elements, in order
 abbrev pub remaining : {A : Type 0} → List Bool → List A → List A
@@ -28,13 +28,13 @@ remaining (mark ∷ marks) [] = []
 remaining (true ∷ marks) (x ∷ xs) = x ∷ remaining marks xs
 remaining (false ∷ marks) (x ∷ xs) = remaining marks xs
 
--- the new position of each element, if the first that remains has this one; one that goes has the position of the next that remains
+-- the new position of each element, if the first that remains gets position n; a removed element has the position of the next that remains
 abbrev pub new_positions : ℕ → List Bool → List ℕ
 new_positions n [] = []
 new_positions n (true ∷ marks) = n ∷ new_positions (suc n) marks
 new_positions n (false ∷ marks) = n ∷ new_positions n marks
 
--- ---- what remains of a module
+-- ---- the rest of a module
 
 -- a mark for each section, each public and each reference that remains
 pub record Remains : Type 0 where
@@ -46,7 +46,7 @@ pub record Remains : Type 0 where
 abbrev pub marks_of_all : List Bool → List Bool → List Bool → Remains
 marks_of_all sections publics references = record { sections = sections; publics = publics; references = references }
 
--- The references that remain: those with a mark, and the weak ones of a size above 0 with one of the names.
+-- The references that remain: the marked ones, and the weak ones of a size above 0 that have one of the names.
 abbrev pub with_commons : List (List ℕ) → List Bool → List Reference → List Bool
 with_commons names [] references = []
 with_commons names (mark ∷ marks) [] = []
@@ -76,7 +76,7 @@ positions_of c = record {
   references = new_positions 0 c.references;
 }
 
--- the variable that names the same entry in the new lists; past the end of a list, where no variable of a module is, the first
+-- the variable that names the same entry in the new lists; if its number is past the end of a list, which no variable of a module is, number 0
 abbrev pub new_variable : NewPositions → Letter → ℕ → Letter × ℕ
 new_variable c letters.R n = (letters.R, get_or c.sections n 0)
 new_variable c letters.L n = (letters.L, get_or c.sections n 0)
@@ -89,28 +89,28 @@ new_variable c letters.X n = (letters.X, get_or c.references n 0)
 abbrev pub new_tree : NewPositions → Tree → Tree
 new_tree c t = with_variables (new_variable c) t
 
--- the same of a public
+-- a public with the new positions
 abbrev pub new_public : NewPositions → Public → Public
 new_public c p = record { name = p.name; value = new_tree c p.value; notes = p.notes }
 
--- the same of an item
+-- an item with the new positions
 abbrev pub new_item : NewPositions → Item → Item
 new_item c (Literal bytes) = Literal bytes
 new_item c (Field kind size t) = Field kind size (new_tree c t)
 
--- the same of a load
+-- a load with the new positions
 abbrev pub new_load : NewPositions → Load → Load
 new_load c (SetSection section) = SetSection (get_or c.sections section 0)
 new_load c (SetPc section t) = SetPc (get_or c.sections section 0) (new_tree c t)
 new_load c (One item) = One (new_item c item)
 new_load c (Repeat count items) = Repeat count (map (new_item c) items)
 
--- the section, if there is one, remains
+-- the section remains; false if there is none
 abbrev pub is_left : List Bool → Option ℕ → Bool
 is_left marks None = false
 is_left marks (Some section) = is_marked marks section
 
--- the load, with the section that is current before it, remains: the section that it belongs to does
+-- the load remains because the section to which it belongs does; the load is paired with the section that is current before it
 abbrev pub stays : List Bool → Option ℕ × Load → Bool
 stays sections p = is_left sections (home p.0 p.1)
 
@@ -118,7 +118,7 @@ stays sections p = is_left sections (home p.0 p.1)
 abbrev pub remaining_loads : List Bool → NewPositions → List (Option ℕ × Load) → List Load
 remaining_loads sections c placed = map (λ p. new_load c p.1) (filter (stays sections) placed)
 
--- The module without what does not remain, and without debug items. All else stays, in its order.
+-- The module without the entries that do not remain, and without debug items. Everything else is unchanged and in the same order.
 abbrev pub without_others : Parts → Remains → Parts
 without_others m c = let new = positions_of c in record {
   processor = m.processor;

@@ -1,4 +1,4 @@
--- Entries that are marked one after another: what is marked, what was looked at, and that nothing is marked without need.
+-- Entries that are marked one after another: what is marked, what has been looked at, and that nothing is marked without need.
 use Rattle.std.specs.Prelude.{◌≡◌, ℕ, ◌<◌, List, slice_get, Some, Bool, length}
 use Rattle.std.specs.List.{AllByRecursion}
 use Rattle.mufom_select.specs.Choice.{Choice}
@@ -9,7 +9,7 @@ use Rattle.mufom_prune.specs.Reached.{HasAll, IsClosed}
 abbrev pub AreBelow : ℕ → List ℕ → Type 0
 AreBelow size entries = AllByRecursion (λ n. n < size) entries
 
--- all that the entries need is below a number
+-- everything that the entries need is below a number
 abbrev pub AllBelow : ℕ → List (List ℕ) → Type 0
 AllBelow size needs = AllByRecursion (AreBelow size) needs
 
@@ -17,7 +17,7 @@ AllBelow size needs = AllByRecursion (AreBelow size) needs
 abbrev pub AreMarked : Choice → List ℕ → Type 0
 AreMarked c entries = AllByRecursion (Marked c) entries
 
--- What the loop keeps once what the first entries of the order need is marked; turns is their number.
+-- The loop's invariant: everything that the first `turns` entries of the order need is marked.
 pub record IsUnderway (needs : List (List ℕ)) (roots : List ℕ) (turns : ℕ) (c : Choice) : Type 0 where
   pub one : AreOne (length needs) c
   pub rooted : AreMarked c roots

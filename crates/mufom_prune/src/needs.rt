@@ -1,4 +1,4 @@
-//! What each entry of a module needs, and what is kept in any case.
+//! What each entry of a module needs, and which entries are kept in any case.
 
 ghost use Rattle.std.specs.Prelude.{◌≡◌, ◌++◌, ◌+◌, ◌<◌, ◌^◌, [], length, map, replicate, option_to_list, Option, Some, IfOk, OnOk};
 ghost use Rattle.mufom_module.specs.Contents.{current_after, placed_loads};
@@ -30,7 +30,7 @@ pub(crate) fn index_publics<'a>(alloc: Global, parts: &'a Parts) -> Result<NameI
     Ok(index)
 }
 
-/// The section that a load belongs to, if this one is current.
+/// The section to which a load belongs, if `current` is the current one before it.
 pub(crate) fn home(current: Option<u32>, load: &Load) -> Option<u32>
     ensures { result ≡ home current load.now }
 {
@@ -42,7 +42,7 @@ pub(crate) fn home(current: Option<u32>, load: &Load) -> Option<u32>
     }
 }
 
-/// The section that is current after a load, if this one was.
+/// The section that is current after a load, if `current` is the current one before it.
 pub(crate) fn current_after(current: Option<u32>, load: &Load) -> Option<u32>
     ensures { result ≡ current_after current load.now }
 {
@@ -54,7 +54,7 @@ pub(crate) fn current_after(current: Option<u32>, load: &Load) -> Option<u32>
     }
 }
 
-// Lists without entries, as many as this.
+// A list of `count` empty lists, with memory for `room` of them.
 fn empty_lists(alloc: Global, count: usize, room: usize) -> Result<Vec<List<u32>>, NoMemory>
     ensures { IfOk result (λ lists. lists.items ≡ replicate count []) }
 {
@@ -191,7 +191,7 @@ fn add_start(parts: &Parts, all: &mut List<u32>) -> Result<(), NoMemory>
     }
 }
 
-/// What is kept in any case, if this entry is the public of the name.
+/// Returns the entries that are kept in any case. `entry` is the public with the name.
 pub(crate) fn roots(
     alloc: Global,
     parts: &Parts,

@@ -1,4 +1,4 @@
-//! The positions of entries in the lists of what remains.
+//! The positions of entries in the lists of the rest of a module.
 
 ghost use Rattle.std.specs.Prelude.{◌≡◌, ◌<◌, ◌^◌, get_or, length, IfOk};
 ghost use Rattle.mufom_prune.specs.Pruned.{new_positions, new_tree};
@@ -15,7 +15,7 @@ pub(crate) struct NewPositions {
     pub references: List<u32>,
 }
 
-// The number at a place, and 0 past the end.
+// The number at a position, or 0 past the end.
 fn at(positions: &List<u32>, place: u32) -> u32
     ensures { result ≡ get_or positions.now place 0 }
 {
@@ -51,7 +51,7 @@ impl VarMap for NewPositions {
     }
 }
 
-/// The new positions of the entries that have these marks.
+/// Returns the new positions of entries with these marks.
 pub(crate) fn new_positions(alloc: Global, marks: &[bool]) -> Result<List<u32>, NoMemory>
     requires { length marks.now < 2 ^ 32 }
     ensures { IfOk result (λ positions. positions ≡ new_positions 0 marks.now) }
@@ -67,7 +67,7 @@ pub(crate) fn new_positions(alloc: Global, marks: &[bool]) -> Result<List<u32>, 
     Ok(positions)
 }
 
-/// An expression with the new positions.
+/// Returns an expression with the new positions.
 pub(crate) fn move_tree(
     alloc: Global,
     positions: &NewPositions,

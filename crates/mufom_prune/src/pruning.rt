@@ -25,18 +25,18 @@ use mufom_names::{NameIndex, NameTable};
 use mufom_numbers::{Bytes, NoMemory};
 use std::alloc::Global;
 
-/// What [`prune_with_marks`] leaves of a module.
+/// The result of [`prune_with_marks`].
 #[derive(Drop)]
 pub struct Pruned {
     /// The module that is left.
     pub module: Module,
-    /// A mark for each section of the whole module, in its order, which is set if the section is left.
+    /// A mark for each section of the whole module, in order, which is set if the section is left.
     pub sections: Vec<bool>,
-    /// The same of its publics.
+    /// A mark for each public of the whole module, in order, which is set if the public is left.
     pub publics: Vec<bool>,
 }
 
-// A mark for each entry that is kept for the public of the name.
+// A mark for each entry, which is set if the entry is kept for the public with the name.
 fn kept(
     alloc: Global,
     parts: &Parts,
@@ -54,7 +54,7 @@ fn kept(
     reach(alloc, &needs, roots.as_slice())
 }
 
-// What remains of the names of a module.
+// The names of a module that remain.
 fn remaining_names(
     alloc: Global,
     names: &NameTable,
@@ -73,7 +73,7 @@ fn remaining_names(
     })
 }
 
-// Puts what remains of a module into parts that state nothing yet.
+// Fills empty parts with what remains of a module.
 fn fill(
     alloc: Global,
     rest: &mut Parts,
@@ -120,7 +120,7 @@ fn positions(
     })
 }
 
-// What remains of a module if these entries are kept.
+// The parts of a module that remain if these entries are kept.
 fn remaining_parts(alloc: Global, parts: &Parts, marks: &[bool]) -> Result<Parts, NoMemory>
     requires few { entry_count parts.now < 2 ^ 32 }
     requires sized { length marks.now ≡ entry_count parts.now }
@@ -143,7 +143,7 @@ fn remaining_parts(alloc: Global, parts: &Parts, marks: &[bool]) -> Result<Parts
     Ok(rest)
 }
 
-// Copies of the marks of the sections and of the publics, which are the first of these.
+// Copies the marks of the sections and of the publics, which come first among these marks.
 fn copy_marks(
     alloc: Global,
     parts: &Parts,
@@ -159,11 +159,11 @@ fn copy_marks(
     Ok((sections, publics))
 }
 
-/// A copy of a module without what a public symbol does not need, with a mark for each section and each
-/// public of the module that tells whether it is left. [`prune`] returns the module alone.
+/// Copies a module without what a public symbol does not need, and marks each section and each public of the
+/// module that is left. [`prune`] returns the module alone.
 ///
-/// The marks tell which positions the remaining entries had in the whole module: the n-th entry that is
-/// left had the position of the n-th mark that is set. Errors are those of [`prune`].
+/// The marks give the positions that the remaining entries had in the whole module: the n-th entry that is
+/// left was at the position of the n-th set mark. Errors are those of [`prune`].
 pub fn prune_with_marks(alloc: Global, module: &Module, keep: &[u8]) -> Result<Pruned, PruneRefusal>
     ensures pruned { IfOk result (λ left. IsPrunedWithMarks left «module».now keep.now) }
     ensures known { IfOk result (λ _. has_name (public_names («module».now ∷ [])) keep.now ≡ true) }
@@ -185,18 +185,18 @@ pub fn prune_with_marks(alloc: Global, module: &Module, keep: &[u8]) -> Result<P
     })
 }
 
-/// A copy of a module without what a public symbol does not need: the sections, publics, references
-/// and loads that are kept for the public of this name.
+/// Copies a module without what a public symbol does not need. The copy has the sections, publics, references
+/// and loads that are kept for the public with this name.
 ///
-/// Kept are the sections with a base, the public, what the start mentions, and all that something kept
-/// mentions: by the value of a public, or by the loads of a section. An `X` variable mentions the public of its
-/// reference's name, if there is one. Besides, a weak reference of a size above 0 remains if a
-/// kept reference has its name. The positions are those of the new lists; debug items are gone, and
-/// all else stays, in its order. The module weighs no more than the one it is made of, which stays as
-/// it is.
+/// The sections with a base, the public, and what the start mentions are kept, and so is everything that a
+/// kept entry mentions: in the value of a public, or in the loads of a section. An `X` variable mentions the
+/// public with its reference's name, if there is one. In addition, a weak reference of a size above 0 remains
+/// if a kept reference has its name. The positions are those of the new lists; debug items are left out, and
+/// everything else is unchanged and in the same order. The copy weighs no more than the module, which stays
+/// as it is.
 ///
-/// If no public has the name, the error is `Unknown` with the name, which is returned in no other case.
-/// `NoMemory` may be returned for any module.
+/// If no public has the name, and only then, the error is `Unknown` with the name. `NoMemory` may be returned
+/// for any module.
 pub fn prune(alloc: Global, module: &Module, keep: &[u8]) -> Result<Module, PruneRefusal>
     ensures pruned { IfOk result (λ M. IsPruned M «module».now keep.now) }
     ensures known { IfOk result (λ _. has_name (public_names («module».now ∷ [])) keep.now ≡ true) }

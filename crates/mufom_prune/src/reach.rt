@@ -1,4 +1,5 @@
-//! The least set of entries that has some and, with each of its entries, those that this one needs.
+//! The smallest set of entries that contains given entries and, with each of its entries, those that this one
+//! needs.
 
 ghost use Rattle.std.specs.Prelude.{◌≡◌, ◌<◌, length, IfOk, OnOk};
 ghost use Rattle.mufom_select.specs.Choice.{choice, with_member, with_members};
@@ -32,8 +33,7 @@ fn mark_all(entries: &[u32], marks: &mut [bool], order: &mut List<u32>) -> Resul
     Ok(())
 }
 
-// Marks the roots, and then what each entry of the order needs. The order grows while the loop goes
-// over it.
+// Marks the roots, and then what each entry in the order needs. The order grows while the loop runs over it.
 fn follow(
     needs: &[List<u32>],
     roots: &[u32],
@@ -55,9 +55,11 @@ fn follow(
     Ok(())
 }
 
-/// A mark for each entry, which tells whether it is reached: from the roots, by what each entry needs.
+/// Returns a mark for each entry, which is set if the entry is reached from the roots through what entries
+/// need.
 ///
-/// The needs of all entries are in the order of their numbers. All numbers must be those of entries.
+/// `needs` lists what each entry needs, in the order of the entries' numbers. All numbers must be those of
+/// entries.
 pub(crate) fn reach(
     alloc: Global,
     needs: &[List<u32>],

@@ -1,9 +1,9 @@
-//! Why a module is not pruned.
+//! Why a module could not be pruned.
 
 use mufom_numbers::{Bytes, NoMemory};
 use thiserror::Error;
 
-/// Why a module isn't pruned.
+/// Why a module could not be pruned.
 #[derive(Debug, Drop, Error)]
 pub enum PruneRefusal {
     /// No public has this name.

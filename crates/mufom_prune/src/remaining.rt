@@ -86,7 +86,7 @@ fn index_remaining<'a>(
     Ok(index)
 }
 
-// Whether a reference remains: it has a mark, or it is a common with one of the names.
+// Whether a reference remains: it is marked, or it is a common with one of the names.
 fn remains(names: &NameIndex<'_>, mark: bool, reference: &Reference) -> bool
     ensures { result ≡ (mark || (is_common reference.now && is_some (position_of names.now reference.now.name))) }
 {
@@ -192,7 +192,7 @@ fn is_left(marks: &[bool], section: Option<u32>) -> bool
     }
 }
 
-/// The loads that remain, with the new positions: those of the sections that do.
+/// Returns the loads of the sections that remain, with the new positions.
 pub(crate) fn remaining_loads(
     alloc: Global,
     marks: &[bool],

@@ -1,4 +1,4 @@
--- What a module means without what is not kept.
+-- The meaning of a module without the entries that are not kept.
 use Rattle.std.specs.Prelude.{◌≡◌, ℕ, List, [], ◌∷◌, map, filter, get_or, Bool}
 use Rattle.mufom_module.specs.declared.module.Parts.{Parts}
 use Rattle.mufom_module.specs.Defects.{IsValid}
@@ -28,19 +28,19 @@ moved_reading new (field_reading section at kind size value) = field_reading (ge
 abbrev pub left_readings : List Bool → List StepReading → List StepReading
 left_readings sections steps = map (moved_reading (new_positions 0 sections)) (filter (λ step. is_marked sections (section_read step)) steps)
 
--- M means the same as the part of the module that remains, wherever sections and commons are placed: the sections and the
--- publics that remain, the steps of these sections with their new positions, and the start, each with the values that it has in the module.
+-- M means the same as the part of the module that remains, wherever sections and commons are placed: the sections and publics that remain, the steps
+-- of these sections with the new positions, and the start all have the values that they have in the module.
 pub record MeansTheRest (M m : Parts) (c : Remains) (bases : Bases) : Type 0 where
   pub sections : (readings (M ∷ []) (new_bases c bases)).sections ≡ remaining c.sections (readings (m ∷ []) bases).sections
   pub publics : (readings (M ∷ []) (new_bases c bases)).publics ≡ remaining c.publics (readings (m ∷ []) bases).publics
   pub steps : (readings (M ∷ []) (new_bases c bases)).steps ≡ left_readings c.sections (readings (m ∷ []) bases).steps
   pub starts : (readings (M ∷ []) (new_bases c bases)).starts ≡ (readings (m ∷ []) bases).starts
 
--- This holds of what remains of each module without a defect, for each name.
+-- This holds for the rest of every module without a defect, for each name to keep.
 abbrev pub PrunedMeansTheRest : Type 0
 PrunedMeansTheRest = (M m : Parts) (keep : List ℕ) → IsValid m → (pruned : IsPruned M m keep) → (bases : Bases)
     → MeansTheRest M m (remains m pruned.marks) bases
 
--- There is one module at most that remains of a module for a name.
+-- At most one module is what remains of a module for a name.
 abbrev pub PrunedIsSingle : Type 0
 PrunedIsSingle = (M N m : Parts) (keep : List ℕ) → IsPruned M m keep → IsPruned N m keep → M ≡ N

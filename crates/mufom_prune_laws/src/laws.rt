@@ -1,4 +1,4 @@
-//! Laws of what remains of a module, each the contract of a function that does nothing.
+//! Laws about what remains of a pruned module, each the contract of a function that does nothing.
 
 ghost use Rattle.mufom_prune_laws.specs.Meaning.{PrunedIsSingle, PrunedMeansTheRest};
 
@@ -9,7 +9,7 @@ pub fn pruned_means_the_rest()
     ensures { PrunedMeansTheRest }
 {}
 
-/// For each name there is at most one module that remains of a module.
+/// For each name, at most one module is what remains of a module.
 pub fn pruned_is_single()
     ensures { PrunedIsSingle }
 {}

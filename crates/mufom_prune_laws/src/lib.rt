@@ -1,7 +1,7 @@
-//! What a module means without what is not kept.
+//! The meaning of a module without the entries that are not kept.
 //!
-//! The crate has two laws, the contracts of functions that do nothing. It depends on `mufom_prune`,
-//! whose relation it speaks of, and on `mufom_meaning`.
+//! The crate has two laws, the contracts of functions that do nothing. It depends on `mufom_prune`, whose
+//! relation the laws are about, and on `mufom_meaning`.
 #![tactic(auto)]
 
 mod laws;

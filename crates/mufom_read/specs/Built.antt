@@ -11,7 +11,7 @@ use Rattle.mufom_read.specs.NamesSoFar.{placed_public}
 use Rattle.mufom_read.specs.LoadsSoFar.{closed}
 use Rattle.mufom_read.specs.PrefixOfCode.{IsPrefixOf}
 
--- The module has what the code keeps.
+-- The module consists of what the code has kept.
 pub record IsStatedByKept (f : Prefix) (m : Parts) : Type 0 where
   pub names : f.contents.header.names ≡ Some (record { processor = m.processor; name = m.name })
   pub layout : f.contents.header.layout ≡ Some (record { maus = m.maus; order = m.order })
@@ -24,7 +24,7 @@ pub record IsStatedByKept (f : Prefix) (m : Parts) : Type 0 where
   pub loads : m.loads ≡ closed f.contents.loads
   pub start : m.start ≡ f.contents.start
 
--- The code keeps this prefix. It has no error and has ended, and it is the whole stream of these bytes.
+-- The code keeps this prefix, which contains no error, has ended, and is the whole stream of these bytes.
 pub record IsWhole (reads_debug : Bool) (f : Prefix) (prefix : List Step) (bytes : List ℕ) : Type 0 where
   pub kept : IsPrefixOf f prefix
   pub fits : AreBytes bytes

@@ -35,8 +35,8 @@ pub record AreContentsOf (c : Contents) (all : List OffsetRecord) : Type 0 where
   pub loads : c.loads ≡ loads_so_far (records_in all)
   pub start : c.start ≡ start_so_far (records_in all)
 
--- What is known before one more record: the contents and the tables of the records before it, and that all of them, and
--- the new one, keep the rules.
+-- What is known before one more record is added: the contents and the tables of the records before it; and all records,
+-- the new one included, obey the rules.
 pub record AreContentsBefore (c : Contents) (t : Tables) (all : List OffsetRecord) (p : SpelledRecord) : Type 0 where
   pub contents : AreContentsOf c all
   pub tables : t ≡ tables_of (records_in all)

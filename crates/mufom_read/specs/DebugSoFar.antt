@@ -24,7 +24,7 @@ FitsKind kind (tail.Scope stack type_index offset) = (kind ≡ 4) ⊎ (kind ≡ 
 FitsKind kind (tail.Source ns) = kind ≡ 5
 FitsKind kind (tail.Section section_type section offset) = kind ≡ 11
 
--- the same of the block that the record begins, if it begins one
+-- the same for the block that the record begins, if it begins one
 abbrev pub HasKind : Record → Type 0
 HasKind (r.BlockBegin kind n name block) = FitsKind kind block
 HasKind _ = Unit {0}
@@ -48,8 +48,8 @@ opened d = stacked [] d.blocks
 abbrev pub marks_to_block : code.OpenBlock → List DebugMark
 marks_to_block b = marks_of b.before ++ block_begin b.head b.name ∷ []
 
--- The debug records so far: for each open block, from the outermost on, those before its items; then those of the items of
--- the innermost block.
+-- The debug records so far: for each open block, from the outermost inwards, the records up to its BB; then the records of
+-- the items of the innermost block.
 abbrev pub marks_kept : Debugs → List DebugMark
 marks_kept d = joined (map marks_to_block d.blocks) ++ marks_of d.items
 

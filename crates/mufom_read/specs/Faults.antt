@@ -35,7 +35,7 @@ fault_for fault_offset (Some reason) = Some (fault_offset, reason)
 
 -- ---- whole records of the header
 
--- an addressable unit (MAU) has other than 8 bits, or an address other than 1 to 8 MAUs
+-- an addressable unit (MAU) does not have 8 bits, or an address does not have 1 to 8 MAUs
 abbrev pub is_bad_descriptor : Record → Bool
 is_bad_descriptor (r.Descriptor bits maus letter) = not ((bits == 8) && is_unit_count maus)
 is_bad_descriptor _ = false
@@ -125,7 +125,7 @@ breaks placed before p why.BlockNesting = ends_badly (open_blocks placed) p.row
 breaks placed before p why.Depth = is_too_deep (open_blocks placed) p.row
 breaks placed before p _ = false
 
--- the rules in the order of their numbers, the smallest first
+-- the rules in the order in which they are checked, which is that of `Reason`
 abbrev pub rules : List Reason
 rules = why.DuplicateIndex ∷ why.UnknownIndex ∷ why.DuplicateValue ∷ why.BadAlignment ∷ why.NoSection ∷ why.BadP ∷ why.BlockNesting ∷ why.Depth ∷ []
 
@@ -211,6 +211,6 @@ ended_part_fault prefix = ended_fault prefix (part_at prefix (size_of prefix - 1
 
 -- ---- together
 
--- The first error after a prefix, in the order of checking: that of the part that has just ended, then that of what follows.
+-- The first error after a prefix: the error of the part that has just ended, and otherwise the error of the next step.
 abbrev pub fault_after : Bool → List Step → List ℕ → Option Fault
 fault_after reads_debug prefix rest = option_or (ended_part_fault prefix) (step_fault prefix (next_step reads_debug prefix rest))

@@ -39,7 +39,7 @@ pub record EndsAt (reads_debug : Bool) (bytes : List ℕ) (offset : ℕ) : Type 
   pub ended : is_ended prefix ≡ true
   pub here : size_of prefix ≡ offset
 
--- after the longest sound prefix more bytes are needed; `pending` is what follows it
+-- after the longest sound prefix more bytes are needed; `pending` are the bytes after it
 pub record IsWaiting (reads_debug : Bool) (bytes pending : List ℕ) : Type 0 where
   pub prefix : List Step
   pub sound : IsSoundPrefix reads_debug prefix (within_limit bytes)
@@ -64,7 +64,7 @@ abbrev pub IsPending : Bool → List ℕ → ℕ → Type 0
 IsPending reads_debug bytes n = ((pending : List ℕ) × IsWaiting reads_debug bytes pending × (length pending ≡ n))
     ⊎ (EndsAt reads_debug bytes (length bytes) × (n ≡ 0))
 
--- what a complete stream is: the file of a module, or one with an error
+-- the judgment of a complete stream: it is the file of a module, or it has an error
 pub data Judgment : Type 0 where
   module_of : Parts → Judgment
   refusal : ℕ → Reason → Judgment

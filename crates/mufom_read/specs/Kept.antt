@@ -1,4 +1,4 @@
--- What the code keeps of the records of a prefix: which indexes they declare, and of which they state a size, a value and so on.
+-- What the code keeps of the records of a prefix: which indexes they declare, and for which they state a size, a value and so on.
 use Rattle.std.specs.Prelude.{ℕ, zero, suc, ◌<◌, ◌-◌, ◌^◌, ◌==◌, ◌||◌, ◌&&◌, Bool, true, false, not, List, [], ◌∷◌, ◌++◌, length, filter_map, Option}
 use Rattle.std.specs.Prelude.{Some, None, is_none, option_to_list, if◌then◌else◌}
 use Rattle.std.specs.List.{list_any, list_all}

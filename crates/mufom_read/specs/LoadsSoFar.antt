@@ -23,7 +23,7 @@ loads_and loads awaiting = record { loads = loads; awaiting = awaiting }
 abbrev pub no_loads : Loads
 no_loads = loads_and [] open_load.Nothing
 
--- what the record that may get items adds to the loads once it ends: RE its repeat, LR nothing more
+-- what the record that may get items adds to the loads once it ends: an RE adds its repeat, an LR nothing more
 abbrev pub load_of_open : OpenLoad → List Load
 load_of_open open_load.Nothing = []
 load_of_open open_load.Relocate = []

@@ -1,4 +1,4 @@
--- The publics so far: what the records read so far state of them. More may follow.
+-- The publics so far: what the records read so far state about them. More records may follow.
 use Rattle.std.specs.Prelude.{◌≡◌, ℕ, ◌+◌, ◌≤◌, nat_lt, List, [], ◌∷◌, map, filter_map, slice_get, Option, Some, None, unwrap_or, if◌then◌else◌}
 use Rattle.std.specs.List.{list_any}
 use Rattle.mufom_numbers.specs.declared.reason.Reason.TheVariants as why
@@ -94,8 +94,8 @@ pub record ArePublicsOf (n : Publics) (all : List OffsetRecord) : Type 0 where
   pub list : n.list.items ≡ unplaced_publics (records_in all)
   pub marks : n.marks.items ≡ public_marks all
 
--- What is known of the publics before one more record: the indexes declared so far, and that all records so far, and the new
--- one, keep the rules.
+-- What is known about the publics before one more record is added: the indexes declared so far; and all records, the new one
+-- included, obey the rules.
 pub record IsBefore (n : Publics) (indexes : List ℕ) (all : List OffsetRecord) (p : SpelledRecord) : Type 0 where
   pub publics : ArePublicsOf n all
   pub table : indexes ≡ declared public (records_in all)

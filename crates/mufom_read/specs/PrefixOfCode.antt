@@ -37,8 +37,8 @@ as_location (offset.Header k) = in_header k
 as_location (offset.Part e) = in_part (as_extent e)
 as_location offset.End = at_end
 
--- The location of the next byte after a step at this location. `size` is the number of bytes up to it. A part goes on up to
--- its end.
+-- The location of the next byte after a step at this location. `size` is the number of bytes before that byte. A location in a
+-- part stays the same up to the end of the part.
 abbrev pub next_location : Location → List ℕ → ℕ → Location
 next_location (in_header k) offsets size = if nat_lt k 9 then in_header (k + 1) else location_by (part_among parts_in_order offsets size)
 next_location (in_part e) offsets size = if nat_lt size e.to then in_part e else location_by (part_among parts_in_order offsets size)

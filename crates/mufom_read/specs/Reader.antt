@@ -58,9 +58,9 @@ abbrev pub HasTakenChunk : Bool → List Step → List ℕ → State → Result 
 HasTakenChunk reads_debug before rest new (Ok done) = (n : ℕ) × HasTakenAll reads_debug before rest new.prefix (Ok n) × (new.rest.items ≡ drop n rest)
 HasTakenChunk reads_debug before rest new (Err s) = HasTakenAll reads_debug before rest new.prefix (Err s)
 
--- The stop after a chunk whose steps were taken: none, or that a byte follows the end of the module, or that the stream is too
--- long. `ended` is whether the module has ended, `size` the length of the prefix in bytes, `longer` whether the stream has
--- more bytes than a file may have, and `rest` the bytes after the prefix.
+-- The stop after a chunk whose steps were taken: none, or AfterEnd for a byte after the end of the module, or FileLimit for a
+-- stream that is too long. `ended` tells whether the module has ended, `size` is the length of the prefix in bytes, `longer`
+-- tells whether the stream has more bytes than a file may have, and `rest` are the bytes after the prefix.
 abbrev pub HasEndedChunk : Bool → ℕ → Bool → List ℕ → State → Option ReadStop → Type 0
 HasEndedChunk ended size longer rest new None = (new.rest.items ≡ rest) × (longer ≡ false) × (ended ≡ true → rest ≡ [])
 HasEndedChunk ended size longer rest new (Some (stop.Refused f)) = ((ended ≡ true) × (as_fault f ≡ (size, why.AfterEnd)) × ((longer ≡ true) ⊎ (rest ≢ [])))
@@ -77,7 +77,7 @@ pub record IsReading (reader : State) (stream : List ℕ) : Type 0 where
   pub rest : reader.rest.items ≡ drop (size_of prefix) stream
   pub waits : ((is_ended prefix ≡ true) × (size_of prefix ≡ length stream)) ⊎ IsIncomplete reader.reads_debug prefix reader.rest.items
 
--- what a reader with this stop knows of a stream; nothing if memory ran out
+-- what a reader with this stop knows about the stream; nothing if memory ran out
 abbrev pub Knows : State → List ℕ → Option ReadStop → Type 0
 Knows reader stream None = IsReading reader stream
 Knows reader stream (Some (stop.Refused f)) = IsRefusedAt reader.reads_debug stream f.offset f.reason
@@ -87,7 +87,7 @@ Knows reader stream (Some stop.NoMemory) = Unit {0}
 abbrev pub HasRead : State → List ℕ → Type 0
 HasRead reader stream = AreBytes stream × Knows reader stream reader.stop
 
--- the error because of which a reader reads no further, if there is one
+-- the error that stopped a reader, if there is one
 abbrev pub reader_stop : State → Option ReadStop
 reader_stop reader = reader.stop
 

@@ -1,4 +1,4 @@
--- The sections so far: what the records read so far state of them. More may follow.
+-- The sections so far: what the records read so far state about them. More records may follow.
 use Rattle.std.specs.Prelude.{◌≡◌, ℕ, ◌&&◌, Bool, List, [], ◌∷◌, filter_map, Option, Some, None, is_none}
 use Rattle.std.specs.Option.{option_or}
 use Rattle.mufom_numbers.specs.declared.reason.Reason.TheVariants as why
@@ -27,8 +27,8 @@ pub record AreSectionsOf (s : Sections) (all : List OffsetRecord) : Type 0 where
   pub list : s.list.items ≡ sections_of (records_in all)
   pub starts : s.starts.items ≡ section_starts all
 
--- What is known of the sections before one more record: the indexes declared so far, and that all records so far, and the new
--- one, keep the rules.
+-- What is known about the sections before one more record is added: the indexes declared so far; and all records, the new one
+-- included, obey the rules.
 pub record AreSectionsBefore (s : Sections) (indexes : List ℕ) (all : List OffsetRecord) (p : SpelledRecord) : Type 0 where
   pub sections : AreSectionsOf s all
   pub table : indexes ≡ declared section (records_in all)

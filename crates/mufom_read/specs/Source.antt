@@ -39,8 +39,8 @@ abbrev pub ReadsNoFurther : Bool → ℕ → Option (List ℕ) → Option (List 
 ReadsNoFurther reads_debug limit before after = IfSome before (λ left. (earlier last rest : List ℕ) × (left ≡ earlier ++ (last ++ rest)) × (after ≡ Some rest)
     × (length last ≤ buffer_size) × (length earlier ≤ limit) × IsUnrefused reads_debug earlier)
 
--- A module is that of all bytes that were left, and is returned with their number. Every error except out of memory and a
--- failed read follows from these bytes.
+-- A module that is returned is that of all bytes that were left, and their number is returned with it. Every error except out
+-- of memory and a failed read follows from these bytes.
 abbrev pub ReadsModule : Bool → ℕ → Option (List ℕ) → Option (List ℕ) → Result (Parts × ℕ) SourceStop → Type 0
 ReadsModule reads_debug limit before after (Ok read) = IfSome before (λ left. IsModule reads_debug left read.0 × (read.1 ≡ length left)
     × (length left ≤ limit) × (after ≡ Some []))

@@ -28,7 +28,7 @@ bytes_between (suc w ∷ offsets) bytes = slice_range bytes (suc w) (first_prese
 abbrev pub part_bytes : Part → List Step → List ℕ
 part_bytes part prefix = bytes_between (drop (number_of part) (offsets_of prefix)) (prefix_bytes prefix)
 
--- The module is what the records, and the bytes that are not read as records, state.
+-- The module contains exactly what the records, and the bytes that are not read as records, state.
 pub record IsStatedBy (prefix : List Step) (m : Parts) : Type 0 where
   pub begin : SpelledRecord
   pub descriptor : SpelledRecord

@@ -262,7 +262,7 @@ impl Debugs {
         }
     }
 
-    /// Adds what a record states of the debug items. If the record is of the debug part, `tree` is its expression.
+    /// Adds what a record states about the debug items. `tree` is its expression, if it is of the debug part.
     pub(crate) fn take(
         &mut self,
         alloc: Global,

@@ -72,7 +72,7 @@ fn layout_of(maus: u64, letter: Option<u8>) -> Addressing
 }
 
 impl Header {
-    /// A header of which nothing was read yet.
+    /// A header before any record of it was read.
     pub(crate) fn new() -> Header
         ensures { result ≡ header_with None None }
     {
@@ -123,7 +123,7 @@ impl Header {
         }
     }
 
-    /// Adds what a record states of the header. The first statement counts: a later record never changes it.
+    /// Adds what a record of the header states. The first statement counts: a later record never changes it.
     pub(crate) fn take(&mut self, alloc: Global, seen: &SeenRecord) -> Result<(), NoMemory>
         requires { HasOwnParts seen.now }
         ensures { OnOk result (self.new ≡ header_after self.old (record_of_seen seen.now)) }
@@ -192,7 +192,7 @@ fn offset_fault(earlier: &[u64], offset: u64, start: u64, end: u64) -> Option<Re
     None
 }
 
-// Whether an addressable unit has other than 8 bits, or an address other than 1 to 8 units.
+// Whether an addressable unit does not have 8 bits, or an address does not have 1 to 8 units.
 fn is_bad_descriptor(record: &Record) -> bool
     ensures { result ≡ faults.is_bad_descriptor «record».now }
 {

@@ -1,4 +1,4 @@
-//! Laws about the results of reading, each the contract of a function that does nothing.
+//! Laws about the results of reading. Each law is the contract of a function with an empty body.
 
 ghost use Rattle.mufom_read.specs.Laws.{EndedPrefixIsModule, PrefixesAreOne, PrefixesOfModulesAreCutOff, PrefixesStay, HasJudgment, HasOneJudgment};
 ghost use Rattle.mufom_read.specs.Laws.{JudgmentsExcludeEachOther, ModuleIsEndedPrefix, RefusalIsSingle, RefusalStays};

@@ -5,8 +5,8 @@
 //! chunks. It builds the parts of the module as records arrive. It keeps the indexes that they declare and
 //! what they may state only once, and the bytes of an unfinished record, but not the records themselves.
 //! The crate depends on `mufom_module` for the file of a module, and on `mufom_records`. Its main clause is
-//! that of [`Reader::feed`]: an error is returned exactly if the stream so far has one, however it was cut
-//! into chunks. Its main law is [`has_one_judgment`].
+//! that of [`Reader::feed`]: unless memory runs out, an error is returned if and only if the stream so far
+//! has one, however it was cut into chunks. Its main law is [`has_one_judgment`].
 #![tactic(auto)]
 
 mod build;

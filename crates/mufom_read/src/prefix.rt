@@ -64,7 +64,7 @@ pub(crate) enum Location {
     End,
 }
 
-/// What reading on from a prefix results in.
+/// The result of reading on from a prefix.
 #[derive(Clone, Copy, Debug, PartialEq, Eq)]
 pub(crate) enum Next {
     /// This number of bytes was added to the prefix.

@@ -1,4 +1,4 @@
-//! The publics read so far, with what was stated of each.
+//! The publics read so far, with what was stated about each.
 
 ghost use Rattle.std.specs.Prelude.{◌≡◌, ◌<◌, ◌^◌, ◌==◌, ◌++◌, ◌∷◌, [], true, List, nat_eq, length, map, slice_get, slice_set, None, Some, IfOk};
 ghost use Rattle.std.specs.Prelude.{OnOk, option_map};
@@ -97,7 +97,7 @@ impl Publics {
         }
     }
 
-    // Adds a public of which nothing was stated yet. `start` is the offset of its declaration.
+    // Adds a public about which nothing was stated yet. `start` is the offset of its declaration.
     fn add(&mut self, alloc: Global, name: Bytes, start: u32) -> Result<(), NoMemory>
         ensures list { OnOk result (self.new.list.items ≡ self.old.list.items ++ record { name = name; value = number 0; notes = [] } ∷ []) }
         ensures marks { OnOk result (self.new.marks.items ≡ self.old.marks.items ++ Declared start ∷ []) }
@@ -123,7 +123,7 @@ impl Publics {
         set_valued(&mut self.marks, position, start);
     }
 
-    /// Adds what a record states of the publics. If the record states the value of a public, `value` is that expression.
+    /// Adds what a record states about the publics. `value` is the public's value, if the record states one.
     pub(crate) fn take(
         &mut self,
         alloc: Global,

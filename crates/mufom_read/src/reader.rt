@@ -67,8 +67,8 @@ impl Reader {
         })
     }
 
-    /// Reads the next chunk of the stream. Returns `Refused` exactly if the stream so far contains an error.
-    /// After an error every further call returns the same error.
+    /// Reads the next chunk of the stream. Unless memory runs out, returns `Refused` if and only if the
+    /// stream so far contains an error. After an error every further call returns the same error.
     pub fn feed(&mut self, chunk: &[u8]) -> Result<(), ReadStop>
         // The reader has then read this chunk too.
         ensures read { (stream : List ℕ) → HasRead self.old stream → HasRead self.new (stream ++ chunk.now) }

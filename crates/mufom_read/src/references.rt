@@ -1,4 +1,4 @@
-//! The references read so far, with what was stated of each.
+//! The references read so far, with what was stated about each.
 
 ghost use Rattle.std.specs.Prelude.{◌≡◌, ◌<◌, ◌++◌, ◌∷◌, [], List, length, slice_get, slice_set, None, Some, OnOk};
 ghost use Rattle.mufom_names.specs.declared.name.Reference as name_reference;
@@ -15,7 +15,7 @@ use mufom_records::Record;
 use mufom_sections::IndexTable;
 use std::alloc::Global;
 
-// Adds a reference of which nothing was stated yet.
+// Adds a reference about which nothing was stated yet.
 fn add(alloc: Global, references: &mut Vec<Reference>, name: Bytes) -> Result<(), NoMemory>
     ensures { OnOk result (references.new.items ≡ references.old.items ++ record { name = name; weak = None; notes = [] } ∷ []) }
 {
@@ -45,7 +45,7 @@ fn push_note(references: &mut Vec<Reference>, position: usize, note: Note) -> Re
     references[position].notes.push(note)
 }
 
-/// Adds what a record states of the references.
+/// Adds what a record states about the references.
 pub(crate) fn take(
     alloc: Global,
     references: &mut Vec<Reference>,

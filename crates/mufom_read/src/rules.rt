@@ -1,4 +1,4 @@
-//! The rules that a complete record must keep, given the records before it.
+//! The rules that a complete record must obey, given the records before it.
 
 ghost use Rattle.std.specs.Prelude.{◌≡◌, ◌∷◌, [], ◌&&◌, not, option_map, option_to_list, List, None, Some, if◌then◌else◌};
 ghost use Rattle.std.specs.List.{list_any, list_all};
@@ -133,7 +133,7 @@ fn names_unknown(tables: &Tables, record: &Record, tree: Option<&Postfix>) -> bo
     names_unknown_entry(tables, record) || has_unknown_variable_now(tables, record, tree)
 }
 
-// Whether the record states something for the second time.
+// Whether the record states again what may be stated only once.
 fn states_again(tables: &Tables, record: &Record) -> bool
     ensures { result ≡ states_again_in tables.now «record».now }
 {

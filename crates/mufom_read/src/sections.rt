@@ -1,4 +1,4 @@
-//! The sections read so far, with what was stated of each.
+//! The sections read so far, with what was stated about each.
 
 ghost use Rattle.std.specs.Prelude.{◌≡◌, ◌<◌, ◌^◌, ◌++◌, ◌∷◌, [], List, length, slice_get, slice_set, None, Some, OnOk, option_map};
 ghost use Rattle.mufom_sections.specs.declared.section.Section as its_section;
@@ -107,7 +107,7 @@ impl Sections {
         Ok(())
     }
 
-    /// Adds what a record states of the sections.
+    /// Adds what a record states about the sections.
     pub(crate) fn take(
         &mut self,
         alloc: Global,

@@ -57,7 +57,8 @@ impl From<ReadStop> for SourceStop {
     }
 }
 
-// Feeds the first `count` bytes of the buffer to the reader, but at most `room`: `Limit` if there are more.
+// Feeds the first `count` bytes of the buffer to the reader, but at most `room`. Returns `Limit` if there are
+// more and those that were fed contain no error.
 fn feed_within(
     reader: &mut Reader,
     buffer: &[u8],

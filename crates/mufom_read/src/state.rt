@@ -110,7 +110,7 @@ impl Drop for State {
 }
 
 impl State {
-    /// Gives up the prefix. Does not allocate.
+    /// Returns the prefix. Does not allocate.
     pub(crate) fn into_prefix(self) -> Prefix
         ensures { result ≡ self.prefix }
     {

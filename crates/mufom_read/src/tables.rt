@@ -9,7 +9,7 @@ use mufom_records::Record;
 use mufom_sections::IndexTable;
 use std::alloc::Global;
 
-/// The indexes that records declare or state something of, each table in the order of the file.
+/// The indexes that records declare or state something about, each table in the order of the file.
 #[derive(Debug, Drop)]
 pub(crate) struct Tables {
     pub sections: IndexTable,

@@ -1,4 +1,4 @@
-//! Laws about the weight of a module, each the contract of a function that does nothing.
+//! Laws about the weight of a module. Each law is the contract of a function with an empty body.
 
 ghost use Rattle.mufom_read.specs.Laws.{FilesWeighTenfold, ModulesWeighTenfold};
 

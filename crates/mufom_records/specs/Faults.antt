@@ -1,5 +1,5 @@
--- The errors of fields and records: bytes at an offset that cannot be the field that must be there. An error depends only on
--- the bytes that show it, not on what follows them.
+-- The errors of fields and records: the bytes at an offset cannot be the field that the layout requires there. An error depends
+-- only on the bytes that show it, not on the bytes after them.
 use Rattle.std.specs.Prelude.{◌≡◌, ◌⊎◌, ℕ, ◌+◌, ◌-◌, ◌<◌, ◌≤◌, true, false, List, [], ◌++◌, length, Some, None}
 use Rattle.mufom_numbers.specs.declared.reason.Reason.{Reason}
 use Rattle.mufom_numbers.specs.declared.reason.Reason.TheVariants.{BadNumber, BadId, UnsupportedFunction, UnsupportedVariable, Underflow}
@@ -21,7 +21,7 @@ use Rattle.mufom_records.specs.Layouts.{Layout, whole, refused, field, layout_of
 abbrev pub EndsTokens : List ℕ → Type 0
 EndsTokens bytes = BeginsWith (λ b. begins_token b ≡ false) bytes
 
--- the bytes begin with a token of which this holds
+-- the bytes begin with a token that satisfies Is
 abbrev pub BeginsWithToken : (Token → Type 0) → List ℕ → Type 0
 BeginsWithToken Is bytes = (token : Token) × (text : List ℕ) × (rest : List ℕ) × SpellsToken token text × Is token × (bytes ≡ text ++ rest)
 
@@ -36,7 +36,7 @@ TokenFault tokens terms bytes offset Empty = (offset ≡ 0) × (tokens ≡ 0) ×
 TokenFault tokens terms bytes offset SurplusTerms = (offset ≡ 0) × (1 < terms) × EndsTokens bytes
 TokenFault tokens terms bytes offset _ = ⊥
 
--- the bytes begin with at most 255 tokens, each of which has its operands, and this holds of what follows
+-- the bytes begin with at most 255 tokens, each of which finds its operands; Is holds of their number, the number of terms, their bytes and the rest
 abbrev pub AfterTokens : List ℕ → (ℕ → ℕ → List ℕ → List ℕ → Type 0) → Type 0
 AfterTokens bytes Is = (tokens : List Token) × (terms : ℕ) × (prefix : List ℕ) × (rest : List ℕ) × SpellsTokens tokens prefix
     × (leaves tokens ≡ Some terms) × (length tokens ≤ 255) × Is (length tokens) terms prefix rest × (bytes ≡ prefix ++ rest)
@@ -52,11 +52,11 @@ IsCutOffExpression bytes = AfterTokens bytes (λ tokens terms prefix rest. IsCut
 
 -- ---- fields
 
--- the bytes are the start of a number, but not all of it
+-- the bytes are a proper prefix of a number's spelling
 abbrev pub IsCutOffNumber : List ℕ → Type 0
 IsCutOffNumber bytes = (n : ℕ) × IsCutOff (SpellsNumber n) bytes
 
--- the bytes begin with a number of which this holds
+-- the bytes begin with a number that satisfies Is
 abbrev pub BeginsWithNumber : (ℕ → Type 0) → List ℕ → Type 0
 BeginsWithNumber Is bytes = (n : ℕ) × (text : List ℕ) × (rest : List ℕ) × SpellsNumber n text × Is n × (bytes ≡ text ++ rest)
 
@@ -73,7 +73,7 @@ FieldFault (numbers most) at bytes fault_offset reason = ⊥
 FieldFault expression at bytes fault_offset reason = ExpressionFault at bytes fault_offset reason
 FieldFault optional_expression at bytes fault_offset reason = BeginsWith (λ b. begins_token b ≡ true) bytes × ExpressionFault at bytes fault_offset reason
 
--- The bytes end before the field, within it, or where it could still begin or go on, and show no error.
+-- The bytes contain no error, and end before the field, within it, or at a point at which it could still begin or continue.
 abbrev pub IsCutOffField : Field → List ℕ → Type 0
 IsCutOffField byte bytes = bytes ≡ []
 IsCutOffField (number fits fault_offset fault) bytes = IsCutOffNumber bytes

@@ -15,8 +15,8 @@ use Rattle.mufom_expr.specs.TokenAt.{begins_number, begins_token}
 pub data Field : Type 0 where
   -- any byte
   byte : Field
-  -- A number that passes the test. One that does not is an error for this reason, reported at an offset that depends on the
-  -- field's own.
+  -- a number that passes the test; any other number is an error with this reason, reported at an offset computed from that
+  -- of the field
   number : (fits : ℕ → Bool) → (offset : ℕ → ℕ) → (fault : Reason) → Field
   -- a string; its value is the position of its bytes without the length before them
   string : Field
@@ -26,7 +26,7 @@ pub data Field : Type 0 where
   letter : List ℕ → Field
   -- a number, or none
   optional_number : Field
-  -- numbers, at most as many as this
+  -- as many numbers as follow, up to this limit
   numbers : ℕ → Field
   -- an expression; its value is the position of its bytes
   expression : Field
@@ -58,7 +58,7 @@ span_at start len = record { start = start; len = len }
 abbrev pub is_one_of : List ℕ → ℕ → Bool
 is_one_of known b = list_any (λ k. k == b) known
 
--- numbers in the form in which a record has them
+-- numbers in the form in which a record stores them
 abbrev pub items_of : List ℕ → ArrayVec ℕ
 items_of ns = record { items = ns }
 
@@ -67,7 +67,7 @@ abbrev pub SpellsNumbers : List ℕ → List ℕ → Type 0
 SpellsNumbers [] bytes = bytes ≡ []
 SpellsNumbers (n ∷ ns) bytes = (prefix : List ℕ) × (back : List ℕ) × SpellsNumber n prefix × SpellsNumbers ns back × (bytes ≡ prefix ++ back)
 
--- all bytes of an expression, which ends before a byte that cannot begin a token
+-- the bytes are a whole expression, and the next byte cannot begin a token; the span is their position
 abbrev pub SpellsExpression : Span → ℕ → List ℕ → Option ℕ → Type 0
 SpellsExpression span at bytes next = ((tree : Tree) × SpellsTree tree bytes) × (span ≡ span_at at (length bytes)) × Stops begins_token next
 

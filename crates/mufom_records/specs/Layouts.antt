@@ -28,7 +28,7 @@ pub data Layout : Type 0 where
   refused : (back : ℕ) → (reason : Reason) → Layout
   field : (f : Field) → (ValueOf f → Layout) → Layout
 
--- a field, and what may follow it
+-- a field, and the layout after it for each value of the field
 infixr 20 ◌▹◌
 abbrev pub ◌▹◌ : (f : Field) → (ValueOf f → Layout) → Layout
 f ▹ rest = field f rest
@@ -140,7 +140,7 @@ descriptor = any_number ▹ λ bits. any_number ▹ λ maus. letter orders ▹ �
 abbrev pub offset : Layout
 offset = any_number ▹ λ n. any_number ▹ λ value. whole (r.Offset n value)
 
--- ASW of this number
+-- ASW, which must be that of part `k`
 abbrev pub numbered_offset : ℕ → Layout
 numbered_offset k = offset_number k ▹ λ n. any_number ▹ λ value. whole (r.Offset n value)
 
@@ -309,7 +309,7 @@ coded b = if b == MODULE_BEGIN then module_begin
 abbrev pub body : Layout
 body = byte ▹ λ b. coded b
 
--- the next byte must be this code, otherwise the header is bad; the error is reported `back` bytes before
+-- the next byte must be this code, otherwise the header is bad, and the error is reported `back` bytes before the offset after that byte
 abbrev pub begins_with : ℕ → ℕ → Layout → Layout
 begins_with back code rest = byte ▹ λ b. if b == code then rest else refused back BadHeader
 
@@ -321,6 +321,6 @@ layout_of (mode.Offset k) = begins_with 1 ASSIGNMENT (begins_with 2 LETTER_W (nu
 layout_of mode.Body = body
 layout_of mode.Items = item
 
--- The bytes are a complete record, if the byte `next` follows them, or the input ends: no optional field could still begin.
+-- The bytes are a complete record before the byte `next` or, if that is None, at the end of the input: no optional field could still begin.
 abbrev pub IsWholeRecord : Mode → Record → List ℕ → Option ℕ → Type 0
 IsWholeRecord mode record_ bytes next = SpellsRecord (layout_of mode) record_ 0 bytes next

@@ -16,12 +16,12 @@ LiesIn input span = span.start + span.len ≤ length input
 abbrev pub IsExpressionIn : List ℕ → Span → Type 0
 IsExpressionIn input span = LiesIn input span × ((tree : Tree) × SpellsTree tree (slice_range input span.start (span.start + span.len)))
 
--- the same of an optional expression
+-- the same for an optional expression, if it is present
 abbrev pub IsOptionalExpressionIn : List ℕ → Option Span → Type 0
 IsOptionalExpressionIn input None = Unit {0}
 IsOptionalExpressionIn input (Some span) = IsExpressionIn input span
 
--- the same of the fields that a kind of block adds
+-- the same for the expression among the fields that a kind of block adds, if there is one
 abbrev pub HasTailParts : List ℕ → BlockTail → Type 0
 HasTailParts input (tail.Scope _ _ offset) = IsExpressionIn input offset
 HasTailParts input (tail.Section _ _ offset) = IsExpressionIn input offset

@@ -1,5 +1,5 @@
--- Reads one record at the start of an input, field by field from left to right. The result is its value and the offset after
--- it, or that the input ends too early, or the first error with its offset.
+-- Reading one record at the start of an input, field by field from left to right. The result is the record with the offset
+-- after it, More if the input ends too early, or the first error with its offset.
 use Rattle.std.specs.Prelude.{ℕ, zero, suc, ◌+◌, ◌-◌, Bool, ◌==◌, nat_lt, List, [], ◌∷◌, length, drop, Option, Some, None, Result, Ok, Err, if◌then◌else◌}
 use Rattle.mufom_numbers.specs.declared.reason.Reason.{Reason}
 use Rattle.mufom_numbers.specs.declared.reason.Reason.TheVariants.{Underflow, SurplusTerms, Empty, TooLong}
@@ -22,7 +22,7 @@ use Rattle.mufom_records.specs.Layouts.{Layout, whole, refused, field, layout_of
 abbrev pub Reading : Type 0 → Type 0
 Reading X = Result (X × ℕ) Stop
 
--- reads on from the offset after the value
+-- passes the value and the offset after it to the next reading; an error ends the reading
 infixl 10 ◌>>=◌
 abbrev pub ◌>>=◌ : {X Y : Type 0} → Reading X → (X × ℕ → Reading Y) → Reading Y
 (Ok x) >>= next = next x
@@ -59,7 +59,7 @@ text_at input at = do
   span ← moved at (string_at (drop at input))
   Ok (span_at (at + span.0.start) span.0.len, span.1)
 
--- the position of `n` bytes, which must be there
+-- the position of the next `n` bytes, or More if the input has fewer
 abbrev pub run_at : ℕ → List ℕ → ℕ → Reading Span
 run_at n input at = if nat_lt (length (drop at input)) n then Err More else Ok (span_at at n, at + n)
 
@@ -75,7 +75,7 @@ optional_number_at input at = do
   b ← byte_at input at
   if begins_number b.0 then (plain_number_at input at >>= λ n. Ok (Some n.0, n.1)) else Ok (None, at)
 
--- a number and those after it, or no numbers
+-- the first number, if there is one, followed by the later ones
 abbrev pub with_first : Option ℕ → ℕ → Reading (List ℕ) → Reading (List ℕ)
 with_first None at later = Ok ([], at)
 with_first (Some n) at later = later >>= λ ns. Ok (n ∷ ns.0, ns.1)
@@ -89,9 +89,9 @@ numbers_at (suc k) input at = do
 
 -- ---- expressions
 
--- The number of terms after a token, if `room` more tokens are allowed. Of two errors at the same byte the one with the
--- smaller number is reported. So Underflow goes before TooLong, and TooLong before an error of a variable's index, which is
--- a byte later.
+-- The number of terms after a token, if `room` more tokens are allowed. The error at the earlier byte is reported, and of two
+-- errors at the same byte the one that `Reason` lists first. So Underflow takes precedence over TooLong, and TooLong over an
+-- error of a variable's index, which is a byte later.
 abbrev pub terms_with : ℕ → ℕ → ℕ → Taken Token → Reading ℕ
 terms_with room terms at taken.More = Err More
 terms_with zero terms at (taken.Bad (suc offset) reason) = Err (Bad at TooLong)
@@ -99,11 +99,11 @@ terms_with room terms at (taken.Bad offset reason) = Err (Bad (at + offset) reas
 terms_with room terms at (taken.Got token used) = if nat_lt terms (operands_of token) then Err (Bad at Underflow)
     else (if room == 0 then Err (Bad at TooLong) else Ok (terms - operands_of token + 1, at + used))
 
--- an expression ends before the first byte that cannot begin a token
+-- the end of an expression, before the first byte that cannot begin a token: there must be tokens, and exactly one term must be left
 abbrev pub expression_end : Bool → ℕ → ℕ → Reading (Unit {0})
 expression_end is_empty terms at = if is_empty then Err (Bad at Empty) else (if terms == 1 then Ok (tt, at) else Err (Bad at SurplusTerms))
 
--- reads a token and goes on after it, or ends the expression
+-- reads a token and continues after it, or ends the expression if the next byte cannot begin a token
 abbrev pub token_or_end : ℕ → ℕ → List ℕ → ℕ → (ℕ × ℕ → Reading (Unit {0})) → Reading (Unit {0})
 token_or_end room terms input at next = do
   b ← byte_at input at
@@ -152,6 +152,6 @@ as_taken (Ok x) = taken.Got x.0 x.1
 as_taken (Err More) = taken.More
 as_taken (Err (Bad fault_offset reason)) = taken.Bad fault_offset reason
 
--- The record at the start of the input, in a mode.
+-- The result of reading, at the start of the input, the record that is expected in a mode.
 abbrev pub record_at : Mode → List ℕ → Taken Record
 record_at mode input = as_taken (read (layout_of mode) input 0)

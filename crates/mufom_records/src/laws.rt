@@ -1,4 +1,4 @@
-//! Laws about records, each the contract of a function that does nothing.
+//! Laws about records. Each law is the contract of a function with an empty body.
 
 ghost use Rattle.std.specs.Prelude.{◌≡◌, ◌≢◌, ◌<◌, ℕ, List, ◌++◌, length, None, Option};
 ghost use Rattle.mufom_numbers.specs.Spelling.{AreBytes};

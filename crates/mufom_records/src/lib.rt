@@ -1,9 +1,9 @@
 //! Reads one record of an object module from bytes.
 //!
-//! Only [`postfix_of`] allocates. The main clause is that of [`next_record`]. It returns a record
-//! exactly if the input begins with a complete record of the table, followed by a byte that could not
-//! begin an optional field of it. It returns the first error exactly if there is one. Otherwise it
-//! asks for more bytes.
+//! Only [`postfix_of`] allocates. The main clause is that of [`next_record`]. It returns a record if and
+//! only if the input begins with a complete record of the table: if the end of the record depends on the
+//! next byte, as after an optional field that is absent, that byte must be there. It returns an error,
+//! always the first one, if and only if there is one. Otherwise it returns `More`.
 #![tactic(auto)]
 
 mod brackets;

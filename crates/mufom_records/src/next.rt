@@ -160,13 +160,13 @@ fn record(input: &[u8], mode: Mode) -> Read
     }
 }
 
-/// Reads the record at the start of the input that is expected in this mode, and returns it with its length in bytes.
-/// Does not allocate.
+/// Reads the record at the start of the input that is expected in this mode, and returns it with its length
+/// in bytes. Does not allocate.
 ///
-/// This is [`next_record`] with a `Result`, for callers that go on with the record at once. An error is that the input
-/// ends too early, or the first error from the left with its offset.
+/// This is [`next_record`] with a `Result`, for callers that use the record at once. The error is `More` if
+/// the input ends too early, and otherwise the first error from the left with its offset.
 pub fn read_record(input: &[u8], mode: Mode) -> Result<(Record, usize), Stop>
-    // The bytes that were read are a prefix of the input, and a complete record before the byte that follows.
+    // The bytes read are a prefix of the input, and form a complete record, given the byte that follows.
     ensures whole { IfOk result (λ r. (r.1 ≤ length input.now)
         × IsWholeRecord mode r.0 (take r.1 input.now) (first_of (drop r.1 input.now) None)) }
     // If the input begins with a complete record, that record is returned.
@@ -201,7 +201,7 @@ fn next(input: &[u8], mode: Mode) -> Taken<Record>
 /// field, or where an optional field could begin. Strings, literal bytes and expressions are returned as
 /// positions in the input, and the literal bytes are not checked.
 pub fn next_record(input: &[u8], mode: Mode) -> Taken<Record>
-    // The bytes that were read are a prefix of the input, and a complete record before the byte that follows.
+    // The bytes read are a prefix of the input, and form a complete record, given the byte that follows.
     ensures got { IfGot result (λ row used. (used ≤ length input.now)
         × IsWholeRecord mode row (take used input.now) (first_of (drop used input.now) None)) }
     // If the input begins with a complete record, that record is returned.

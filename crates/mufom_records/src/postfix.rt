@@ -61,9 +61,9 @@ fn all_tokens(alloc: Global, input: &[u8]) -> Result<Postfix, NoMemory>
     Ok(Postfix::of(tokens))
 }
 
-/// Builds the expression of these bytes. They must be exactly the bytes of an expression without an error,
-/// as those at a record's expression are. Its variables have the indexes of the file. Does not allocate for
-/// an expression of one token.
+/// Builds the expression that these bytes spell. They must be exactly the bytes of an expression, as those at
+/// the position of an expression in a [`Record`](crate::Record) are. The variables keep the indexes of the
+/// file. Does not allocate for an expression of one token.
 pub fn postfix_of(alloc: Global, input: &[u8]) -> Result<Postfix, NoMemory>
     requires { (tree : Tree) × SpellsTree tree input.now }
     ensures { IfOk result (λ p. SpellsTree p input.now) }

@@ -1,11 +1,11 @@
--- A choice that is underway: what is marked, what was looked at, and that nothing is chosen without need.
+-- A choice in progress: what is marked, what has been looked at, and that nothing is chosen without need.
 use Rattle.std.specs.Prelude.{◌≡◌, ℕ, ◌+◌, ◌<◌, List, [], ◌∷◌, length, flat_map, slice_get, Some, Bool, true, false}
 use Rattle.std.specs.List.{AllByRecursion}
 use Rattle.mufom_names.specs.declared.name.Reference.{Reference}
 use Rattle.mufom_module.specs.declared.module.Parts.{Parts}
 use Rattle.mufom_select.specs.Choice.{Choice, is_marked, needed_by}
 
--- how many marks are true
+-- the number of set marks
 abbrev pub count : List Bool → ℕ
 count [] = 0
 count (true ∷ marks) = 1 + count marks
@@ -15,7 +15,7 @@ count (false ∷ marks) = count marks
 abbrev pub Marked : Choice → ℕ → Type 0
 Marked c n = is_marked c.marks n ≡ true
 
--- The marks and the order hold the same members; size is the number of all members.
+-- The marks and the order agree on the chosen members; `size` is the number of all members.
 pub record AreOne (size : ℕ) (c : Choice) : Type 0 where
   pub sized : length c.marks ≡ size
   pub inside : AllByRecursion (λ n. n < size) c.order
@@ -27,13 +27,13 @@ pub record AreOne (size : ℕ) (c : Choice) : Type 0 where
 abbrev pub references_of : Parts → List Reference
 references_of m = m.names.references
 
--- a test that passes what the roots need, and what each member needs that it passes
+-- a set of members that has each one that the roots need and, with each of its members, those that this member needs
 pub record Passes (roots members : List Parts) (test : ℕ → Bool) : Type 0 where
   pub first : AllByRecursion (λ n. test n ≡ true) (needed_by roots members (flat_map references_of roots))
   pub more : (n : ℕ) (m : Parts) → test n ≡ true → slice_get members n ≡ Some m
       → AllByRecursion (λ k. test k ≡ true) (needed_by roots members m.names.references)
 
--- What the loop keeps once what the first members of the order need is marked; turns is their number.
+-- The loop's invariant: everything that the first `turns` members of the order need is marked.
 pub record IsUnderway (roots members : List Parts) (turns : ℕ) (c : Choice) : Type 0 where
   pub one : AreOne (length members) c
   pub rooted : AllByRecursion (Marked c) (needed_by roots members (flat_map references_of roots))

@@ -1,4 +1,4 @@
-//! Choosing the members that a link needs, by one worklist.
+//! Chooses the members that a link needs, with one worklist.
 
 ghost use Rattle.std.specs.Prelude.{◌≡◌, ◌<◌, ◌^◌, [], ◌∷◌, length, option_to_list, IfSome, IfOk, OnOk};
 ghost use Rattle.mufom_meaning.specs.Selection.{IsSelected};
@@ -12,7 +12,7 @@ use mufom_names::{NameIndex, Reference};
 use mufom_numbers::{List, NoMemory};
 use std::alloc::Global;
 
-// The member that the reference needs: it is strong, and the roots do not define its name.
+// The member that the reference needs, if it is strong and the roots do not define its name.
 fn needed(defined: &NameIndex<'_>, providers: &NameIndex<'_>, reference: &Reference) -> Option<u32>
     ensures { result ≡ needed_in defined.now providers.now reference.now }
 {
@@ -71,7 +71,7 @@ fn choose(
     Ok(())
 }
 
-// The positions of the marks, in order.
+// The positions of the set marks, in order.
 fn positions(alloc: Global, marks: &[bool]) -> Result<List<u32>, NoMemory>
     requires { length marks.now < 2 ^ 32 }
     ensures { IfOk result (λ positions. positions ≡ positions_from 0 marks.now) }
@@ -85,8 +85,8 @@ fn positions(alloc: Global, marks: &[bool]) -> Result<List<u32>, NoMemory>
     Ok(positions)
 }
 
-// Marks what the roots need, and then what each member of the order needs. The order grows while the
-// loop goes over it.
+// Marks what the roots need, and then what each member in the order needs. The order grows while the loop
+// runs over it.
 fn choose_all(
     defined: &NameIndex<'_>,
     providers: &NameIndex<'_>,
@@ -116,12 +116,11 @@ fn choose_all(
     Ok(())
 }
 
-/// The positions, in increasing order, of the members that are selected for the roots.
+/// Selects members for the roots. Returns the positions of the selected members, in increasing order.
 ///
-/// A member is selected if it is the first that defines a name which a strong reference of the
-/// roots or of a selected member has, and which the roots do not define. The time is proportional to
-/// the number of all names, expected; without members no name is looked at. There must be fewer than
-/// 2^32 members.
+/// A member is selected if it is the first that defines a name which a strong reference of the roots or of a
+/// selected member has, and which the roots do not define. The expected time is proportional to the number of
+/// all names; if there are no members, no name is looked at. There must be fewer than 2^32 members.
 pub fn select(alloc: Global, roots: &Module, members: &[Module]) -> Result<List<u32>, NoMemory>
     requires { length members.now < 2 ^ 32 }
     ensures { IfOk result (λ chosen. IsSelected (roots.now ∷ []) members.now chosen) }

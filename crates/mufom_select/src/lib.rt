@@ -1,7 +1,7 @@
-//! Selection of members: which modules of a library a program needs.
+//! Selection of library members: the modules of a library that a program needs.
 //!
-//! [`select`] returns the least choice of members that provides each name which the roots or a chosen
-//! member need and the roots do not define. Its contract cites the definition of the selection in
+//! [`select`] returns the smallest choice of members that provides every name which the roots or a chosen
+//! member needs and the roots do not define. Its contract cites the definition of the selection in
 //! `mufom_meaning`.
 #![tactic(auto)]
 

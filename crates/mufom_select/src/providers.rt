@@ -9,7 +9,7 @@ use mufom_names::{HashSeed, NameIndex, Public};
 use mufom_numbers::NoMemory;
 use std::alloc::Global;
 
-// Adds the names of publics with this position. A name that the index has already keeps its position.
+// Adds the names of publics, all with this position. A name that the index already has keeps its position.
 fn add_publics<'a>(
     index: &mut NameIndex<'a>,
     position: u32,
@@ -35,7 +35,7 @@ pub(crate) fn defined<'a>(alloc: Global, roots: &'a Module) -> Result<NameIndex<
     Ok(index)
 }
 
-// How many publics the modules have, or the largest number if there are more.
+// The number of publics of the modules, or `usize::MAX` if there are more.
 fn public_count(modules: &[Module]) -> usize
     ensures { result ≡ min (length (public_names modules.now)) usize.MAX }
 {

@@ -1,4 +1,4 @@
--- Debug addresses as the code holds them.
+-- Debug addresses, from the values that the code has for them.
 use Rattle.std.specs.Prelude.{ℕ, List, [], ◌∷◌, map}
 use Rattle.mufom_expr.specs.declared.token.Token.{Token}
 use Rattle.mufom_expr.specs.declared.token.Token.TheVariants.{Number}
@@ -19,7 +19,7 @@ address_seen a = (a.address, role_seen a.role)
 abbrev pub all_seen : List DebugAddress → List Address
 all_seen addresses = map address_seen addresses
 
--- the number that a token alone is
+-- the value of a single number token; 0 for any other tokens
 abbrev pub number_in : List Token → ℕ
 number_in (Number n ∷ []) = n
 number_in _ = 0

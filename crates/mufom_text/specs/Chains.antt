@@ -1,4 +1,4 @@
--- Text that is put on a page chunk by chunk.
+-- Texts that are added to a page one after another.
 use Rattle.std.proofs.Common.{◌≡◌, ℕ, ◌≤◌, Bool, true, false, List, [], ◌++◌, Option, refl, sym, subst, ap, ◌∙◌, arith, append_assoc}
 use Rattle.std.proofs.lemmas.List.{append-nil}
 use Rattle.mufom_host.specs.World.{Meaning, Faults, GrowsByPrefix}
@@ -14,7 +14,7 @@ pub Puts-nothing : (m : Meaning) (f : Faults) (held : List ℕ) (had : Bool) →
 Puts-nothing m f held had = record { added = adds_nothing m f held had; stays = refl; counts = refl; later = omega arith }
 
 module _ (a b c : Meaning) (f g h : Faults) (held holds keeps xs ys : List ℕ) where
-  -- what was printed first, with what was held then and the second text, is what was held at first and both texts
+  -- bytes that are printed before the second text is added, then what is held and that text, are the bytes held at first and both texts
   both : (printed : List ℕ) → printed ++ holds ≡ held ++ xs → printed ++ (holds ++ ys) ≡ held ++ (xs ++ ys)
   both printed e = sym (append_assoc printed holds ys) ∙ ap (λ l. l ++ ys) e ∙ append_assoc held xs ys
 

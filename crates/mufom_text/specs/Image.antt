@@ -19,11 +19,11 @@ address maus a = encode_upper (bytes_high_first maus a)
 
 -- ---- loaded bytes
 
--- a line begins at the first byte of a row, and at each multiple of 16
+-- what comes before a byte: its address and a colon, if a line begins there (at the first byte of a run, and at each multiple of 16)
 abbrev pub line_start : ℕ → Bool → ℕ → Text
 line_start maus first a = if first || (a % 16 == 0) then address maus a ++ codes ":" else []
 
--- and it ends before the next
+-- what comes after a byte: a line feed, if the line ends there (at the last byte of a run, and before each multiple of 16)
 abbrev pub line_end : Bool → ℕ → Text
 line_end last a = if last || ((a + 1) % 16 == 0) then 10 ∷ [] else []
 
@@ -31,11 +31,11 @@ abbrev pub is_last : List ℕ → Bool
 is_last [] = true
 is_last (_ ∷ _) = false
 
--- a byte of a row: a space and two digits, within the ends of its line
+-- a byte of a run: a space and two digits, with the start and the end of its line if they are there
 abbrev pub byte_text : ℕ → Bool → Bool → ℕ → ℕ → Text
 byte_text maus first last a b = line_start maus first a ++ ((32 ∷ encode_upper (b ∷ [])) ++ line_end last a)
 
--- a row of bytes from an address on
+-- the lines of a run's bytes, from an address on
 abbrev pub row_text : ℕ → Bool → ℕ → List ℕ → Text
 row_text maus first a [] = []
 row_text maus first a (b ∷ bytes) = byte_text maus first (is_last bytes) a b ++ row_text maus false (a + 1) bytes
@@ -54,14 +54,14 @@ public_text maus p = line (codes "public " ++ address maus p.value ++ codes " " 
 
 -- ---- debug addresses
 
--- the number that a located expression is
+-- the value of a located expression, which is a single number; 0 for any other tree
 abbrev pub number_of : Tree → ℕ
 number_of (number n) = n
 number_of (variable l p) = 0
 number_of (one f a) = 0
 number_of (two f a b) = 0
 
--- the names that a mark declares
+-- the names that a debug record declares
 abbrev pub mark_names : DebugMark → List (List ℕ)
 mark_names (block_begin head name) = []
 mark_names (block_end end) = []
@@ -69,7 +69,7 @@ mark_names (name_mark name) = name ∷ []
 mark_names (note_mark name note) = []
 mark_names (value_mark name value) = []
 
--- all names, in the order of the file
+-- all debug names, in the order of the file
 abbrev pub names_of : List DebugMark → List (List ℕ)
 names_of marks = flat_map mark_names marks
 
@@ -91,17 +91,17 @@ role_text (value_of name) = codes " name " ++ quoted name
 abbrev pub Address : Type 0
 Address = ℕ × Role
 
--- the address that an expression is, if there is one
+-- the address that an expression gives, with its role; none if there is no expression
 abbrev pub address_in : Role → Option Tree → List Address
 address_in role None = []
 address_in role (Some t) = (number_of t, role) ∷ []
 
--- one level of a block, with each item inside already seen as its addresses
+-- the addresses of a block, in which each item is replaced by its addresses
 abbrev pub block_addresses : Block-F (List Address) (List Address) → List Address
 block_addresses b = address_in (begin_of (kind_number b.head) b.name) (offset_of b.head)
     ++ (joined b.items ++ address_in (end_of (kind_number b.head) b.name) b.end)
 
--- one level of an item, with the block inside already seen as its addresses; these names are declared
+-- the addresses of an item, in which a block is replaced by its addresses; `names` are all debug names of the module
 abbrev pub item_addresses : List (List ℕ) → DebugItem-F (List Address) (List Address) → List Address
 item_addresses names (DebugItem-F.Block addresses) = addresses
 item_addresses names (DebugItem-F.Name name) = []

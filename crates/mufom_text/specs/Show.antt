@@ -1,5 +1,5 @@
--- The text of a module: a line for each entry. It has two forms: a summary to be read, and a listing from which the
--- module can be built. They differ in the parts that are not read, and in the end of a repeat.
+-- The text of a module: a line for each entry. It has two forms: a summary to read, and a listing from which the module can be built. They differ
+-- only in the parts that are kept as bytes (extension and environment) and in the end of a repeat.
 use Rattle.std.specs.Prelude.{ℕ, ◌-◌, Bool, List, [], ◌∷◌, ◌++◌, length, flat_map, Option, Some, None, codes, if◌then◌else◌}
 use Rattle.std.specs.Fmt.{decimal}
 use Rattle.mufom_expr.specs.declared.token.FieldKind.{FieldKind}
@@ -36,12 +36,12 @@ abbrev pub module_line : Parts → Text
 module_line m = line (codes "module " ++ quoted m.name ++ codes " processor " ++ quoted m.processor ++ codes " maus " ++ decimal m.maus
     ++ codes " order " ++ order_letter m.order)
 
--- what is printed of a part that is not read: the number of its bytes, or all of them
+-- what is printed of a part that is kept as bytes: its length in a summary, the bytes in a listing
 abbrev pub raw_text : TextForm → List ℕ → Text
 raw_text Summary bytes = decimal (length bytes) ++ codes " bytes"
 raw_text Listing bytes = hex_bytes bytes
 
--- the line of a part that is not read, if it has bytes
+-- the line of a part that is kept as bytes; nothing if the part is empty
 abbrev pub raw_line : TextForm → Text → List ℕ → Text
 raw_line form name [] = []
 raw_line form name (b ∷ bytes) = line (name ++ codes " " ++ raw_text form (b ∷ bytes))
@@ -116,7 +116,7 @@ abbrev pub end_text : Option Tree → Text
 end_text None = codes "end"
 end_text (Some value) = end_value value
 
--- the line of a mark, in `depth` open blocks, after `n` debug names
+-- the line of a debug record, in `depth` open blocks, after `n` debug names
 abbrev pub mark_line : ℕ → ℕ → DebugMark → Text
 mark_line depth n (block_begin head name) = line (indent depth ++ codes "block " ++ decimal (kind_number head) ++ codes " " ++ quoted name ++ head_text head)
 mark_line depth n (block_end end) = line (indent (depth - 1) ++ end_text end)
@@ -124,12 +124,12 @@ mark_line depth n (name_mark name) = line (indent depth ++ codes "name " ++ deci
 mark_line depth n (note_mark name note) = line (indent depth ++ codes "note " ++ decimal name ++ note_text note)
 mark_line depth n (value_mark name value) = line (indent depth ++ codes "value " ++ decimal name ++ codes " = " ++ infix_text value)
 
--- how many blocks are open after marks
+-- the number of blocks that are open after debug records
 abbrev pub depth_after_all : ℕ → List DebugMark → ℕ
 depth_after_all depth [] = depth
 depth_after_all depth (mark ∷ marks) = depth_after_all (open_after depth mark) marks
 
--- the lines of marks, in `depth` open blocks, after `n` debug names
+-- the lines of debug records, in `depth` open blocks, after `n` debug names
 abbrev pub mark_lines : ℕ → ℕ → List DebugMark → Text
 mark_lines depth n [] = []
 mark_lines depth n (mark ∷ marks) = mark_line depth n mark ++ mark_lines (open_after depth mark) (names_after n mark) marks
@@ -149,7 +149,7 @@ abbrev pub item_text : Item → Text
 item_text (Literal bytes) = bytes_text bytes
 item_text (Field kind size value) = codes "field " ++ kind_text kind ++ codes " " ++ decimal size ++ codes " = " ++ infix_text value
 
--- the line after the items of a repeat, which only a listing has
+-- the end of a repeat: a line in a listing, nothing in a summary
 abbrev pub repeat_end : TextForm → Text
 repeat_end Summary = []
 repeat_end Listing = line (codes "end")
@@ -167,7 +167,7 @@ start_line (Some value) = line (codes "start = " ++ infix_text value)
 
 -- ---- the module
 
--- The text of a module with these debug items, as marks.
+-- The text of a module whose debug items are given as a list of records.
 abbrev pub text_with : TextForm → Parts → List DebugMark → Text
 text_with form m marks = module_line m ++ raw_line form (codes "extension") m.ext ++ raw_line form (codes "environment") m.env
     ++ each section_line m.sections ++ each public_lines m.names.publics ++ each reference_lines m.names.references

@@ -2,7 +2,7 @@
 use Rattle.std.specs.Prelude.{ℕ, zero, suc, ◌==◌, ◌&&◌, not, nat_le, Bool, List, [], ◌∷◌, ◌++◌, flat_map, codes, if◌then◌else◌}
 use Rattle.std.specs.Fmt.{decimal}
 use Rattle.hex.specs.Hex.{encode_upper}
--- the texts of the entries of a list, each by its position; from n on
+-- the texts of a list's entries, each made from its position and itself; `each_from` counts positions from n
 pub use Rattle.mufom_module.specs.Written.{each, each_from}
 
 abbrev pub Text : Type 0
@@ -12,11 +12,11 @@ Text = List ℕ
 abbrev pub line : Text → Text
 line text = text ++ 10 ∷ []
 
--- bytes 20 to 7E, except the quote and the backslash
+-- the byte is printed as itself in a name: bytes 20 to 7E, except the quote and the backslash
 abbrev pub stands_for_itself : ℕ → Bool
 stands_for_itself b = nat_le 0x20 b && (nat_le b 0x7E && (not (b == 0x22) && not (b == 0x5C)))
 
--- any other byte is a backslash, `x` and two upper-case hexadecimal digits
+-- a byte of a name: itself, or a backslash, `x` and two upper-case hexadecimal digits
 abbrev pub quoted_byte : ℕ → Text
 quoted_byte b = if stands_for_itself b then b ∷ [] else 0x5C ∷ 0x78 ∷ encode_upper (b ∷ [])
 
@@ -24,7 +24,7 @@ quoted_byte b = if stands_for_itself b then b ∷ [] else 0x5C ∷ 0x78 ∷ enco
 abbrev pub quoted : List ℕ → Text
 quoted name = 0x22 ∷ (flat_map quoted_byte name ++ 0x22 ∷ [])
 
--- a space and a number, for each of these
+-- the numbers, each after a space
 abbrev pub spaced_numbers : List ℕ → Text
 spaced_numbers ns = flat_map (λ n. codes " " ++ decimal n) ns
 

@@ -1,4 +1,5 @@
-//! The debug addresses of a location, and what each is the address of.
+//! The debug addresses of a location, and the role of each: the start or end of a block, or the value of a
+//! name.
 
 ghost use Rattle.std.specs.Prelude.{◌≡◌, ◌++◌, ◌∷◌, [], map, option_map, slice_get, unwrap_or, IfOk, OnOk};
 ghost use Rattle.mufom_debug.specs.Marks.{kind_number, marks_of, marks_of_item, offset_of};
@@ -28,7 +29,7 @@ pub(crate) struct DebugAddress<'a> {
     pub role: Role<'a>,
 }
 
-// The number that a token alone is; 0 for other tokens.
+// The value of a single number token; 0 for any other tokens.
 fn number_in(tokens: &[Token]) -> u64
     ensures { result ≡ number_in tokens.now }
 {
@@ -38,7 +39,7 @@ fn number_in(tokens: &[Token]) -> u64
     }
 }
 
-// The number that a located expression is.
+// The value of a located expression, which is a single number.
 fn number_of(expression: &Postfix) -> u64
     ensures { result ≡ number_of expression.now }
 {
@@ -83,7 +84,7 @@ fn name_at<'a>(names: &[&'a [u8]], position: u32) -> &'a [u8]
 
 // ---- addresses
 
-// Appends the address that an expression is, if there is one.
+// Appends the address that an expression gives, if there is one.
 fn push_address<'a>(
     expression: Option<&Postfix>,
     role: Role<'a>,
@@ -169,8 +170,8 @@ fn push_addresses<'a>(
     Ok(())
 }
 
-/// The debug addresses of located items, in the order of the file: for a block its start, those of its
-/// items, and then its end. A block without an expression for its start or end has no address there.
+/// Lists the debug addresses of located items in the order of the file: for a block its start, the addresses
+/// of its items, and its end. A block without an expression for its start or end has no address there.
 pub(crate) fn debug_addresses(
     alloc: Global,
     items: &[DebugItem],

@@ -7,7 +7,7 @@ use crate::output::Output;
 use mufom_numbers::{Bytes, NoMemory};
 use std::alloc::Global;
 
-/// Text in memory. Once memory has run out, no more is added.
+/// Text that is collected in memory. Once memory has run out, no more is added.
 #[derive(Drop)]
 pub(crate) struct Gathered {
     text: Vec<u8>,
@@ -38,7 +38,7 @@ impl Gathered {
         }
     }
 
-    /// All text that was put, or out of memory if some of it is missing.
+    /// Returns the whole text, or `NoMemory` if a part of it is missing.
     pub(crate) fn into_bytes(self) -> Result<Bytes, NoMemory>
         ensures { IfOk result (λ text. (self.is_cut_off ≡ false) × (text ≡ self.text.items)) }
     {

@@ -34,7 +34,7 @@ fn operands_begin(before: &[Token], function: Function) -> usize
     }
 }
 
-// Where the last term of the tokens begins.
+// The position at which the last term of the tokens begins.
 #[cycle(terms)]
 fn last_term(tokens: &[Token]) -> usize
     requires known { EndsWithTerm tokens.now }

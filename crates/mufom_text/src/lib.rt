@@ -1,13 +1,14 @@
-//! Texts: of a module, with a line for each entry, as a summary to be read or as a listing from which it
-//! can be built; and of a located image, as `dump` prints it, with the loaded bytes, the start, the
+//! The texts that `mufom` prints: of a module, a line for each entry, as a summary or as a listing from which
+//! the module can be built; and of a located image, as `dump` prints it: the loaded bytes, the start, the
 //! publics and the debug addresses.
 //!
-//! It depends on the crates of a module's entries, `mufom_module`, `mufom_host`, `mufom_meaning` and `mufom_located` for what
-//! a location is, `itoa`, `hex` and `thiserror`. All lines are put by functions over one
-//! trait, and a page of a fixed size implements it: the text goes through the page to a host, so that
-//! only [`text_bytes`] holds a whole text. Its main clauses are those of [`print_text`] and
-//! [`print_image`]: the output grows by exactly the text, or a print failed, the count of failed
-//! prints rose, and the output grew by a prefix of that text.
+//! It depends on the crates of a module's entries, on `mufom_module` and `mufom_host`, on `mufom_meaning` and
+//! `mufom_located` for the definition of a location, and on `itoa`, `hex` and `thiserror`. The functions that
+//! write lines are generic over one trait, [`Output`]. A page of a fixed size implements it and passes the
+//! text on to a host, so only [`text_bytes`] holds a whole text in memory. The main clauses are those of
+//! [`print_text`] and [`print_image`]: the output grows by exactly the text; or memory ran out before
+//! anything was printed; or a print failed, the count of failed prints rose, and the output grew by a prefix
+//! of the text.
 #![tactic(auto)]
 
 mod addresses;

@@ -1,9 +1,9 @@
-//! What lines of text are put on.
+//! Destinations for lines of text.
 
 ghost use Rattle.std.specs.Prelude.{◌≡◌, ℕ, List, [], ◌++◌};
 
-/// A destination for text. Once a part of the text is lost, no more is added; the owner of the output learns of it
-/// at the end.
+/// A destination for text. Once a part of the text is lost, no more is added; the owner of the output finds
+/// out at the end.
 pub trait Output {
     /// How putting text changes the output.
     ghost takes: { Self → Self → List ℕ → Type 0 };

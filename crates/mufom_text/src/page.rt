@@ -1,4 +1,4 @@
-//! A page: text that is held, and printed in large chunks.
+//! A page: a buffer that prints text in large chunks.
 
 ghost use Rattle.std.specs.Prelude.{◌≡◌, ◌+◌, ◌≤◌, ◌<◌, ℕ, List, [], ◌++◌, length, take, true, false, vec_len, is_err};
 ghost use Rattle.mufom_text.specs.Printing.{Puts};
@@ -10,10 +10,10 @@ use mufom_host::{Failed, Host};
 use mufom_numbers::NoMemory;
 use std::alloc::Global;
 
-// How many bytes a page holds.
+// The size of a page, in bytes.
 const SIZE: usize = 65_536;
 
-/// A page of text for a host. It holds at most 65,536 bytes, and prints them when more come.
+/// A buffer of 65,536 bytes in front of a host's output. It is printed when the next text does not fit.
 #[derive(Drop)]
 pub(crate) struct Page<'a, H: Host> {
     host: &'a mut H,
@@ -23,12 +23,12 @@ pub(crate) struct Page<'a, H: Host> {
     ghost within: { used ≤ vec_len room },
 }
 
-/// Room for what a page holds.
+/// Allocates the buffer of a page.
 pub(crate) fn room(alloc: Global) -> Result<Vec<u8>, NoMemory> {
     Ok(vec![in alloc; 0u8; SIZE]?)
 }
 
-// Copies text to a place.
+// Copies text into the buffer, at a position.
 fn copy_to(room: &mut [u8], place: usize, text: &[u8])
     requires { place + length text.now ≤ length room.old }
     ensures prefix { take (place + length text.now) room.new ≡ take place room.old ++ text.now }
@@ -38,7 +38,7 @@ fn copy_to(room: &mut [u8], place: usize, text: &[u8])
 }
 
 impl<'a, H: Host> Page<'a, H> {
-    /// A page that holds nothing.
+    /// Returns an empty page for the host.
     pub(crate) fn new(host: &'a mut H, room: Vec<u8>) -> Page<'a, H>
         ensures same { result.host.ghost_name ≡ host.entry.ghost_name }
         ensures host { result.host.now ≡ host.old }
@@ -71,7 +71,7 @@ impl<'a, H: Host> Page<'a, H> {
         }
     }
 
-    // Holds text for which there is room.
+    // Adds text that fits into the rest of the page.
     fn hold(&mut self, text: &[u8])
         requires fine { self.old.has_failed ≡ false }
         requires fits { self.old.used + length text.now ≤ vec_len self.old.room }
@@ -85,7 +85,7 @@ impl<'a, H: Host> Page<'a, H> {
         self.used += text.len();
     }
 
-    // Prints text at once, when nothing is held.
+    // Prints text directly; the page must be empty.
     fn print(&mut self, text: &[u8])
         requires fine { self.old.has_failed ≡ false }
         requires empty { self.old.used ≡ 0 }
@@ -100,7 +100,7 @@ impl<'a, H: Host> Page<'a, H> {
         }
     }
 
-    // Puts text when nothing is held, or a print has failed.
+    // Adds text to an empty page. If a print has failed, does nothing.
     fn begin(&mut self, text: &[u8])
         requires empty { self.old.has_failed ≡ false → self.old.used ≡ 0 }
         ensures same { self.new.host.ghost_name ≡ self.old.host.ghost_name }
@@ -118,7 +118,7 @@ impl<'a, H: Host> Page<'a, H> {
         }
     }
 
-    // Puts text.
+    // Adds text.
     fn add(&mut self, text: &[u8])
         ensures same { self.new.host.ghost_name ≡ self.old.host.ghost_name }
         ensures puts { Puts (H.meaning self.old.host.now) (H.meaning self.new.host.now) (H.faults self.old.host.now)
@@ -133,7 +133,7 @@ impl<'a, H: Host> Page<'a, H> {
         }
     }
 
-    /// Prints what is still held. Returns `Failed` if a print failed.
+    /// Prints what the page still holds. Returns `Failed` if any print has failed.
     pub(crate) fn finish(&mut self) -> Result<(), Failed>
         ensures same { self.new.host.ghost_name ≡ self.old.host.ghost_name }
         ensures empty { self.new.has_failed ≡ false → self.new.used ≡ 0 }

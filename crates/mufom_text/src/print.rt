@@ -10,10 +10,10 @@ use mufom_host::{Failed, Host};
 use std::alloc::Global;
 use thiserror::Error;
 
-/// The error of printing a text.
+/// Why a text was not printed whole.
 #[derive(Clone, Copy, Debug, PartialEq, Eq, Error)]
 pub enum PrintStop {
-    /// A print failed, and was counted.
+    /// A print failed; the host's count of failed prints rose.
     #[error("a print failed")]
     Fault,
     /// Out of memory for the page.
@@ -23,15 +23,15 @@ pub enum PrintStop {
 
 /// A value whose text is a list of lines.
 pub trait Lines {
-    /// All its lines.
+    /// All its lines, as one text.
     ghost text: { Self → List ℕ };
 
-    /// Puts all lines.
+    /// Adds all lines to the output.
     fn put_lines<K: Output>(&self, out: &mut K)
         ensures { K.takes out.old out.new (text self.now) };
 }
 
-// Puts all lines on a page, which stays the same host's.
+// Adds all lines to the page, which stays with the same host.
 fn fill<H: Host, T: Lines>(page: &mut Page<H>, lines: &T)
     ensures same { page.new.host.ghost_name ≡ page.old.host.ghost_name }
     ensures puts { Puts (H.meaning page.old.host.now) (H.meaning page.new.host.now) (H.faults page.old.host.now)
@@ -41,7 +41,7 @@ fn fill<H: Host, T: Lines>(page: &mut Page<H>, lines: &T)
     lines.put_lines(page);
 }
 
-// Prints all lines through a page with this room.
+// Prints all lines through a page with this buffer.
 fn print_all<H: Host, T: Lines>(room: Vec<u8>, host: &mut H, lines: &T) -> Result<(), Failed>
     ensures grows { Grows (H.meaning host.old).out (H.meaning host.new).out result (T.text lines.now) }
     ensures stays { KeepsAllButOut (H.meaning host.old) (H.meaning host.new) }

@@ -25,8 +25,8 @@ fn push_quoted_byte(alloc: Global, text: &mut Vec<u8>, byte: u8) -> Result<(), N
     Ok(())
 }
 
-/// A name in double quotes, as the texts have it: a byte that is not printed as it is becomes a backslash,
-/// `x` and its two upper-case hexadecimal digits.
+/// Returns a name in double quotes, as it is printed: a byte that cannot be printed as itself becomes a
+/// backslash, `x` and two upper-case hexadecimal digits.
 pub fn quoted_name(alloc: Global, name: &[u8]) -> Result<Vec<u8>, NoMemory>
     ensures { IfOk result (λ text. text.items ≡ quoted name.now) }
 {

@@ -35,7 +35,7 @@ pub(crate) fn module_line<K: Output>(out: &mut K, parts: &Parts)
     out.put(b"\n");
 }
 
-// The number of bytes of a part.
+// The length of a part, in bytes.
 fn counted<K: Output>(out: &mut K, count: usize)
     ensures { K.takes out.old out.new (decimal count ++ codes " bytes") }
 {
@@ -52,7 +52,7 @@ fn raw_text<K: Output>(out: &mut K, form: TextForm, bytes: &[u8])
     }
 }
 
-// The line of a part that is not read.
+// The line of a part that is kept as bytes.
 fn some_raw<K: Output>(out: &mut K, form: TextForm, name: &[u8], bytes: &[u8])
     ensures { K.takes out.old out.new (line ((name.now ++ codes " ") ++ raw_text form bytes.now)) }
 {
@@ -62,7 +62,7 @@ fn some_raw<K: Output>(out: &mut K, form: TextForm, name: &[u8], bytes: &[u8])
     out.put(b"\n");
 }
 
-/// The line of a part that is not read, if it has bytes.
+/// The line of a part that is kept as bytes (extension or environment); nothing if the part is empty.
 pub(crate) fn raw_line<K: Output>(out: &mut K, form: TextForm, name: &[u8], bytes: &[u8])
     ensures { K.takes out.old out.new (raw_line form name.now bytes.now) }
 {

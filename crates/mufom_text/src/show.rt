@@ -35,7 +35,7 @@ fn module_text<K: Output>(out: &mut K, form: TextForm, parts: &Parts)
     start(out, &parts.start);
 }
 
-// A module with the form of its text.
+// A module, with the form in which it is printed.
 #[derive(Drop)]
 struct ModuleText<'a> {
     form: TextForm,
@@ -92,7 +92,8 @@ pub fn print_module<H: Host>(alloc: Global, host: &mut H, object: &Module) -> Re
     print_text(alloc, host, TextForm::Summary, object)
 }
 
-/// A text of the module, held in memory. It takes time and memory in proportion to the length of the text.
+/// Returns a text of the module as bytes in memory. Time and memory are in proportion to the length of the
+/// text.
 pub fn text_bytes(alloc: Global, form: TextForm, object: &Module) -> Result<Bytes, NoMemory>
     ensures { IfOk result (λ text. text ≡ text_of form object.now) }
 {

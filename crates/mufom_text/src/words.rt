@@ -28,7 +28,7 @@ pub fn numbered<K: Output>(out: &mut K, word: &[u8], value: u64)
     number(out, value);
 }
 
-/// A space and a number, for each of these.
+/// The numbers, each after a space.
 pub(crate) fn spaced_numbers<K: Output>(out: &mut K, values: &[u64])
     ensures { K.takes out.old out.new (spaced_numbers values.now) }
 {

@@ -16,7 +16,7 @@ use Rattle.mufom_meaning.specs.AddressMap.{AreApart}
 abbrev pub run_section : Run → Section
 run_section run = record { name = codes "txt"; absolute = true; purpose = None; size = length run.bytes; align = 1; base = Some run.address }
 
--- bytes as literals of 65,535 bytes, the last one shorter if needed; no more of them than this many
+-- bytes as literals of 65,535 bytes, of which the last may be shorter; at most `most` literals
 abbrev pub literals : (most : ℕ) → List ℕ → List Load
 literals most [] = []
 literals zero (b ∷ bytes) = []
@@ -31,7 +31,7 @@ abbrev pub loads_from : ℕ → List Run → List Load
 loads_from section [] = []
 loads_from section (run ∷ runs) = run_loads section run ++ loads_from (section + 1) runs
 
--- what the module of runs states
+-- the parts of the module of runs
 abbrev pub text_parts : ℕ → List Run → Parts
 text_parts maus runs = record (bare_parts maus Most) {
   processor = codes "TXT";
@@ -45,15 +45,15 @@ abbrev pub EndBelow : ℕ → List Run → Type 0
 EndBelow width [] = Unit {0}
 EndBelow width (run ∷ runs) = (run.address + length run.bytes ≤ 2 ^ width) × EndBelow width runs
 
--- The runs of a text whose module is made: maximal rows in increasing order below 2^width, at most 33,554,432 of them, and as
--- many bytes.
+-- The runs of a text of which a module can be made: maximal runs in increasing order below 2^width, at most 33,554,432 of them and at most as many
+-- bytes in all.
 pub record HaveModule (width : ℕ) (runs : List Run) : Type 0 where
   pub apart : AreApart 0 runs
   pub below : EndBelow width runs
   pub few : length runs ≤ 33554432
   pub short : sum_by (λ run. length run.bytes) runs ≤ 33554432
 
--- The runs of a text: maximal rows in increasing order below 2^width, and their bytes are bytes.
+-- The runs of a text: maximal runs in increasing order below 2^width, whose bytes are numbers below 256.
 pub record HaveText (width : ℕ) (runs : List Run) : Type 0 where
   pub apart : AreApart 0 runs
   pub below : EndBelow width runs

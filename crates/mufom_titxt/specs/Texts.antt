@@ -1,4 +1,4 @@
--- The bytes that a TI-TXT text gives to addresses, and what is wrong with a text.
+-- The bytes that a TI-TXT text gives to addresses, and the errors of a text.
 use Rattle.std.specs.Prelude.{◌≡◌, ℕ, suc, ◌+◌, ◌^◌, ◌<◌, nat_lt, Bool, true, false, List, [], ◌∷◌, ◌++◌, length, map, replicate, Option, Some, None}
 use Rattle.std.specs.Prelude.{option_map, if◌then◌else◌}
 use Rattle.std.specs.List.{All}
@@ -11,9 +11,9 @@ use Rattle.mufom_titxt.specs.declared.refusal.TxtReason.TheVariants.{BadLine, No
 use Rattle.mufom_titxt.specs.declared.refusal.TxtRefusal.{TxtRefusal}
 use Rattle.mufom_titxt.specs.Lines.{Line, blank_line, address_line, byte_line, end_line, line_of, lines_of}
 
--- ---- what lines state together
+-- ---- lines in sequence
 
--- the address of the next byte after a line, if one is set
+-- the address of the next byte once a line is read, if one is set
 abbrev pub next_after : Option ℕ → Line → Option ℕ
 next_after next blank_line = next
 next_after next (address_line address) = Some address
@@ -37,7 +37,7 @@ abbrev pub cells_of_lines : Option ℕ → List Line → List Cell
 cells_of_lines next [] = []
 cells_of_lines next (line ∷ lines) = line_cells next line ++ cells_of_lines (next_after next line) lines
 
--- a line other than the one that ends a text, and if it has bytes, an address is set
+-- the line may come before the end of the text: it does not end the text, and an address is set if it has bytes
 abbrev pub IsInside : Option ℕ → Line → Type 0
 IsInside next blank_line = Unit {0}
 IsInside next (address_line address) = Unit {0}
@@ -45,13 +45,13 @@ IsInside None (byte_line bytes) = ⊥
 IsInside (Some at) (byte_line bytes) = Unit {0}
 IsInside next end_line = ⊥
 
--- each of the lines is one
+-- each of the lines may come before the end of the text
 abbrev pub AreInside : Option ℕ → List Line → Type 0
 AreInside next [] = Unit {0}
 AreInside next (line ∷ lines) = IsInside next line × AreInside (next_after next line) lines
 
--- The text is one that gives these bytes to these addresses, in this order: it has lines, one line that ends it, and no more than
--- blank lines after that. A line with bytes comes after one with an address, no address has two bytes, and all are below 2^width.
+-- The text gives these bytes to these addresses, in this order: it has lines, then one line that ends it, and only blank lines after that. A line
+-- with bytes follows one with an address, no address has two bytes, and all addresses are below 2^width.
 pub record TxtMap (text : List ℕ) (width : ℕ) (cells : List Cell) : Type 0 where
   pub lines : List Line
   pub blanks : ℕ
@@ -61,9 +61,9 @@ pub record TxtMap (text : List ℕ) (width : ℕ) (cells : List Cell) : Type 0 w
   pub below : All (λ a. a < 2 ^ width) (map (λ (cell : Cell). cell.0) cells)
   pub once : first_twice [] (map (λ (cell : Cell). cell.0) cells) ≡ None
 
--- ---- what is wrong with a text
+-- ---- the error of a text
 
--- what lines have stated so far: whether the text has ended, and the address of the next byte, if one is set
+-- what the lines have stated so far: whether the text has ended, and the address of the next byte, if one is set
 pub record SoFar : Type 0 where
   pub ended : Bool
   pub next : Option ℕ
@@ -79,24 +79,24 @@ so_far_after s (address_line address) = record s { next = Some address }
 so_far_after s (byte_line bytes) = record s { next = option_map (λ at. at + length bytes) s.next }
 so_far_after s end_line = record s { ended = true }
 
--- after any line; a bad one states nothing
+-- after any line; a bad line changes nothing
 abbrev pub so_far : SoFar → Option Line → SoFar
 so_far s None = s
 so_far s (Some line) = so_far_after s line
 
--- what is wrong with the first bad byte of these, which begin at an address, if other addresses have bytes already
+-- the error of the first bad byte of a line whose bytes begin at an address, if the addresses `taken` already have bytes
 abbrev pub byte_fault : ℕ → List ℕ → ℕ → List ℕ → Option TxtReason
 byte_fault modulus taken at [] = None
 byte_fault modulus taken at (b ∷ bytes) =
     if nat_lt at modulus then (if has_number taken at then Some (Twice at) else byte_fault modulus (at ∷ taken) (suc at) bytes)
     else Some Beyond
 
--- the same if an address may be set
+-- the same, if an address is set
 abbrev pub bytes_fault : ℕ → List ℕ → Option ℕ → List ℕ → Option TxtReason
 bytes_fault modulus taken None bytes = Some NoAddress
 bytes_fault modulus taken (Some at) bytes = byte_fault modulus taken at bytes
 
--- what is wrong with a line before the one that ends the text
+-- the error of a line before the one that ends the text
 abbrev pub inner_fault : ℕ → List ℕ → Option ℕ → Option Line → Option TxtReason
 inner_fault modulus taken next None = Some BadLine
 inner_fault modulus taken next (Some blank_line) = None
@@ -104,7 +104,7 @@ inner_fault modulus taken next (Some (address_line address)) = None
 inner_fault modulus taken next (Some (byte_line bytes)) = bytes_fault modulus taken next bytes
 inner_fault modulus taken next (Some end_line) = None
 
--- after it all but blank lines are wrong
+-- the error of a line after it: only blank lines may follow
 abbrev pub later_fault : Option Line → Option TxtReason
 later_fault None = Some AfterEnd
 later_fault (Some blank_line) = None
@@ -112,16 +112,16 @@ later_fault (Some (address_line address)) = Some AfterEnd
 later_fault (Some (byte_line bytes)) = Some AfterEnd
 later_fault (Some end_line) = Some AfterEnd
 
--- what is wrong with a line after those before it
+-- the error of a line, given what the lines before it have stated
 abbrev pub line_fault : ℕ → List ℕ → SoFar → Option Line → Option TxtReason
 line_fault modulus taken s line = if s.ended then later_fault line else inner_fault modulus taken s.next line
 
--- the bytes of any line with their addresses; a bad one has none, nor has one after the end
+-- the bytes of any line with their addresses; none for a bad line and for a line after the end
 abbrev pub cells_on : SoFar → Option Line → List Cell
 cells_on s None = []
 cells_on s (Some line) = if s.ended then [] else line_cells s.next line
 
--- the addresses of the bytes of a line, and before them those that have bytes already
+-- the addresses that have bytes once the cells of a line are added
 abbrev pub taken_after : List ℕ → List Cell → List ℕ
 taken_after taken [] = taken
 taken_after taken (cell ∷ cells) = taken_after (cell.0 ∷ taken) cells
@@ -130,22 +130,22 @@ taken_after taken (cell ∷ cells) = taken_after (cell.0 ∷ taken) cells
 abbrev pub refusal_at : ℕ → TxtReason → TxtRefusal
 refusal_at line reason = record { line = line; reason = reason }
 
--- what is wrong at the end of a text with this many lines
+-- the error at the end of a text with this many lines
 abbrev pub end_fault : ℕ → SoFar → Option TxtRefusal
 end_fault count s = if s.ended then None else Some (refusal_at count NoEnd)
 
--- the first line with an error, of those after `count` others, and what is wrong with it
+-- the first line with an error, after `count` other lines, and the error
 abbrev pub refusal_after : ℕ → ℕ → SoFar → List ℕ → List (Option Line) → Option TxtRefusal
 refusal_after modulus count s taken [] = end_fault count s
 refusal_after modulus count s taken (line ∷ lines) =
     option_map (refusal_at (suc count)) (line_fault modulus taken s line)
     or_else refusal_after modulus (suc count) (so_far s line) (taken_after taken (cells_on s line)) lines
 
--- what is wrong with a text
+-- the error of a text
 abbrev pub txt_refusal : List ℕ → ℕ → Option TxtRefusal
 txt_refusal text width = refusal_after (2 ^ width) 0 nothing_stated [] (map line_of (lines_of text))
 
--- the bytes of lines, some of which may be bad
+-- the bytes of lines with their addresses; some lines may be bad
 abbrev pub cells_after : SoFar → List (Option Line) → List Cell
 cells_after s [] = []
 cells_after s (line ∷ lines) = cells_on s line ++ cells_after (so_far s line) lines
@@ -154,7 +154,7 @@ cells_after s (line ∷ lines) = cells_on s line ++ cells_after (so_far s line) 
 abbrev pub txt_cells : List ℕ → List Cell
 txt_cells text = cells_after nothing_stated (map line_of (lines_of text))
 
--- nothing is wrong with the text, and the runs are the maximal rows of what it gives, in increasing order
+-- the text has no error, and the runs are the maximal runs of its bytes, in increasing order
 pub record IsTxtOf (text : List ℕ) (width : ℕ) (runs : List Run) : Type 0 where
   pub accepted : txt_refusal text width ≡ None
   pub rows : AreRowsOf (txt_cells text) runs

@@ -11,17 +11,17 @@ upper_digit d = if nat_lt d 10 then 48 + d else 55 + d
 abbrev pub byte_digits : ℕ → List ℕ
 byte_digits b = upper_digit (b / 16) ∷ upper_digit (b % 16) ∷ []
 
--- digits without zeros at the front, of which at most this many are left out
+-- digits without the zeros at the front, of which at most `most` are left out
 abbrev pub without_zeros : ℕ → List ℕ → List ℕ
 without_zeros zero digits = digits
 without_zeros (suc most) [] = []
 without_zeros (suc most) (d ∷ digits) = if d == 48 then without_zeros most digits else d ∷ digits
 
--- an address has at least four of its sixteen digits
+-- an address: its sixteen digits without leading zeros, but at least four digits
 abbrev pub address_digits : ℕ → List ℕ
 address_digits address = without_zeros 12 (flat_map byte_digits (to_be_bytes w64 address))
 
--- the bytes of a run, of which `count` were before them: 16 to a line, with one space between two of a line
+-- the lines of a run's bytes: 16 bytes to a line, with one space between two; `count` bytes of the run are before these
 abbrev pub byte_lines : ℕ → List ℕ → List ℕ
 byte_lines count [] = []
 byte_lines count (b ∷ []) = byte_digits b ++ 10 ∷ []

@@ -1,14 +1,15 @@
-//! TI-TXT, the text form of an image that flash programmers and `srec_cat` read, both ways.
+//! Reads and writes TI-TXT, the text form of an image that flash programmers and `srec_cat` read.
 //!
-//! [`read_txt`] returns the bytes of a text in maximal rows, or the first line that is wrong. [`write_run`]
-//! and [`write_end`] write the text of rows to a sink, and [`text_module`] makes the module of rows, with an
+//! [`read_txt`] returns the bytes of a text in maximal runs, or the first line with an error. [`write_run`]
+//! and [`write_end`] write the text of runs to a sink, and [`text_module`] makes a module of runs, with an
 //! absolute section for each of them.
 //!
 //! The crate depends on `mufom_module` and the crates of its parts, on `mufom_host` for the sink, on
-//! `mufom_meaning` for rows and addresses, on `mufom_image_bytes`, which joins bytes into rows, and on `memchr`
-//! to find the ends of lines. Its main clause is that of [`read_txt`]: the rows of a text in which nothing is
-//! wrong, or the first line that is wrong. Laws add that exactly the texts in the sense of `TxtMap` are
-//! accepted, with the bytes that they give, and that the text of rows is read back as these rows.
+//! `mufom_meaning` for runs and addresses, on `mufom_image_bytes`, which joins bytes into runs, and on
+//! `memchr` to find the ends of lines. Its main clause is that of [`read_txt`]: the runs of a text without an
+//! error, or the first line with an error. Laws add that the accepted texts are exactly those that satisfy
+//! `TxtMap`, with the bytes that they give, and that the text that is written of runs is read back as these
+//! runs.
 #![tactic(auto)]
 
 mod laws;

@@ -7,8 +7,8 @@ ghost use Rattle.mufom_titxt.specs.Scans.{lines_later, begins_with_space};
 
 use memchr::memchr;
 
-// How many bytes are before the first space. Words are short, so that a loop is faster here than a search by
-// vectors.
+// The number of bytes before the first space. Words are short, so a loop is faster here than a vectorized
+// search.
 fn word_length(text: &[u8]) -> usize
     ensures count { result ≡ position_or_len (λ b. b == 32) text.now }
     ensures within { result ≤ length text.now }
@@ -34,7 +34,7 @@ fn without_return(line: &[u8]) -> &[u8]
     &line[..line.len() - 1]
 }
 
-/// The first line of a text, and what is after the line feed that ends it.
+/// Returns the first line of a text, and the text after the line feed that ends it.
 pub(crate) fn next_line(text: &[u8]) -> (&[u8], Option<&[u8]>)
     ensures line { lines_of text.now ≡ result.0.now ∷ lines_later (option_map (λ rest. rest.now) result.1) }
     ensures rest { IfSome result.1 (λ rest. length rest.now < length text.now) }
@@ -45,7 +45,7 @@ pub(crate) fn next_line(text: &[u8]) -> (&[u8], Option<&[u8]>)
     }
 }
 
-// A line without the spaces at its front.
+// The line without the spaces at its beginning.
 fn without_spaces(line: &[u8]) -> &[u8]
     ensures words { words_of result.now ≡ words_of line.now }
     ensures first { begins_with_space result.now ≡ false }
@@ -58,7 +58,7 @@ fn without_spaces(line: &[u8]) -> &[u8]
     rest
 }
 
-/// The first word of a line, and what is after it.
+/// Returns the first word of a line, and the rest of the line.
 pub(crate) fn next_word(line: &[u8]) -> Option<(&[u8], &[u8])>
     ensures { MatchOption result (words_of line.now ≡ [])
         (λ r. (words_of line.now ≡ r.0.now ∷ words_of r.1.now) × (length r.1.now < length line.now)) }

@@ -12,7 +12,7 @@ use mufom_numbers::{Bytes, List, NoMemory};
 use mufom_sections::Section;
 use std::alloc::Global;
 
-// The most bytes of a literal.
+// The greatest length of a literal, in bytes.
 const MOST_LITERAL: usize = 65_535;
 
 // The section of a run.
@@ -66,7 +66,7 @@ fn loads(alloc: Global, runs: &[Run]) -> Result<List<Load>, NoMemory>
     Ok(loads)
 }
 
-// States in bare parts what the module of runs states.
+// Fills empty parts with the entries of the module of runs.
 fn state_module(alloc: Global, parts: &mut Parts, runs: &[Run], maus: u8) -> Result<(), NoMemory>
     requires few { length runs.now < 2 ^ 32 }
     requires bare { parts.old ≡ bare_parts maus Most }
@@ -79,8 +79,8 @@ fn state_module(alloc: Global, parts: &mut Parts, runs: &[Run], maus: u8) -> Res
     Ok(())
 }
 
-/// The module of runs, with an absolute section `txt` for each of them. An address has `maus` addressable
-/// units of eight bits.
+/// Returns the module of runs, with an absolute section `txt` for each of them. An address has `maus`
+/// addressable units of eight bits.
 pub fn text_module(alloc: Global, runs: &[Run], maus: u8) -> Result<Module, NoMemory>
     requires low { 1 ≤ maus }
     requires high { maus ≤ 8 }

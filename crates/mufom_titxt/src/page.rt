@@ -1,4 +1,4 @@
-//! Text of a run on its way to a sink.
+//! A buffer for the text of a run on its way to a sink.
 
 ghost use Rattle.std.specs.Prelude.{◌≡◌, ◌+◌, ◌*◌, ◌≤◌, ◌<◌, ◌++◌, ◌∷◌, [], ◌%◌, ◌==◌, ◌||◌, if◌then◌else◌, length, take, flat_map};
 ghost use Rattle.std.specs.Int.{w64, to_be_bytes};
@@ -7,16 +7,16 @@ ghost use Rattle.mufom_titxt.specs.declared.page.TheConstants.{SIZE};
 
 use std::marker::Model;
 
-// How many bytes there is room for.
+// The size of the buffer, in bytes.
 const SIZE: usize = 4096;
 
-/// How many bytes of a run are written at once: whole lines.
+/// The number of bytes of a run that are written at once, in whole lines.
 pub(crate) const MOST_BYTES: usize = 1024;
 
-// How many bytes a line has.
+// The number of bytes on a line.
 const LINE_BYTES: usize = 16;
 
-// The most zeros of an address that are left out, so that four digits are left.
+// The greatest number of leading zeros of an address that are left out, so that four digits remain.
 const MOST_ZEROS: usize = 12;
 
 // A hexadecimal digit in upper case.
@@ -31,7 +31,7 @@ fn upper_digit(value: u8) -> u8
     }
 }
 
-// What is after a byte of a run: a space, or the end of the line.
+// What follows a byte of a run: a space, or the end of the line.
 fn separator(place: usize, is_last: bool) -> u8
     ensures { result ≡ (if is_last || place % 16 == 15 then 10 else 32) }
 {
@@ -42,7 +42,7 @@ fn separator(place: usize, is_last: bool) -> u8
     }
 }
 
-// Digits without the zeros at the front, at most `most` of them.
+// The digits without the zeros at their beginning, of which at most `most` are left out.
 fn without_zeros(digits: &[u8], most: usize) -> &[u8]
     ensures { result.now ≡ without_zeros most digits.now }
 {
@@ -61,7 +61,7 @@ fn without_zeros(digits: &[u8], most: usize) -> &[u8]
     rest
 }
 
-/// Room for text. Contracts see the text that it holds.
+/// A buffer for text. Contracts see the text that it holds.
 #[derive(Drop)]
 pub(crate) struct Page {
     bytes: [u8; SIZE],
@@ -80,7 +80,7 @@ impl Model for Page {
 }
 
 impl Page {
-    /// Holds nothing.
+    /// Returns an empty buffer.
     pub(crate) fn new() -> Page
         ensures { result ≡ [] }
     {
@@ -90,7 +90,7 @@ impl Page {
         }
     }
 
-    /// The text that is held.
+    /// Returns the text that it holds.
     pub(crate) fn as_slice(&self) -> &[u8]
         ensures { result.now ≡ self.now }
     {

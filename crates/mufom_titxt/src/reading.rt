@@ -14,7 +14,7 @@ use crate::store::Store;
 use mufom_numbers::NoMemory;
 use std::alloc::Global;
 
-/// What the lines of a text have stated so far.
+/// What the lines of a text have stated so far, with their bytes.
 #[derive(Drop)]
 pub struct Reading {
     /// Whether the text has ended.
@@ -25,7 +25,7 @@ pub struct Reading {
 }
 
 impl Reading {
-    /// Nothing is read yet.
+    /// Nothing has been read yet.
     pub(crate) fn new(alloc: Global, watched: Option<u64>) -> Reading
         ensures tiled { IsTiled result.store.loaded }
         ensures cells { loaded_cells result.store.loaded ≡ [] }
@@ -125,7 +125,7 @@ impl Reading {
         }
     }
 
-    /// Reads a line. Returns the error in it, except for addresses that have two bytes.
+    /// Reads a line. Returns its error, if it has one; a second byte at an address is not counted as one.
     pub(crate) fn read_line(
         &mut self,
         modulus: u128,
@@ -151,7 +151,7 @@ impl Reading {
         }
     }
 
-    // What is wrong at the end of a text of `count` lines.
+    // The error at the end of a text of `count` lines.
     fn end(&self, count: u32) -> Option<TxtRefusal>
         ensures { result ≡ end_fault count (stated self.now) }
     {
@@ -164,7 +164,7 @@ impl Reading {
         })
     }
 
-    /// Reads a text to the first line with an error, except for addresses that have two bytes.
+    /// Reads a text up to the first line with an error. A second byte at an address is not counted as one.
     pub(crate) fn read_lines(
         &mut self,
         modulus: u128,

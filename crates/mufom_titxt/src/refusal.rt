@@ -3,7 +3,7 @@
 use mufom_numbers::NoMemory;
 use thiserror::Error;
 
-/// What is wrong with a line of a TI-TXT text, or with its end.
+/// The error of a line of a TI-TXT text, or of its end.
 #[derive(Clone, Copy, Debug, PartialEq, Eq, Error)]
 pub enum TxtReason {
     /// The line is neither blank, nor an address, nor bytes, nor `q`.
@@ -15,13 +15,13 @@ pub enum TxtReason {
     /// A byte is not below the end of the address space.
     #[error("a byte lies beyond the address space")]
     Beyond,
-    /// This address has a byte already.
+    /// This address already has a byte.
     #[error("address {0} has a second byte")]
     Twice(u64),
     /// The line is not blank, and follows `q`.
     #[error("text after the end line")]
     AfterEnd,
-    /// No line is `q`.
+    /// The text has no line `q`.
     #[error("the end line is missing")]
     NoEnd,
 }

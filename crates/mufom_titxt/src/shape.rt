@@ -17,7 +17,7 @@ pub enum Shape {
     Bad,
 }
 
-/// The most bytes of a short line. Programs that write this form put 16 bytes into a line.
+/// The greatest number of bytes on a short line. Programs that write this form put 16 bytes on a line.
 pub(crate) const MOST_SHORT_BYTES: usize = 32;
 
 // The most digits of an address.
@@ -74,8 +74,8 @@ pub(crate) fn byte_of(word: &[u8]) -> Option<u8>
     }
 }
 
-// The byte that two digits at the front of a line spell, with what is after the space that follows them. Most words
-// of a text are such digits.
+// The byte that two digits at the beginning of a line spell, with the rest of the line after the space that
+// follows them. Most words of a text are such digits.
 fn spaced_byte(line: &[u8]) -> Option<(u8, &[u8])>
     ensures bytes { IfSome result (λ r. bytes_of (words_of line.now) ≡ option_map (λ bytes. r.0 ∷ bytes) (bytes_of (words_of r.1.now))) }
     ensures rest { IfSome result (λ r. length r.1.now < length line.now) }
@@ -89,7 +89,8 @@ fn spaced_byte(line: &[u8]) -> Option<(u8, &[u8])>
     }
 }
 
-// The byte that the first word of a line spells, with what is after the word, and no byte if it spells none.
+// The byte that the first word of a line spells, or none if it spells none, with the rest of the line after
+// that word.
 fn next_byte(line: &[u8]) -> Option<(Option<u8>, &[u8])>
     ensures bytes { MatchOption result (words_of line.now ≡ []) (λ r. bytes_of (words_of line.now) ≡ bytes_from r.0 (bytes_of (words_of r.1.now))) }
     ensures rest { IfSome result (λ r. length r.1.now < length line.now) }
@@ -101,8 +102,8 @@ fn next_byte(line: &[u8]) -> Option<(Option<u8>, &[u8])>
     Some((byte_of(word), after))
 }
 
-/// The bytes of a line that has bytes alone, and not too many of them. Most lines of a text are such lines, and this
-/// reads one in a single pass.
+/// Returns the bytes of a line that has only bytes, and not too many. Most lines of a text are like that, and
+/// this reads them in a single pass.
 pub(crate) fn short_bytes(line: &[u8]) -> Option<ArrayVec<u8, MOST_SHORT_BYTES>>
     ensures { IfSome result (λ bytes. line_of line.now ≡ Some (byte_line bytes.items)) }
 {
@@ -123,7 +124,7 @@ pub(crate) fn short_bytes(line: &[u8]) -> Option<ArrayVec<u8, MOST_SHORT_BYTES>>
     Some(bytes)
 }
 
-// Whether each word of a line spells a byte.
+// Whether every word of a line spells a byte.
 fn has_bytes_alone(line: &[u8]) -> bool
     ensures { result ≡ is_some (bytes_of (words_of line.now)) }
 {
@@ -137,7 +138,7 @@ fn has_bytes_alone(line: &[u8]) -> bool
     true
 }
 
-// This shape if the line has no more words, and otherwise a bad line.
+// This shape if the line has no more words, and `Bad` otherwise.
 fn alone(after: &[u8], shape: Shape) -> Shape
     ensures { result ≡ alone_shape (words_of after.now) shape }
 {
@@ -166,7 +167,7 @@ fn bytes_shape(line: &[u8]) -> Shape
     }
 }
 
-// Whether a word ends a text, by its first byte and the others.
+// Whether a word, given as its first byte and the others, ends a text.
 fn is_end(first: u8, more: &[u8]) -> bool
     ensures { result ≡ ((first == 113 || first == 81) && not (has_bytes more.now)) }
 {

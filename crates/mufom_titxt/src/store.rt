@@ -1,4 +1,4 @@
-//! The bytes that are read of a text.
+//! The bytes that have been read of a text.
 
 ghost use Rattle.std.specs.Prelude.{◌≡◌, ◌+◌, ◌≤◌, ◌^◌, ◌∷◌, ◌++◌, [], length, OnOk, IfOk, IfSome};
 ghost use Rattle.mufom_image_bytes.specs.Loaded.{loaded_cells, IsTiled};
@@ -11,18 +11,18 @@ use mufom_image_bytes::{Loaded, nothing_loaded};
 use mufom_numbers::NoMemory;
 use std::alloc::Global;
 
-/// The bytes that are read of a text, in the order of its lines.
+/// The bytes that have been read of a text, in the order of its lines.
 #[derive(Drop)]
 pub struct Store {
     pub loaded: Loaded,
     /// An address whose bytes are counted.
     pub watched: Option<u64>,
-    /// How many bytes it got.
+    /// The number of bytes that it got.
     pub hits: u32,
 }
 
 impl Store {
-    /// No bytes.
+    /// Returns an empty store.
     pub(crate) fn new(alloc: Global, watched: Option<u64>) -> Store
         ensures tiled { IsTiled result.loaded }
         ensures cells { loaded_cells result.loaded ≡ [] }
@@ -82,8 +82,8 @@ impl Store {
         Ok(Some(at))
     }
 
-    /// Adds bytes from an address on, as far as their addresses are below the modulus. Returns the address
-    /// after them, or none if one of them is not below it.
+    /// Adds bytes from an address on, as long as their addresses are below the modulus. Returns the address
+    /// after them, or `None` if one of them is not below it.
     pub(crate) fn place_bytes(
         &mut self,
         modulus: u128,
@@ -110,8 +110,8 @@ impl Store {
         Ok(Some(from + count))
     }
 
-    /// Adds the bytes of a line from an address on, as far as these are below the modulus. Returns the
-    /// address after them, or none if one is not below it.
+    /// Adds the bytes of a line from an address on, as long as their addresses are below the modulus. Returns
+    /// the address after them, or `None` if one of them is not below it.
     pub(crate) fn place_line(
         &mut self,
         modulus: u128,

@@ -27,15 +27,15 @@ use mufom_meaning::Run;
 use mufom_numbers::{List, NoMemory};
 use std::alloc::Global;
 
-// Why bytes make no rows.
+// Why bytes could not be joined into runs.
 #[derive(Clone, Copy, Debug)]
 enum RowsStop {
-    // The first address that has two of them.
+    // The first address with two bytes.
     Twice(u64),
     NoMemory,
 }
 
-// The address that has two bytes.
+// The address with two bytes.
 fn twice_address(stop: LoadStop) -> u64
     requires { NamesTwice (fact_of stop) }
     ensures { fact_of stop ≡ loaded_twice result }
@@ -46,7 +46,7 @@ fn twice_address(stop: LoadStop) -> u64
     }
 }
 
-// The rows of bytes.
+// The runs of bytes.
 fn rows(alloc: Global, loaded: Loaded) -> Result<List<Run>, RowsStop>
     requires tiled { IsTiled loaded }
     requires low { AreLow (loaded_cells loaded) }
@@ -105,8 +105,8 @@ fn twice_refusal(
     })
 }
 
-// The bytes of a text up to the first line with an error, except for addresses that have two bytes, and
-// that error.
+// The bytes of a text up to the first line with an error, and that error. A second byte at an address is not
+// counted as one.
 fn loaded_of(
     alloc: Global,
     modulus: u128,
@@ -134,10 +134,11 @@ fn modulus_of(maus: u8) -> u128
     1u128 << (8 * maus)
 }
 
-/// The bytes of a TI-TXT text, in maximal rows of addresses in increasing order. An address has `maus`
-/// addressable units of eight bits. The rows meet the conditions of [`text_module`](crate::text_module).
+/// Reads a TI-TXT text. Returns its bytes in maximal runs of consecutive addresses, in increasing order. An
+/// address has `maus` addressable units of eight bits. The runs meet the conditions of
+/// [`text_module`](crate::text_module).
 ///
-/// Errors: `Refused` with the first line that is wrong, and what is wrong with it; `NoMemory`.
+/// Errors: `Refused` with the first line that is wrong and the reason; `NoMemory`.
 pub fn read_txt(alloc: Global, text: &[u8], maus: u8) -> Result<List<Run>, TxtStop>
     requires low { 1 ≤ maus }
     requires high { maus ≤ 8 }

@@ -7,9 +7,7 @@ ghost use Rattle.mufom_titxt.specs.Written.{end_text, run_text};
 use crate::page::{MOST_BYTES, Page};
 use mufom_host::{Failed, Sink, write_all};
 
-/// Writes the lines of a run to the file being made: its address, and its bytes. Does not allocate.
-///
-/// On `Failed`, a prefix of the lines may have been added.
+/// Writes the address and the bytes of a run to the file that is being written. Does not allocate.
 pub fn write_run<K: Sink>(address: u64, bytes: &[u8], sink: &mut K) -> Result<(), Failed>
     requires some { 0 < length bytes.now }
     requires within { address + length bytes.now ≤ 2 ^ 64 }
@@ -33,9 +31,7 @@ pub fn write_run<K: Sink>(address: u64, bytes: &[u8], sink: &mut K) -> Result<()
     Ok(())
 }
 
-/// Writes the line that ends a text to the file being made. Does not allocate.
-///
-/// On `Failed`, a prefix of the line may have been added.
+/// Writes the line that ends a text to the file that is being written. Does not allocate.
 pub fn write_end<K: Sink>(sink: &mut K) -> Result<(), Failed>
     ensures bytes { WritesAll (K.meaning sink.old).making (K.meaning sink.new).making result end_text }
     ensures stays { KeepsAllButMaking (K.meaning sink.old) (K.meaning sink.new) }

@@ -1,4 +1,4 @@
--- What the files of a command come to, and commands that differ in their brackets alone.
+-- The lists of files that a command links, and commands that differ only in their brackets.
 use Rattle.std.specs.Prelude.{◌≡◌, ℕ, ◌+◌, List, [], ◌∷◌, ◌++◌, length, map}
 use Rattle.mufom_words.specs.declared.command.Command.{Command}
 use Rattle.mufom_words.specs.Tree.{tree_of, leaves, groups}
@@ -11,12 +11,12 @@ roots c = leaves (tree_of c.marks)
 abbrev pub linked_lists : Command → List (List ℕ)
 linked_lists c = groups (tree_of c.marks) ++ roots c ∷ []
 
--- The files of the flat list, where these members are selected: those of the tree, and then the members in their order. The members
--- are the files that follow those of the tree.
+-- The files of the flat list, if these members are selected: those of the tree, followed by the members in their order. The members
+-- are the files after those of the tree.
 abbrev pub flat_list : Command → List ℕ → List ℕ
 flat_list c selected = roots c ++ map (λ member. length (roots c) + member) selected
 
--- Two commands differ in their brackets at most: they agree in all else, and in the files that are members.
+-- Two commands differ at most in their brackets: they agree in everything else, and in the files of the tree.
 pub record AreAlike (c d : Command) : Type 0 where
   pub verb : c.verb ≡ d.verb
   pub no_debug : c.no_debug ≡ d.no_debug

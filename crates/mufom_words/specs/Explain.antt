@@ -1,5 +1,5 @@
--- The command that explains how other arguments end. These follow its name, and nothing of them is read here: they are the arguments of a
--- run of their own.
+-- The command `explain`, which explains how a run with other arguments ends. These follow its name, and are not read here: they are
+-- the arguments of a run of their own.
 use Rattle.std.specs.Prelude.{Bool, false, not, List, [], ◌∷◌, None, Result, Ok, Err, codes, drop, if◌then◌else◌}
 use Rattle.std.specs.Str.{bytes_eq}
 use Rattle.mufom_words.specs.declared.command.Command.{Command}
@@ -9,11 +9,11 @@ use Rattle.mufom_words.specs.declared.stop.WordsStop.{WordsStop}
 use Rattle.mufom_words.specs.declared.stop.WordsStop.TheVariants as stop
 use Rattle.mufom_words.specs.Options.{Text}
 
--- the first word names the command
+-- the first argument names the command
 abbrev pub names_explain : Text → Bool
 names_explain word = bytes_eq word (codes "explain")
 
--- There are arguments to explain, and they ask for no explanation themselves.
+-- There are arguments to explain, and the first of them is not `explain`.
 abbrev pub may_be_explained : List Text → Bool
 may_be_explained [] = false
 may_be_explained (word ∷ words) = not (names_explain word)
@@ -37,7 +37,7 @@ explain_command = record {
   help = None;
 }
 
--- The command where these arguments follow its name, or that they can't be explained. An error in them is none of this command.
+-- The command, if these arguments follow its name, or the error that they can't be explained. An error in them is not one of this command.
 abbrev pub explain_answer : List Text → Result Command WordsStop
 explain_answer words = if may_be_explained words then Ok explain_command else Err (stop.Usage fault.BadWords)
 

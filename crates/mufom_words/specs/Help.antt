@@ -1,4 +1,4 @@
--- The commands that print a text of the program itself. Their words are compared letter by letter, and `clap` reads none of them.
+-- The commands that print a text of the program itself. Their arguments are compared byte by byte, and not read by `clap`.
 use Rattle.std.specs.Prelude.{◌||◌, List, [], ◌∷◌, Option, Some, None, Result, Ok, Err, codes, false, if◌then◌else◌}
 use Rattle.std.specs.Str.{bytes_eq}
 use Rattle.mufom_help.specs.Topics.{topic_in, topics}
@@ -12,14 +12,14 @@ use Rattle.mufom_words.specs.declared.stop.WordsStop.{WordsStop}
 use Rattle.mufom_words.specs.declared.stop.WordsStop.TheVariants as stop
 use Rattle.mufom_words.specs.Options.{Text}
 
--- the command that a first word names
+-- the command that a first argument names, if it is one of these
 abbrev pub own_verb : Text → Option Verb
 own_verb word =
     if bytes_eq word (codes "help") || (bytes_eq word (codes "--help") || bytes_eq word (codes "-h")) then Some verb.Help
     else if bytes_eq word (codes "version") || (bytes_eq word (codes "--version") || bytes_eq word (codes "-V")) then Some verb.Version
     else None
 
--- what `help` prints: the list of commands, or the text of the command or the error that one word names
+-- what `help` prints: the list of commands, or the text of the command or the error that its one argument names
 abbrev pub help_text : List Text → Option Text
 help_text [] = Some LIST.now
 help_text (word ∷ []) = topic_in topics word
@@ -30,7 +30,7 @@ abbrev pub version_text : List Text → Option Text
 version_text [] = Some VERSION.now
 version_text (_ ∷ _) = None
 
--- what is printed where the arguments after the first are these
+-- what the command prints if these arguments follow its name
 abbrev pub own_text : Verb → List Text → Option Text
 own_text verb.Version words = version_text words
 own_text _ words = help_text words
@@ -58,6 +58,6 @@ abbrev pub printing : Verb → Option Text → Result Command WordsStop
 printing v None = Err (stop.Usage fault.BadWords)
 printing v (Some text) = Ok (own_command v text)
 
--- The command of such words, or what is wrong with them.
+-- The command, or an error if there is no text for these arguments.
 abbrev pub own_answer : Verb → List Text → Result Command WordsStop
 own_answer v words = printing v (own_text v words)

@@ -1,5 +1,5 @@
--- The arguments that are no option: files in groups, members, or a count. What is wrong with them is what is wrong with the first word
--- with which anything is, and then with the end.
+-- The operands, which are the arguments that are not options: files in groups, members, or a count. The error returned is that of the
+-- first operand that has one, or else that of the end.
 use Rattle.std.specs.Prelude.{ℕ, zero, suc, ◌-◌, ◌==◌, ◌&&◌, nat_lt, nat_le, max, Bool, true, false, not, List, [], ◌∷◌, length, map, filter, Option}
 use Rattle.std.specs.Prelude.{Some, None, Result, Ok, Err, codes, unwrap_or, is_none, if◌then◌else◌}
 use Rattle.std.specs.List.{list_all}
@@ -20,7 +20,7 @@ use Rattle.mufom_words.specs.Options.{Text}
 
 -- ---- files
 
--- what a word is among those that name files
+-- the kind of an operand in a list of files
 abbrev pub word_of : Text → FileWord
 word_of word = if bytes_eq word (codes "[") then Opening else (if bytes_eq word (codes "]") then Closing
     else (if bytes_eq word (codes "+") then Plus else Name))
@@ -28,12 +28,12 @@ word_of word = if bytes_eq word (codes "[") then Opening else (if bytes_eq word 
 abbrev pub file_words : List Text → List FileWord
 file_words words = map word_of words
 
--- how many groups are open
+-- the number of open groups
 abbrev pub depth_in : Walk → ℕ
 depth_in (Tree depth opened any) = depth
 depth_in (Members any) = 0
 
--- where the next word leads to, or what is wrong with it
+-- the state after the next operand, or the error in it
 abbrev pub step : Walk → FileWord → Result Walk UsageFault
 step (Tree depth opened any) Opening = Ok (Tree (suc depth) true any)
 step (Tree zero opened any) Closing = Err fault.StrayBracket
@@ -48,7 +48,7 @@ step (Members any) Closing = Err fault.StrayBracket
 step (Members any) Plus = Err fault.BadMembers
 step (Members any) Name = Ok (Members true)
 
--- what is wrong where the arguments end: a group that is open, or that there is no file, or no member after the `+`
+-- the error at the end of the operands: an open group, no file, or no member after the `+`
 abbrev pub end_fault : Walk → Option UsageFault
 end_fault (Tree (suc depth) opened any) = Some fault.OpenGroup
 end_fault (Tree zero opened false) = Some fault.NoFile
@@ -60,16 +60,16 @@ abbrev pub unless_fault : Result Walk UsageFault → (Walk → Option UsageFault
 unless_fault (Ok walk) next = next walk
 unless_fault (Err f) next = Some f
 
--- the first fault of the arguments that follow
+-- the first error in the operands that follow
 abbrev pub fault_from : Walk → List FileWord → Option UsageFault
 fault_from walk [] = end_fault walk
 fault_from walk (word ∷ words) = unless_fault (step walk word) (λ next. fault_from next words)
 
--- the first fault of files in groups, and of members
+-- the first error in files in groups, and in members
 abbrev pub grouped_fault : List FileWord → Option UsageFault
 grouped_fault words = fault_from (Tree 0 false false) words
 
--- the first fault of files that are in no group
+-- the first error in files, for a command without groups
 abbrev pub plain_fault_from : Bool → List FileWord → Option UsageFault
 plain_fault_from any [] = if any then None else Some fault.NoFile
 plain_fault_from any (Opening ∷ words) = Some fault.StrayBracket
@@ -81,11 +81,11 @@ abbrev pub is_name : FileWord → Bool
 is_name Name = true
 is_name _ = false
 
--- the names among the words, those of members included
+-- the names of files among the operands, those of members included
 abbrev pub names_in : List Text → List Text
 names_in words = filter (λ word. is_name (word_of word)) words
 
--- the marks of the tree of files, which are numbered from here on; the tree ends at a `+`
+-- the marks of the tree of files, which are numbered from `n` on; the tree ends at a `+`
 abbrev pub marks_from : ℕ → List FileWord → List Mark
 marks_from n [] = []
 marks_from n (Opening ∷ words) = Open ∷ marks_from n words
@@ -93,7 +93,7 @@ marks_from n (Closing ∷ words) = Close ∷ marks_from n words
 marks_from n (Plus ∷ words) = []
 marks_from n (Name ∷ words) = File n ∷ marks_from (suc n) words
 
--- how many groups are open at once at most, where `depth` are open before
+-- the greatest number of groups that are open at once, if `depth` are open before
 abbrev pub depth_from : ℕ → List FileWord → ℕ
 depth_from depth [] = depth
 depth_from depth (Opening ∷ words) = max depth (depth_from (suc depth) words)
@@ -129,7 +129,7 @@ operands_fault SomeFiles words = plain_fault_from false (file_words words)
 operands_fault GroupedFiles words = grouped_fault (file_words words)
 operands_fault OneCount words = None
 
--- another number of words than the command is for
+-- the error for a number of operands that the command does not take
 abbrev pub number_fault : Operands → List Text → Option UsageFault
 number_fault OneFile words = if nat_lt 1 (length words) then Some fault.FileCount else None
 number_fault SomeFiles words = None
@@ -145,7 +145,7 @@ abbrev pub files_of : Operands → List Text → List Text
 files_of OneCount words = []
 files_of _ words = names_in words
 
--- the marks of their tree
+-- the marks of the tree of files
 abbrev pub marks_of : Operands → List Text → List Mark
 marks_of OneCount words = []
 marks_of _ words = marks_from 0 (file_words words)
@@ -155,7 +155,7 @@ abbrev pub depth_of : Operands → List Text → ℕ
 depth_of OneCount words = 0
 depth_of _ words = depth_from 0 (file_words words)
 
--- the count, and 0 where the command is for none
+-- the count, or 0 if the command takes none
 abbrev pub number_of : Operands → List Text → ℕ
 number_of OneCount words = unwrap_or (first_count words) 0
 number_of _ words = 0

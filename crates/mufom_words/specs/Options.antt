@@ -1,4 +1,4 @@
--- The table of commands and the table of options, and what `clap` makes of the arguments by them. There is no help option.
+-- The table of commands, the table of options, and how `clap` parses the arguments with them. There is no help option.
 use Rattle.std.specs.Prelude.{ℕ, Bool, true, false, List, [], ◌∷◌, Option, Some, None, codes, fold, unwrap_or, if◌then◌else◌}
 use Rattle.std.specs.List.{find, list_any}
 use Rattle.std.specs.Str.{bytes_eq}
@@ -19,7 +19,7 @@ Text = List ℕ
 
 -- ---- the table of commands
 
--- what the arguments of a command are: the first, which names it, its options, and the other words
+-- the arguments of a command: its name, its options, and its operands
 pub record Usage : Type 0 where
   pub verb : Verb
   pub name : Text
@@ -66,12 +66,12 @@ usage_of form.Txt = record {
 usage_of form.FromTxt = record { verb = verb.FromTxt; name = codes "fromtxt"; settings = setting.Maus ∷ setting.Out ∷ []; operands = operands.OneFile }
 usage_of form.Build = record { verb = verb.Build; name = codes "build"; settings = setting.Out ∷ []; operands = operands.OneFile }
 
--- all commands whose words `clap` reads
+-- all commands whose arguments `clap` reads
 abbrev pub forms : List Form
 forms = form.Show ∷ form.Check ∷ form.Link ∷ form.Locate ∷ form.Dump ∷ form.Map ∷ form.Make ∷ form.Addr ∷ form.Bin ∷ form.Txt ∷ form.FromTxt ∷ form.Build
     ∷ []
 
--- the one that a word names
+-- the command that a word names, if any
 abbrev pub form_of : Text → Option Form
 form_of word = find (λ f. bytes_eq word (usage_of f).name) forms
 
@@ -85,7 +85,7 @@ makes_file verb.FromTxt = true
 makes_file verb.Build = true
 makes_file _ = false
 
--- the command reads a plan, where `--plan` names one
+-- the command reads a plan, if `--plan` names one
 abbrev pub reads_plan : Verb → Bool
 reads_plan verb.Locate = true
 reads_plan verb.Dump = true
@@ -105,7 +105,7 @@ abbrev pub names_module : Verb → Bool
 names_module verb.Link = true
 names_module _ = false
 
--- the command may name a public symbol, of which what it needs is kept
+-- the command may name a public symbol, and then keeps what that symbol needs
 abbrev pub keeps_what_is_needed : Verb → Bool
 keeps_what_is_needed verb.Locate = true
 keeps_what_is_needed verb.Dump = true
@@ -114,7 +114,7 @@ keeps_what_is_needed verb.Bin = true
 keeps_what_is_needed verb.Txt = true
 keeps_what_is_needed _ = false
 
--- the command is for one file alone
+-- the command takes exactly one file
 abbrev pub takes_one_file : Verb → Bool
 takes_one_file verb.Show = true
 takes_one_file verb.FromTxt = true
@@ -135,7 +135,7 @@ prints_help verb.Help = true
 prints_help verb.Version = true
 prints_help _ = false
 
--- the command explains how other arguments end
+-- the command explains how a run with other arguments ends
 abbrev pub explains : Verb → Bool
 explains verb.Explain = true
 explains _ = false
@@ -154,8 +154,8 @@ id_of setting.Fill = codes "fill"
 id_of setting.Maus = codes "maus"
 id_of setting.Keep = codes "keep"
 
--- `--no-debug`, `--name NAME`, `--plan PLAN`, `-o OUT`, which must be there, `--listing`, `--at ADDRESS`, which
--- must be there, `--fill BYTE`, `--maus N` and `--keep NAME`
+-- `--no-debug`, `--name NAME`, `--plan PLAN`, `-o OUT` (required), `--listing`, `--at ADDRESS` (required),
+-- `--fill BYTE`, `--maus N` and `--keep NAME`
 abbrev pub rule_for : Setting → Rule
 rule_for setting.NoDebug = record (new_rule (id_of setting.NoDebug)) { long = Some (codes "no-debug"); action = Some SetTrue }
 rule_for setting.Name = record (new_rule (id_of setting.Name)) { long = Some (codes "name") }
@@ -167,9 +167,9 @@ rule_for setting.Fill = record (new_rule (id_of setting.Fill)) { long = Some (co
 rule_for setting.Maus = record (new_rule (id_of setting.Maus)) { long = Some (codes "maus") }
 rule_for setting.Keep = record (new_rule (id_of setting.Keep)) { long = Some (codes "keep") }
 
--- ---- what `clap` makes of the arguments
+-- ---- how `clap` parses the arguments
 
--- all arguments that are no option
+-- all operands
 abbrev pub operands_rule : Rule
 operands_rule = record (new_rule (codes "files")) { action = Some Append }
 
@@ -179,7 +179,7 @@ without_help app = on_top (λ shape. record shape { disable_help_flag = true }) 
 abbrev pub with_setting : App → Setting → App
 with_setting app s = with_rule app (rule_for s)
 
--- a command with this name and these options, and then words that are no option
+-- a command with this name, these options, and operands
 abbrev pub app_with : Text → List Setting → App
 app_with name settings = with_rule (fold with_setting (without_help (new_app name)) settings) operands_rule
 
@@ -190,7 +190,7 @@ app_for f = app_with (usage_of f).name (usage_of f).settings
 abbrev pub takes : List Setting → Setting → Bool
 takes settings s = list_any (λ own. bytes_eq (id_of own) (id_of s)) settings
 
--- the value of an option, in the rows that `clap` makes of the arguments; none where the command does not have the option
+-- the value of an option, in the rows that `clap` makes of the arguments; None if the command does not have the option
 abbrev pub value_in : List Setting → List Row → Setting → Option Text
 value_in settings rows s = if takes settings s then first_of (id_of s) rows else None
 
@@ -198,7 +198,7 @@ abbrev pub is_true : Option Text → Bool
 is_true None = false
 is_true (Some text) = bytes_eq text (codes "true")
 
--- the arguments that are no option
+-- the operands
 abbrev pub operands_of : List Row → List Text
 operands_of rows = unwrap_or (all_of (codes "files") rows) []
 
@@ -213,7 +213,7 @@ pub record Given : Type 0 where
   pub fill : Option Text
   pub maus : Option Text
   pub keep : Option Text
-  -- the arguments that are no option
+  -- the operands
   pub operands : List Text
 
 abbrev pub given_by : Form → List Row → Given

@@ -1,4 +1,4 @@
--- What holds of each command that words give.
+-- What holds for each command that arguments give.
 use Rattle.std.specs.Prelude.{◌≡◌, ℕ, zero, suc, ◌≤◌, List, [], ◌∷◌, length, true, false, Some, None, Ok, IfSome, IsSome}
 use Rattle.mufom_words.specs.declared.command.Command.{Command}
 use Rattle.mufom_words.specs.declared.form.Form.{Form}
@@ -7,29 +7,29 @@ use Rattle.mufom_numbers.specs.declared.limits.TheConstants.{MOST_MODULES}
 use Rattle.mufom_words.specs.Tree.{spelling, tree_of, leaves}
 use Rattle.mufom_words.specs.Answer.{answer_for, most_files, longest_name}
 
--- this many numbers in a row, from `n` on
+-- this many consecutive numbers, from `n` on
 abbrev pub numbers_from : ℕ → ℕ → List ℕ
 numbers_from n zero = []
 numbers_from n (suc count) = n ∷ numbers_from (suc n) count
 
--- The marks are those of a tree of files, which has the first of the files in their order.
+-- The marks are those of a tree of files. Its leaves are the first of the files, in their order.
 pub record HasTree (c : Command) : Type 0 where
   pub spelled : spelling (tree_of c.marks) ≡ c.marks
   pub numbered : leaves (tree_of c.marks) ≡ numbers_from 0 (length (leaves (tree_of c.marks)))
   pub within : length (leaves (tree_of c.marks)) ≤ length c.files
 
--- There is a file in the tree where the command reads files, and none where it does not; a command for one file has one; and there are no
--- more files than a run may have.
+-- If the command reads files, the tree has a file; otherwise there are no files. A command for one file has exactly one, and there are
+-- no more files than a run may have.
 pub record HasFiles (c : Command) : Type 0 where
   pub some : reads_files c.verb ≡ true → 1 ≤ length (leaves (tree_of c.marks))
   pub none : reads_files c.verb ≡ false → c.files ≡ []
   pub one : takes_one_file c.verb ≡ true → length c.files ≡ 1
   pub few : length c.files ≤ most_files
 
--- The output has a name exactly where the command makes a file; only a command that reads a plan has the name of one, and only one that
--- may name its module gives a name, which is no longer than it may be; only one that may keep what a public symbol needs names one; a count
--- lies within its bounds; an address has 1 to 8 bytes; and a
--- command that prints a text of the program has one.
+-- There is an output file if and only if the command makes one. Only a command that reads a plan names a plan, only one that
+-- may name its module names it, and only one that may keep what a public symbol needs names such a symbol.
+-- The name of a module is not too long, a count is within its bounds, an address has 1 to 8 bytes, and a command that prints
+-- a text of the program has one.
 pub record HasOptions (c : Command) : Type 0 where
   pub out : makes_file c.verb ≡ true → IsSome c.out
   pub no_out : makes_file c.verb ≡ false → c.out ≡ None
@@ -46,6 +46,6 @@ pub record IsSound (c : Command) : Type 0 where
   pub files : HasFiles c
   pub options : HasOptions c
 
--- Each command that words give is sound, whichever row of the table they are read by.
+-- Each command that arguments give is sound, by whichever row of the table they are read.
 abbrev pub CommandsAreSound : Type 0
 CommandsAreSound = (f : Form) (words : List Text) (c : Command) → answer_for (Some f) words ≡ Ok c → IsSound c

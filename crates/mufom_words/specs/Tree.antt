@@ -3,26 +3,26 @@ use Rattle.std.specs.Prelude.{ℕ, List, [], ◌∷◌, ◌++◌}
 use Rattle.mufom_words.specs.declared.command.Mark.{Mark}
 use Rattle.mufom_words.specs.declared.command.Mark.TheVariants.{Open, Close, File}
 
--- Files by their numbers, and groups, one after another. It exists in contracts alone.
+-- Files, given by their numbers, and groups, one after another. The type exists in contracts only.
 pub data Forest : Type 0 where
   empty : Forest
   -- a file, and what follows
   file : ℕ → Forest → Forest
-  -- what a group holds, and what follows the group
+  -- the contents of a group, and what follows the group
   group : Forest → Forest → Forest
 
--- how it is spelled
+-- the marks that spell a forest
 abbrev pub spelling : Forest → List Mark
 spelling empty = []
 spelling (file n more) = File n ∷ spelling more
 spelling (group inner more) = Open ∷ (spelling inner ++ Close ∷ spelling more)
 
--- What marks spell, where some groups are closed that they do not open: the innermost of these, and the others.
+-- What marks spell if they close groups that they do not open: what comes before the first such bracket, and what comes after each.
 pub record Spelled : Type 0 where
   pub inner : Forest
   pub others : List Forest
 
--- a group around what is before its closing bracket; a bracket that nothing closes is closed at the end
+-- a group around what comes before its closing bracket; a group that is not closed ends with the marks
 abbrev pub opened : Forest → List Forest → Spelled
 opened inner [] = record { inner = group inner empty; others = [] }
 opened inner (more ∷ others) = record { inner = group inner more; others = others }

@@ -1,4 +1,4 @@
--- The values of options that are numbers: a byte, an address and a number of bytes in an address. What is written otherwise is none.
+-- The values of options that are numbers: a byte, an address and a number of bytes in an address. Any other text is None.
 use Rattle.std.specs.Prelude.{ℕ, ◌-◌, Bool, ◌&&◌, nat_le, nat_lt, [], ◌∷◌, length, Option, Some, None, if◌then◌else◌}
 use Rattle.std.specs.List.{list_all}
 use Rattle.std.specs.Char.{digit_value}
@@ -9,7 +9,7 @@ use Rattle.mufom_words.specs.Options.{Text}
 abbrev pub is_hexadecimal : ℕ → Bool
 is_hexadecimal b = nat_lt (digit_value b) 16
 
--- hexadecimal digits, at least as many as the first number and at most as many as the second
+-- the number that hexadecimal digits state, if there are `least` to `most` of them
 abbrev pub hexadecimal_of : ℕ → ℕ → Text → Option ℕ
 hexadecimal_of least most word =
     if nat_le least (length word) && (nat_le (length word) most && list_all is_hexadecimal word) then Some (digits_value 16 word) else None

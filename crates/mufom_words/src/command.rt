@@ -16,7 +16,7 @@ pub enum Verb {
     Locate,
     /// Links and locates files, and prints the image.
     Dump,
-    /// Links and locates files, and prints what is at which address.
+    /// Links and locates files, and prints what is at each address.
     Map,
     /// Generates modules, links and locates them, and prints a summary.
     Make,
@@ -34,7 +34,7 @@ pub enum Verb {
     Help,
     /// Prints the version of the program.
     Version,
-    /// Runs the command after it up to its first output, and explains how that ends.
+    /// Runs the command that follows it up to its first output, and explains how that run ends.
     Explain,
 }
 
@@ -97,7 +97,7 @@ pub struct Command {
     pub marks: List<Mark>,
     /// The names of all files, in the order of the arguments. The members come last.
     pub files: List<Text>,
-    /// COUNT of `make`: how many modules are generated; 0 for other commands.
+    /// COUNT of `make`: the number of modules to generate; 0 for other commands.
     pub count: u32,
     /// `--listing`: the module is printed in full.
     pub listing: bool,
@@ -107,7 +107,8 @@ pub struct Command {
     pub at: u64,
     /// `--maus`: the number of bytes in an address of the module that `fromtxt` makes; 4 without the option.
     pub maus: u8,
-    /// `--keep`: the public symbol to keep. What neither it, nor the start, nor a section with a base needs is left out.
+    /// `--keep`: the public symbol to keep. All that is needed neither by it, nor by the start address, nor
+    /// by a section with a base is left out.
     pub keep: Option<Bytes>,
     /// The text that `help` or `version` prints; `None` for other commands.
     pub help: Option<HelpText>,

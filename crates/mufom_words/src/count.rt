@@ -13,7 +13,7 @@ fn are_digits(bytes: &[u8]) -> bool
     bytes.iter().all(|byte| *byte >= b'0' && *byte <= b'9')
 }
 
-// The number that digits state, or the first one that is no count where it is more than that.
+// The number that digits state, capped at the first number that is too great for a count.
 fn capped_number(digits: &[u8]) -> u32
     ensures { result ≡ min (MOST_MODULES + 1) (decimal_number digits.now) }
 {
@@ -25,7 +25,7 @@ fn capped_number(digits: &[u8]) -> u32
     number
 }
 
-/// The count that a word states in decimal digits, 1 to 65,536. Zeros may come before it.
+/// The count that a word states in decimal digits, 1 to 65,536. Leading zeros are allowed.
 pub(crate) fn count_of(word: &str) -> Option<u32>
     ensures { result ≡ counted word.now }
 {

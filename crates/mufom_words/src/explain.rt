@@ -1,4 +1,4 @@
-//! The command that explains how other arguments end: `explain`.
+//! The command `explain`, which explains how a run with other arguments ends.
 
 ghost use Rattle.std.specs.Prelude.{◌≡◌, map};
 ghost use Rattle.std.specs.String.{string_bytes};
@@ -9,14 +9,14 @@ use crate::stop::{UsageFault, WordsStop};
 use mufom_numbers::List;
 use std::alloc::Global;
 
-/// Whether a first word names the command.
+/// Whether a first argument names the command.
 pub(crate) fn names_explain(word: &str) -> bool
     ensures { result ≡ named word.now }
 {
     word == "explain"
 }
 
-// Whether there are arguments to explain, which ask for no explanation themselves.
+// Whether there are arguments to explain, the first of which is not `explain`.
 fn may_be_explained(words: &[String]) -> bool
     ensures { result ≡ may (map (λ word. string_bytes word) words.now) }
 {
@@ -48,7 +48,8 @@ fn explain_command(alloc: Global) -> Command
     }
 }
 
-/// The command where these arguments follow its name. They are not read. Allocates nothing.
+/// The command, if these arguments follow its name, or `BadWords` if they can't be explained. Does not read
+/// the arguments, and does not allocate.
 pub(crate) fn explain_answer(alloc: Global, words: &[String]) -> Result<Command, WordsStop>
     ensures { result ≡ answered (map (λ word. string_bytes word) words.now) }
 {

@@ -1,4 +1,4 @@
-//! The table of commands: which options each takes, and what its operands are.
+//! The table of commands: the options and the operands of each.
 
 ghost use Rattle.std.specs.Prelude.{◌≡◌};
 ghost use Rattle.mufom_words.specs.Options.{form_of, takes, usage_of};
@@ -6,7 +6,7 @@ ghost use Rattle.mufom_words.specs.Options.{form_of, takes, usage_of};
 use crate::command::Verb;
 use crate::options::Setting;
 
-/// What the operands of a command are.
+/// The operands that a command takes.
 #[derive(Clone, Copy, Debug, PartialEq, Eq)]
 pub(crate) enum Operands {
     /// The name of one file.
@@ -37,7 +37,7 @@ pub(crate) enum Form {
 }
 
 impl Form {
-    /// The row that a word names.
+    /// The row of the command that a word names, if any.
     pub(crate) fn from_name(word: &str) -> Option<Form>
         ensures { result ≡ form_of word.now }
     {
@@ -124,7 +124,7 @@ impl Form {
         }
     }
 
-    /// What its operands are.
+    /// The operands that the command takes.
     pub(crate) fn operands(self) -> Operands
         ensures { result ≡ (usage_of self).operands }
     {

@@ -51,7 +51,7 @@ pub(crate) fn is_given(matches: &ArgMatches<'_>, form: Form, setting: Setting) -
     }
 }
 
-/// The operands.
+/// The operands, or `None` if there are none.
 pub(crate) fn operands_in<'b, 'a: 'b>(matches: &'b ArgMatches<'a>) -> Option<&'b [&'a str]>
     ensures some { IfSome result (λ words. map (λ word. word.now) words.now ≡ operands_of (rows_of (found_of matches.now))) }
     ensures none { IsNone result → operands_of (rows_of (found_of matches.now)) ≡ [] }

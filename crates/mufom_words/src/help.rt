@@ -11,7 +11,7 @@ use mufom_help::{command_list, topic_text, version_line};
 use mufom_numbers::List;
 use std::alloc::Global;
 
-/// The command that a first word names, where it is one of these.
+/// The command that a first argument names, if it is one of these.
 pub(crate) fn own_verb(word: &str) -> Option<Verb>
     ensures { result ≡ named word.now }
 {
@@ -22,7 +22,7 @@ pub(crate) fn own_verb(word: &str) -> Option<Verb>
     }
 }
 
-// What `help` prints, by the arguments after it.
+// What `help` prints with these arguments, or `None` if they are not valid.
 fn help_text(words: &[String]) -> Option<&'static str>
     ensures { option_map (λ text. text.now) result ≡ help (map (λ word. string_bytes word) words.now) }
 {
@@ -33,7 +33,7 @@ fn help_text(words: &[String]) -> Option<&'static str>
     }
 }
 
-// What `version` prints, by the arguments after it.
+// What `version` prints with these arguments, or `None` if there are any.
 fn version_text(words: &[String]) -> Option<&'static str>
     ensures { option_map (λ text. text.now) result ≡ version (map (λ word. string_bytes word) words.now) }
 {
@@ -43,7 +43,7 @@ fn version_text(words: &[String]) -> Option<&'static str>
     }
 }
 
-// What the command prints, by the arguments after its name.
+// What the command prints with these arguments, or `None` if they are not valid.
 fn own_text(verb: Verb, words: &[String]) -> Option<&'static str>
     ensures { option_map (λ text. text.now) result ≡ text_of verb (map (λ word. string_bytes word) words.now) }
 {
@@ -75,7 +75,8 @@ fn own_command(alloc: Global, verb: Verb, text: &'static str) -> Command
     }
 }
 
-/// The command of words whose first one names `verb`; `words` are those after it. Allocates nothing.
+/// The command that `verb` and the arguments after it give, or `BadWords` if there is no text for them. Does
+/// not allocate.
 pub(crate) fn own_answer(alloc: Global, verb: Verb, words: &[String]) -> Result<Command, WordsStop>
     ensures { result ≡ answered verb (map (λ word. string_bytes word) words.now) }
 {

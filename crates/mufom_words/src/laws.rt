@@ -1,4 +1,4 @@
-//! Laws of the arguments, each the contract of a function that does nothing.
+//! Laws about the arguments. Each law is the contract of a function with an empty body.
 
 ghost use Rattle.std.specs.Prelude.{◌≡◌};
 ghost use Rattle.mufom_words.specs.Sound.{CommandsAreSound};

@@ -1,9 +1,9 @@
 //! The command that the arguments of a command line give.
 //!
 //! The first argument names the command, and `clap` reads the others, as one simple command for each
-//! name: options, and files in groups and after them members. Its main clause is that of
-//! [`read_words`]: the command that it returns is the one that the arguments give, and a stop other
-//! than out of memory is the first error in them, in a fixed order.
+//! name: options, files in groups, and then members. The main clause is that of [`read_words`]: it
+//! returns the command that the arguments give, or the first error in them, in a fixed order, unless
+//! memory runs out.
 #![tactic(auto)]
 
 mod command;

@@ -1,4 +1,4 @@
-//! The arguments that are no option: names of files in groups, and of members, or a count.
+//! The operands of a command: names of files in groups and of members, or a count.
 
 ghost use Rattle.std.specs.Prelude.{◌≡◌, ◌+◌, ◌-◌, ◌≤◌, ◌<◌, ◌^◌, false, IfOk, length, map};
 ghost use Rattle.mufom_words.specs.Operands.{count_fault as wrong_count, depth_from, depth_in, depth_of as depth_by, end_fault as wrong_end};
@@ -13,7 +13,7 @@ use crate::stop::UsageFault;
 use mufom_numbers::{List, NoMemory, Text};
 use std::alloc::Global;
 
-/// What a word is among those that name files.
+/// The kind of an operand in a list of files.
 #[derive(Clone, Copy, Debug, PartialEq, Eq)]
 pub(crate) enum FileWord {
     /// `[`
@@ -26,13 +26,13 @@ pub(crate) enum FileWord {
     Name,
 }
 
-/// Where the words so far lead.
+/// The state after the operands so far.
 #[derive(Clone, Copy, Debug, PartialEq, Eq)]
 pub(crate) enum Walk {
-    /// Into the tree of files: `depth` groups are open, the last word opened one or not, and there
-    /// is a file or none.
+    /// In the tree of files: `depth` groups are open, `opened` tells whether the last operand opened one,
+    /// and `any` whether there is a file.
     Tree { depth: u32, opened: bool, any: bool },
-    /// To the members, of which there is one or none.
+    /// In the members; `any` tells whether there is one.
     Members { any: bool },
 }
 
@@ -47,9 +47,9 @@ fn file_word(word: &str) -> FileWord
     }
 }
 
-// ---- faults
+// ---- errors
 
-// What is wrong with the first bracket or `+`, where no file is in a group.
+// The first error in files, for a command without groups: a bracket, a `+`, or no file.
 fn plain_fault(words: &[&str]) -> Option<UsageFault>
     ensures { result ≡ plain_fault_from false (file_words (map (λ word. word.now) words.now)) }
 {
@@ -64,7 +64,7 @@ fn plain_fault(words: &[&str]) -> Option<UsageFault>
     if any { None } else { Some(UsageFault::NoFile) }
 }
 
-// Where a word leads to in the tree.
+// The state after an operand in the tree of files, or the error in it.
 fn step_in_tree(depth: u32, opened: bool, any: bool, word: FileWord) -> Result<Walk, UsageFault>
     requires { depth < 2 ^ 32 - 1 }
     ensures { result ≡ next_walk (Walk.Tree depth opened any) word }
@@ -92,7 +92,7 @@ fn step_in_tree(depth: u32, opened: bool, any: bool, word: FileWord) -> Result<W
     }
 }
 
-// Where a word leads to, or what is wrong with it.
+// The state after an operand, or the error in it.
 fn step(walk: Walk, word: FileWord) -> Result<Walk, UsageFault>
     requires { depth_in walk < 2 ^ 32 - 1 }
     ensures value { result ≡ next_walk walk word }
@@ -108,7 +108,7 @@ fn step(walk: Walk, word: FileWord) -> Result<Walk, UsageFault>
     }
 }
 
-// What is wrong where the arguments end.
+// The error at the end of the operands, if there is one.
 fn end_fault(walk: Walk) -> Option<UsageFault>
     ensures { result ≡ wrong_end walk }
 {
@@ -120,7 +120,7 @@ fn end_fault(walk: Walk) -> Option<UsageFault>
     }
 }
 
-// What is wrong with the first word with which anything is, or with the end.
+// The error of the first operand that has one, or else that of the end.
 fn grouped_fault(words: &[&str]) -> Option<UsageFault>
     requires { length words.now < 2 ^ 32 }
     ensures { result ≡ wrong_group (file_words (map (λ word. word.now) words.now)) }
@@ -209,7 +209,7 @@ fn name_count(words: &[&str]) -> u32
     count
 }
 
-/// How many files the arguments name, members included.
+/// The number of files that the operands name, members included.
 pub(crate) fn file_count(operands: Operands, words: &[&str]) -> u32
     requires { length words.now < 2 ^ 32 }
     ensures { result ≡ length (files_by operands (map (λ word. word.now) words.now)) }
@@ -220,7 +220,7 @@ pub(crate) fn file_count(operands: Operands, words: &[&str]) -> u32
     }
 }
 
-// How many groups are open at once at most.
+// The greatest number of groups that are open at once.
 fn greatest_depth(words: &[&str]) -> u32
     requires { length words.now < 2 ^ 32 }
     ensures { result ≡ depth_from 0 (file_words (map (λ word. word.now) words.now)) }
@@ -239,7 +239,7 @@ fn greatest_depth(words: &[&str]) -> u32
     depth.max(greatest)
 }
 
-/// How many groups are open at once at most, by the command.
+/// The greatest number of groups that are open at once; 0 if the command takes no files.
 pub(crate) fn depth_of(operands: Operands, words: &[&str]) -> u32
     requires { length words.now < 2 ^ 32 }
     ensures { result ≡ depth_by operands (map (λ word. word.now) words.now) }
@@ -262,7 +262,7 @@ fn names(alloc: Global, words: &[&str]) -> Result<List<Text>, NoMemory>
     Ok(names)
 }
 
-/// The names of the files, members included, to keep.
+/// Copies of the names of the files, members included.
 pub(crate) fn files_of(
     alloc: Global,
     operands: Operands,

@@ -9,7 +9,7 @@ use crate::form::Form;
 use clap::{Arg, ArgAction};
 use std::alloc::{AllocError, Global};
 
-/// What an option sets.
+/// An option of a command.
 #[derive(Clone, Copy, Debug, PartialEq, Eq)]
 pub(crate) enum Setting {
     /// `--no-debug`
@@ -51,7 +51,7 @@ impl Setting {
     }
 }
 
-// The option that sets this.
+// The option, as an argument of `clap`.
 fn option_of<'a>(alloc: Global, setting: Setting) -> Arg<'a>
     ensures rule { rule_of result ≡ rule_for setting }
     ensures local { result.global ≡ false }

@@ -1,4 +1,4 @@
-//! The command of the arguments.
+//! Reads the command that the arguments give.
 
 ghost use Rattle.std.specs.Prelude.{◌≡◌, ◌≢◌, ◌<◌, ◌^◌, Some, Ok, Err, IfOk, IfErr, length, map, option_map};
 ghost use Rattle.std.specs.String.{string_bytes};
@@ -28,13 +28,13 @@ use clap::{ArgMatches, Error};
 use mufom_numbers::{Bytes, NoMemory, Text};
 use std::alloc::Global;
 
-/// How many files a run has at most.
+/// The greatest number of files of a run.
 const MOST_FILES: u32 = 1024;
 
-/// How many groups are open at once at most.
+/// The greatest number of groups that are open at once.
 const MOST_OPEN: u32 = 64;
 
-/// How many bytes the name of a module has at most.
+/// The greatest length of the name of a module, in bytes.
 const LONGEST_NAME: usize = 65_535;
 
 fn name_fault(name: Option<&str>) -> Option<UsageFault>
@@ -46,7 +46,7 @@ fn name_fault(name: Option<&str>) -> Option<UsageFault>
     }
 }
 
-// An option that must be there is not.
+// The error for a required option that is missing.
 fn missing_fault(form: Form, setting: Setting, value: Option<&str>) -> Option<UsageFault>
     ensures { result ≡ missing (usage_of form) setting (option_map (λ text. text.now) value.entry) }
 {
@@ -83,7 +83,7 @@ fn usage_fault(
     count_fault(operands, words)
 }
 
-// Too many files, or else too many groups that are open at once.
+// The error for too many files, or else for too many groups that are open at once.
 fn limit_stop(operands: Operands, words: &[&str]) -> Option<WordsStop>
     requires { length words.now < 2 ^ 32 }
     ensures { result ≡ limited operands (map (λ word. word.now) words.now) }
@@ -99,7 +99,7 @@ fn limit_stop(operands: Operands, words: &[&str]) -> Option<WordsStop>
     None
 }
 
-// What an error of `clap` states of the arguments.
+// The error of the arguments for an error of `clap`.
 fn refusal(error: &Error) -> WordsStop
     ensures { result ≡ stop_by (kind_of error.now) }
 {
@@ -239,7 +239,7 @@ fn command_of_taken(
     }
 }
 
-/// The command of the arguments by a row of the table. The first of the arguments names the command.
+/// The command that the arguments give, read by a row of the table. The first argument names the command.
 pub(crate) fn command_for(alloc: Global, form: Form, words: &[String]) -> Result<Command, WordsStop>
     requires { length words.now < 2 ^ 32 }
     ensures ok { IfOk result (λ command. answer_for (Some form) (map (λ word. string_bytes word) words.now) ≡ Ok command) }
@@ -260,17 +260,16 @@ pub(crate) fn command_for(alloc: Global, form: Form, words: &[String]) -> Result
 ///
 /// `words` are the command line's arguments without the program's name, fewer than 2^32. The first
 /// names the command, and `clap` reads the others, except those of `help` and `version`, which are
-/// compared letter by letter, and those of `explain`, which are not read: they are the arguments of a
-/// call of their own. Errors are looked for in this order, and the first is returned: no
-/// command; the options; brackets and `+` from left to right, then those that the end leaves open,
-/// then that there is no file; the number of files; the name; the count; the values of `--maus`,
-/// `--fill` and `--at`; and after all these more than 1,024 files, and more than 64 groups that are open at
-/// once.
+/// compared byte by byte, and those of `explain`, which are not read: they are the arguments of a
+/// run of their own. The first error in this order is returned: no such command; the options;
+/// brackets and `+` from left to right; at the end a group that is open, no file, or no member after the
+/// `+`; the number of files; the name; the count; the values of `--maus`, `--fill` and `--at`; and
+/// finally more than 1,024 files, and more than 64 groups that are open at once.
 pub fn read_words(alloc: Global, words: &[String]) -> Result<Command, WordsStop>
     requires { length words.now < 2 ^ 32 }
     ensures ok { IfOk result (λ command. answer_of (map (λ word. string_bytes word) words.now) ≡ Ok command) }
     ensures refused { IfErr result (λ stop. stop ≢ WordsStop.NoMemory → answer_of (map (λ word. string_bytes word) words.now) ≡ Err stop) }
-    // Its marks are those of a tree over the first files, its options are those of its verb, and the limits hold.
+    // The marks are those of a tree over the first files, the options those of the verb, and the limits hold.
     ensures sound { IfOk result IsSound }
     // A command that prints a text of the program does not allocate.
     ensures memory { PrintsHelp (map (λ word. string_bytes word) words.now) → result ≢ Err WordsStop.NoMemory }

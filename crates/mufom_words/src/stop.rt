@@ -1,4 +1,4 @@
-//! What is wrong with the arguments.
+//! Errors in the arguments.
 
 use thiserror::Error;
 
@@ -9,7 +9,8 @@ pub enum UsageFault {
     #[error("no such command")]
     NoCommand,
     /// An option that the command does not have, that occurs twice, that lacks its value or has one
-    /// where it takes none, or that is required and is absent.
+    /// although it takes none, or that is required and missing; or arguments of `help`, `version` or
+    /// `explain` that are not valid.
     #[error("invalid arguments")]
     BadWords,
     /// No file.
@@ -24,7 +25,7 @@ pub enum UsageFault {
     /// A bracket that closes no group, or a bracket for a command without groups.
     #[error("unexpected bracket")]
     StrayBracket,
-    /// A `+` where no members may follow, a bracket that opens a group after it, or no member
+    /// A `+` that no members may follow, a bracket that opens a group after the `+`, or no member
     /// after it.
     #[error("misplaced +")]
     BadMembers,

@@ -13,7 +13,7 @@ fn are_hexadecimal(bytes: &[u8]) -> bool
     bytes.iter().all(|byte| char::from(*byte).is_digit(16))
 }
 
-// The number that hexadecimal digits state, where there are from `least` to `most` of them.
+// The number that hexadecimal digits state, if there are `least` to `most` of them.
 fn hexadecimal_of(least: usize, most: usize, word: &str) -> Option<u64>
     requires some { 1 ≤ least }
     requires fits { most ≤ 16 }

@@ -1,4 +1,4 @@
--- Bytes that are put one after another.
+-- Laws about a count of bytes that are written one after another.
 use Rattle.std.proofs.Common.{◌≡◌, ℕ, ◌+◌, List, [], ◌++◌, length, Result, Ok, Err, IsErr, refl, ap, ◌∙◌, length-append, arith}
 use Rattle.mufom_host.specs.declared.world.Failed.{Failed}
 use Rattle.mufom_write.specs.Writing.{Counts}

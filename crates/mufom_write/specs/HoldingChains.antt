@@ -1,4 +1,4 @@
--- Bytes that are put one after another while some of them are held.
+-- Laws about bytes that are written one after another through a buffer.
 use Rattle.std.proofs.Common.{◌≡◌, ℕ, List, [], ◌++◌, Result, Ok, Err, IsErr, refl, sym, subst, ap, ◌∙◌, append_assoc, arith}
 use Rattle.std.proofs.lemmas.List.{append-nil}
 use Rattle.mufom_host.specs.declared.world.Failed.{Failed}
@@ -16,7 +16,7 @@ Holds-nothing m f held = record {
   counts = refl;
 }
 
--- what was passed on first, with what was held then and the second bytes, is what was held at first and all bytes
+-- the bytes passed on by the first call, those held after it and the second bytes are those held before it and all new bytes
 both : (passed held holds xs ys : List ℕ) → passed ++ holds ≡ held ++ xs → passed ++ (holds ++ ys) ≡ held ++ (xs ++ ys)
 both passed held holds xs ys e = sym (append_assoc passed holds ys) ∙ ap (λ l. l ++ ys) e ∙ append_assoc held xs ys
 
@@ -62,7 +62,7 @@ module _ (a b : Meaning) (f g : Faults) (held holds xs ys : List ℕ) where
     counts = p.counts;
   })
 
--- if nothing was held and nothing is held, the file grew by the bytes, or by a prefix of them
+-- if the buffer was empty and, after a success, is empty again, the file grew by the bytes, or by a prefix of them if a write failed
 module _ (a b : Meaning) (f g : Faults) (keeps bytes : List ℕ) where
   pub Holds-all : (r : Result (Unit {0}) Failed) → (r ≡ Ok tt → keeps ≡ []) → Holds a b f g [] keeps bytes r → Writes a b f g bytes r
   Holds-all (Ok tt) empty p =
@@ -70,7 +70,7 @@ module _ (a b : Meaning) (f g : Faults) (keeps bytes : List ℕ) where
       record { added = subst (λ (l : List ℕ). MakingGrowsBy a.making b.making l) same p.added.1; stays = p.stays; cause = p.cause; counts = p.counts }
   Holds-all (Err e) empty p = record { added = p.added; stays = p.stays; cause = p.cause; counts = p.counts }
 
--- bytes are put when nothing was held, and what is held is written then
+-- bytes are written through an empty buffer, and the buffer is then flushed
 module _ (a b c : Meaning) (f g h : Faults) (held holds keeps bytes : List ℕ) where
   pub Holds-through : (r : Result (Unit {0}) Failed) → held ≡ [] → Holds a b f g held holds bytes (Ok tt) → Holds b c g h holds keeps [] r
       → (r ≡ Ok tt → keeps ≡ []) → Writes a c f h bytes r

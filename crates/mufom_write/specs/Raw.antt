@@ -2,7 +2,7 @@
 use Rattle.std.specs.Prelude.{ℕ, ◌+◌, ◌-◌, List, [], ◌∷◌, ◌++◌, length, replicate}
 use Rattle.mufom_meaning.specs.declared.located.Run.{Run}
 
--- the address after the last of a run
+-- the address after the last byte of a run
 abbrev pub run_end : Run → ℕ
 run_end run = run.address + length run.bytes
 
@@ -11,7 +11,7 @@ abbrev pub first_address : List Run → ℕ
 first_address [] = 0
 first_address (run ∷ runs) = run.address
 
--- the bytes from an address on to the last of the runs: those of the runs, and `fill` between them
+-- the bytes from the address `end` to the end of the last run: those of the runs, and `fill` at each address between them
 abbrev pub rows_from : ℕ → ℕ → List Run → List ℕ
 rows_from fill end [] = []
 rows_from fill end (run ∷ runs) = (replicate (run.address - end) fill ++ run.bytes) ++ rows_from fill (run_end run) runs

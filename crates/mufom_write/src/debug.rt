@@ -94,7 +94,7 @@ fn value_record<K: Output>(out: &mut K, name: u32, value: &Postfix) -> Result<()
     expression(out, value)
 }
 
-// An item; `names` counts the names that are before it, and then after it.
+// Writes an item. `names` is the number of debug names declared before it, and then after it.
 #[cycle(writing)]
 fn debug_item<K: Output>(out: &mut K, item: &DebugItem, names: &mut u64) -> Result<(), Failed>
     requires short { list_any has_long_name (marks_of_item item.now) ≡ false }
@@ -124,8 +124,8 @@ fn debug_item<K: Output>(out: &mut K, item: &DebugItem, names: &mut u64) -> Resu
     }
 }
 
-/// The items, one after another; `names` counts the names that are before them, and then after
-/// them.
+/// Writes the items, one after another. `names` is the number of debug names declared before them, and
+/// then after them.
 #[cycle(writing)]
 pub(crate) fn debug_items<K: Output>(
     out: &mut K,

@@ -1,4 +1,4 @@
-//! Numbers, strings and expressions.
+//! Writes numbers, strings and expressions.
 
 ghost use Rattle.std.specs.Prelude.{◌≡◌, ◌++◌, false};
 ghost use Rattle.mufom_expr.specs.Codes.{letter_byte, function_byte};
@@ -15,23 +15,23 @@ use mufom_numbers::{Bytes, codes, string_lead};
 /// The index that the file has for its first section.
 pub(crate) const FIRST_SECTION: u64 = 1;
 
-/// The same for its first public.
+/// The index that the file has for its first public.
 pub(crate) const FIRST_PUBLIC: u64 = 32;
 
-/// The same for its first reference.
+/// The index that the file has for its first reference.
 pub(crate) const FIRST_REFERENCE: u64 = 11;
 
-/// The same for its first debug name.
+/// The index that the file has for its first debug name.
 pub(crate) const FIRST_DEBUG_NAME: u64 = 32;
 
-/// A number.
+/// Writes a number.
 pub(crate) fn number<K: Output>(out: &mut K, value: u64) -> Result<(), Failed>
     ensures { K.takes out.old out.new (written.number shortest value) result }
 {
     out.number(value)
 }
 
-/// The start of a record: the bytes of its command, and a number after them.
+/// Writes the start of a record: the bytes of its command, followed by a number.
 pub(crate) fn numbered<K: Output>(out: &mut K, command: &[u8], value: u64) -> Result<(), Failed>
     ensures { K.takes out.old out.new (command.now ++ written.number shortest value) result }
 {
@@ -39,7 +39,7 @@ pub(crate) fn numbered<K: Output>(out: &mut K, command: &[u8], value: u64) -> Re
     number(out, value)
 }
 
-/// Bytes within a record, and a number after them.
+/// Writes bytes within a record, followed by a number.
 pub(crate) fn prefixed<K: Output>(out: &mut K, prefix: &[u8], value: u64) -> Result<(), Failed>
     ensures { K.takes out.old out.new (prefix.now ++ written.number shortest value) result }
 {
@@ -47,7 +47,7 @@ pub(crate) fn prefixed<K: Output>(out: &mut K, prefix: &[u8], value: u64) -> Res
     number(out, value)
 }
 
-/// The numbers, one after another.
+/// Writes the numbers, one after another.
 pub(crate) fn numbers<K: Output>(out: &mut K, values: &[u64]) -> Result<(), Failed>
     ensures { K.takes out.old out.new (written.numbers shortest values.now) result }
 {
@@ -57,7 +57,7 @@ pub(crate) fn numbers<K: Output>(out: &mut K, values: &[u64]) -> Result<(), Fail
     Ok(())
 }
 
-/// A string: its lead and its bytes.
+/// Writes a string: its lead and its bytes.
 pub(crate) fn string<K: Output>(out: &mut K, text: &Bytes) -> Result<(), Failed>
     requires { is_long text.now ≡ false }
     ensures { K.takes out.old out.new (written.string shortest text.now) result }
@@ -66,7 +66,7 @@ pub(crate) fn string<K: Output>(out: &mut K, text: &Bytes) -> Result<(), Failed>
     out.put(text.as_slice())
 }
 
-/// Bytes after their number.
+/// Writes the number of bytes, followed by the bytes.
 pub(crate) fn counted<K: Output>(out: &mut K, bytes: &Bytes) -> Result<(), Failed>
     ensures { K.takes out.old out.new (written.counted shortest bytes.now) result }
 {
@@ -138,7 +138,7 @@ fn token<K: Output>(out: &mut K, token: Token) -> Result<(), Failed>
     }
 }
 
-/// An expression: its tokens, operands before functions.
+/// Writes an expression: its tokens, operands before functions.
 pub(crate) fn expression<K: Output>(out: &mut K, value: &Postfix) -> Result<(), Failed>
     ensures { K.takes out.old out.new (written.expression shortest value.now) result }
 {

@@ -1,4 +1,4 @@
-//! Bytes of a file that are held, and written together.
+//! A buffer that gathers the bytes of a file and writes them together.
 
 ghost use Rattle.std.specs.Prelude.{◌≡◌, [], Ok};
 ghost use Rattle.mufom_write.specs.Holding.{Holds};
@@ -18,7 +18,7 @@ pub(crate) struct Held<'a, K: Sink> {
 }
 
 impl<'a, K: Sink> Held<'a, K> {
-    /// Holds nothing yet.
+    /// An empty buffer in front of the sink.
     pub(crate) fn new(sink: &'a mut K) -> Held<'a, K>
         ensures same { result.sink.ghost_name ≡ sink.entry.ghost_name }
         ensures sink { result.sink.now ≡ sink.old }
@@ -30,7 +30,7 @@ impl<'a, K: Sink> Held<'a, K> {
         }
     }
 
-    /// Writes what is held.
+    /// Writes the bytes that are held.
     pub(crate) fn flush(&mut self) -> Result<(), Failed>
         ensures same { self.new.sink.ghost_name ≡ self.old.sink.ghost_name }
         ensures empty { result ≡ Ok tt → self.new.block ≡ [] }
@@ -42,7 +42,7 @@ impl<'a, K: Sink> Held<'a, K> {
         Ok(())
     }
 
-    // Takes bytes when nothing is held.
+    // Adds bytes to the empty buffer, or writes them at once if they do not fit.
     fn begin(&mut self, bytes: &[u8]) -> Result<(), Failed>
         requires { self.old.block ≡ [] }
         ensures same { self.new.sink.ghost_name ≡ self.old.sink.ghost_name }
@@ -55,7 +55,7 @@ impl<'a, K: Sink> Held<'a, K> {
         write_all(self.sink, bytes)
     }
 
-    // Writes what is held, and takes bytes.
+    // Writes the bytes that are held, and then adds these.
     fn turn(&mut self, bytes: &[u8]) -> Result<(), Failed>
         ensures same { self.new.sink.ghost_name ≡ self.old.sink.ghost_name }
         ensures holds { Holds (K.meaning self.old.sink.now) (K.meaning self.new.sink.now) (K.faults self.old.sink.now)
@@ -65,7 +65,7 @@ impl<'a, K: Sink> Held<'a, K> {
         self.begin(bytes)
     }
 
-    // Takes bytes.
+    // Adds bytes; if they do not fit, the bytes that are held are written first.
     fn add(&mut self, bytes: &[u8]) -> Result<(), Failed>
         ensures same { self.new.sink.ghost_name ≡ self.old.sink.ghost_name }
         ensures holds { Holds (K.meaning self.old.sink.now) (K.meaning self.new.sink.now) (K.faults self.old.sink.now)

@@ -1,12 +1,12 @@
-//! The writer of object modules: a module's written form goes to a file, record by record.
+//! Writes object modules: the written form of a module goes to a file, record by record.
 //!
 //! It depends on the crates of a module's entries, `mufom_module`, `mufom_meaning` for raw images,
-//! `mufom_host`, `thiserror` and, in its proofs, `arrayvec`. It does not allocate. All records are written by functions
-//! over one trait, whose two implementations pass bytes to a sink record by record, and count bytes. The
-//! main clause is that of [`write_module`]: the file being made grows by exactly the written form, or a
-//! write failed, its error counter increased, and the file grew by a prefix of that form; and the form,
-//! if it is no longer than a file may be, is a file of the module. [`layout`] returns where the parts of
-//! the form begin and how long it is.
+//! `mufom_host`, `thiserror` and, in its proofs, `arrayvec`. It does not allocate. All records are written by
+//! functions over one trait, whose two implementations pass bytes to a sink record by record, and count
+//! bytes. The main clause is that of [`write_module`]: the file being made grows by exactly the written form,
+//! which is a file of the module unless it is longer than a file may be. If a write fails, the count of
+//! failed writes rises, and the file grows by a prefix of the form. [`layout`] returns the offsets of the
+//! parts in the form, and its length.
 #![tactic(auto)]
 
 mod debug;

@@ -1,4 +1,4 @@
-//! The records of loads, and of the start.
+//! Writes the records of loads and of the start address.
 
 ghost use Rattle.std.specs.Prelude.{◌∷◌, ◌++◌, [], Some};
 ghost use Rattle.mufom_numbers.specs.declared.codes.TheConstants.{ASSIGNMENT, CONSTANT, LETTER_P, RELOCATE, REPEAT};
@@ -13,7 +13,7 @@ use mufom_host::Failed;
 use mufom_loads::{Item, Load};
 use mufom_numbers::{Bytes, codes};
 
-// What is after the expression of a field: a comma, the size, and the closing bracket.
+// Writes what follows the expression of a field: a comma, the size, and the closing bracket.
 fn field_end<K: Output>(out: &mut K, kind: FieldKind, size: u8) -> Result<(), Failed>
     ensures { K.takes out.old out.new (comma ∷ (written.number shortest size ++ closing kind ∷ [])) result }
 {
@@ -133,7 +133,7 @@ fn load<K: Output>(out: &mut K, load: &Load) -> Result<(), Failed>
     }
 }
 
-/// The data part.
+/// Writes the data part.
 pub(crate) fn loads<K: Output>(out: &mut K, loads: &[Load]) -> Result<(), Failed>
     ensures { K.takes out.old out.new (each (λ _. written.load shortest) loads.now) result }
 {
@@ -152,7 +152,7 @@ fn start_record<K: Output>(out: &mut K, value: &Postfix) -> Result<(), Failed>
     out.put(&[codes::CLOSE_EITHER])
 }
 
-/// The ASG record, if there is a start.
+/// Writes the ASG record, if there is a start address.
 pub(crate) fn start<K: Output>(out: &mut K, start: &Option<Postfix>) -> Result<(), Failed>
     ensures { K.takes out.old out.new (written.start shortest start.now) result }
 {

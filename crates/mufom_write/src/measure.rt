@@ -32,7 +32,7 @@ fn part_length(parts: &Parts, number: usize) -> u64
     counter.bytes
 }
 
-/// Where the parts begin, one after another, and the length of the whole form.
+/// The offsets of the parts in the written form, and its length, in bytes.
 pub(crate) fn layout_of(parts: &Parts) -> FileLayout
     requires { IsValid parts.now }
     ensures offsets { result.offsets ≡ form.offsets shortest parts.now }

@@ -1,4 +1,4 @@
-//! The records of publics, references and their notes.
+//! Writes the records of publics, references and their notes.
 
 ghost use Rattle.std.specs.Prelude.{◌≡◌, ◌∷◌, ◌++◌, ◌<◌, ◌^◌, false, Some};
 ghost use Rattle.mufom_numbers.specs.declared.codes.TheConstants.{ASSIGNMENT, LETTER_I};
@@ -14,7 +14,7 @@ use mufom_host::Failed;
 use mufom_names::{Note, Public, Reference, Weak};
 use mufom_numbers::{Bytes, codes};
 
-/// The ATI, ATX or ATN record, by the letter of the kind of the name.
+/// Writes an ATI, ATX or ATN record; the letter selects the kind of name.
 pub(crate) fn note<K: Output>(
     out: &mut K,
     letter: u8,
@@ -40,7 +40,7 @@ fn notes<K: Output>(out: &mut K, letter: u8, index: u64, notes: &[Note]) -> Resu
 
 // ---- publics
 
-/// The byte of a command, the index of a name, and the name: NI, NX and NN.
+/// Writes an NI, NX or NN record: the byte of its command, the index of a name, and the name.
 pub(crate) fn name_record<K: Output>(
     out: &mut K,
     command: u8,
@@ -73,7 +73,7 @@ fn public<K: Output>(out: &mut K, position: usize, public: &Public) -> Result<()
     value_record(out, index, &public.value)
 }
 
-/// The publics of the external part.
+/// Writes the publics of the external part.
 pub(crate) fn publics<K: Output>(out: &mut K, publics: &[Public]) -> Result<(), Failed>
     requires { list_any (λ p. is_long p.name) publics.now ≡ false }
     ensures { K.takes out.old out.new (each (written.public shortest) publics.now) result }
@@ -126,7 +126,7 @@ fn reference<K: Output>(out: &mut K, position: usize, reference: &Reference) -> 
     weak(out, index, reference.weak)
 }
 
-/// The references of the external part.
+/// Writes the references of the external part.
 pub(crate) fn references<K: Output>(out: &mut K, references: &[Reference]) -> Result<(), Failed>
     requires { list_any (λ r. is_long r.name) references.now ≡ false }
     ensures { K.takes out.old out.new (each (written.reference shortest) references.now) result }

@@ -11,19 +11,19 @@ use mufom_numbers::number_length;
 
 /// A destination for the bytes of a file.
 pub(crate) trait Output {
-    /// How putting bytes changes the output, with the result.
+    /// The effect of a call that writes bytes: the output before and after it, the bytes, and the result.
     ghost takes: { Self → Self → List ℕ → Result (Unit {0}) Failed → Type 0 };
 
-    /// Adds all of the bytes, or on a failure a prefix of them.
+    /// Adds all of the bytes, or a prefix of them if the call fails.
     fn put(&mut self, bytes: &[u8]) -> Result<(), Failed>
         ensures { takes self.old self.new bytes.now result };
 
-    /// Begins a record with the bytes of its command, as [`put`](Output::put) adds them. What was put before
-    /// is passed on first, so that records arrive one by one.
+    /// Begins a record with the bytes of its command, as [`put`](Output::put) adds them. The bytes of earlier
+    /// records are passed on first, so that records arrive one by one.
     fn record(&mut self, command: &[u8]) -> Result<(), Failed>
         ensures { takes self.old self.new command.now result };
 
-    /// Adds the shortest spelling of a number, or on a failure a prefix of it.
+    /// Adds the shortest spelling of a number, or a prefix of it if the call fails.
     fn number(&mut self, value: u64) -> Result<(), Failed>
         ensures { takes self.old self.new (shortest_number value) result };
 

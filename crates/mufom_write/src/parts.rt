@@ -1,4 +1,4 @@
-//! The parts of a file and what is before them.
+//! Writes the header and the parts of a file.
 
 ghost use Rattle.std.specs.Prelude.{◌≡◌, ◌∷◌, ◌++◌, ◌<◌, ◌^◌, [], All, length, get_or};
 ghost use Rattle.mufom_numbers.specs.declared.codes.TheConstants.{DESCRIPTOR, MODULE_BEGIN};
@@ -48,7 +48,7 @@ fn descriptor_record<K: Output>(out: &mut K, parts: &Parts) -> Result<(), Failed
     out.put(&[order_letter(parts.order)])
 }
 
-/// The MB and AD records.
+/// Writes the MB and AD records.
 pub(crate) fn module_begin<K: Output>(out: &mut K, parts: &Parts) -> Result<(), Failed>
     requires { IsValid parts.now }
     ensures { K.takes out.old out.new (written.module_begin shortest parts.now) result }
@@ -67,7 +67,7 @@ fn offset_record<K: Output>(out: &mut K, part: usize, offset: u64) -> Result<(),
     out.put(&(offset as u32).to_be_bytes())
 }
 
-/// The records of the offsets of the parts.
+/// Writes the ASW records, which contain the offsets of the parts.
 pub(crate) fn offset_records<K: Output>(out: &mut K, offsets: &[u64]) -> Result<(), Failed>
     requires { All (λ offset. offset < 2 ^ 32) offsets.now }
     ensures { K.takes out.old out.new (each (written.offset_record shortest) offsets.now) result }
@@ -89,7 +89,7 @@ fn external<K: Output>(out: &mut K, parts: &Parts) -> Result<(), Failed>
     references(out, parts.names.references.as_slice())
 }
 
-/// The part with this number: extension, environment, section, external, debug, data and trailer.
+/// Writes the part with this number, from 0: extension, environment, section, external, debug, data, trailer.
 pub(crate) fn part<K: Output>(out: &mut K, parts: &Parts, number: usize) -> Result<(), Failed>
     requires valid { IsValid parts.now }
     requires inside { number < 7 }
@@ -106,7 +106,7 @@ pub(crate) fn part<K: Output>(out: &mut K, parts: &Parts, number: usize) -> Resu
     }
 }
 
-/// All parts, one after another.
+/// Writes all parts, one after another.
 pub(crate) fn all_parts<K: Output>(out: &mut K, parts: &Parts) -> Result<(), Failed>
     requires { IsValid parts.now }
     ensures { K.takes out.old out.new (joined (written.parts shortest parts.now)) result }

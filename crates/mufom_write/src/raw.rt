@@ -11,10 +11,10 @@ use crate::write::WriteStop;
 use mufom_host::{Failed, Sink};
 use mufom_meaning::Run;
 
-/// The greatest number of bytes between runs that are put at once.
+/// The greatest number of bytes between runs that are written at once.
 const BLOCK: usize = 256;
 
-// As many bytes of one value as there are addresses between two runs.
+// Writes `count` bytes of the value `fill`, for the addresses between two runs.
 fn gap<K: Output>(out: &mut K, count: u64, fill: u8) -> Result<(), Failed>
     ensures { K.takes out.old out.new (replicate count fill) result }
 {
@@ -27,7 +27,7 @@ fn gap<K: Output>(out: &mut K, count: u64, fill: u8) -> Result<(), Failed>
     out.put(&block[..left as usize])
 }
 
-// The address after the last of a run.
+// The address after the last byte of a run.
 fn run_end(run: &Run) -> u128
     ensures { result ≡ ends run.now }
 {
@@ -72,7 +72,7 @@ fn rows<K: Output>(out: &mut K, fill: u8, runs: &[Run]) -> Result<(), Failed>
     Ok(())
 }
 
-// All bytes of the image, if nothing was held before; afterwards nothing of it is held.
+// Writes all bytes of the image through an empty buffer, and flushes the buffer.
 fn write_through<K: Sink>(held: &mut Held<K>, fill: u8, runs: &[Run]) -> Result<(), Failed>
     requires { held.old.block ≡ [] }
     ensures same { held.new.sink.ghost_name ≡ held.old.sink.ghost_name }
@@ -93,8 +93,8 @@ fn write_held<K: Sink>(sink: &mut K, fill: u8, runs: &[Run]) -> Result<(), Faile
     answer
 }
 
-/// The length in bytes of the raw image of these runs: one byte for each address from the first of the first
-/// run to the last of the last one, if they are in the order of their addresses. Does not allocate.
+/// The length in bytes of the raw image of these runs. If the runs are in the order of their addresses, it is
+/// one byte for each address from the first of the first run to the last of the last run. Does not allocate.
 pub fn raw_length(runs: &[Run]) -> u128
     ensures { (fill : ℕ) → result ≡ length (raw_image fill runs.now) }
 {

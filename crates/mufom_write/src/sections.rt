@@ -1,4 +1,4 @@
-//! The records of sections.
+//! Writes the records of sections.
 
 ghost use Rattle.std.specs.Prelude.{◌≡◌, ◌++◌, ◌<◌, ◌^◌, false};
 ghost use Rattle.std.specs.List.{list_any};
@@ -95,7 +95,7 @@ fn section<K: Output>(out: &mut K, position: usize, section: &Section) -> Result
     base_record(out, index, section.base)
 }
 
-/// The section part.
+/// Writes the section part.
 pub(crate) fn sections<K: Output>(out: &mut K, sections: &[Section]) -> Result<(), Failed>
     requires { list_any (λ s. is_long s.name) sections.now ≡ false }
     ensures { K.takes out.old out.new (each (written.section shortest) sections.now) result }

@@ -36,7 +36,7 @@ fn write_form<K: Output>(out: &mut K, parts: &Parts) -> Result<(), Failed>
     out.record(&[codes::MODULE_END])
 }
 
-// The whole file, if nothing was held before; afterwards nothing of it is held.
+// Writes the whole file through an empty buffer, and flushes the buffer.
 fn write_through<K: Sink>(held: &mut Held<K>, parts: &Parts) -> Result<(), Failed>
     requires valid { IsValid parts.now }
     requires empty { held.old.block ≡ [] }
@@ -62,19 +62,19 @@ fn write_held<K: Sink>(sink: &mut K, parts: &Parts) -> Result<(), Failed>
 /// Writes the written form of the module to the file being made. Does not allocate.
 ///
 /// The sink gets each record in a write of its own, or in several if the record is longer than 65,536
-/// bytes; no clause counts writes.
+/// bytes. The contract does not state this.
 ///
 /// If the written form is no longer than a file may be, it is a file of this module. `Fault` is returned
 /// only if a write failed and the count of failed writes rose; a prefix of the written form may then be
 /// in the file.
 pub fn write_module<K: Sink>(module: &Module, sink: &mut K) -> Result<(), WriteStop>
 
-    // The file grows by the written form; after an error, by the beginning of it.
+    // The file grows by the written form or, after an error, by a prefix of it.
     ensures whole { OnOk result (MakingGrowsBy (K.meaning sink.old).making (K.meaning sink.new).making (written «module».now)) }
     ensures prefix { OnErr result (MakingGrowsByPrefix (K.meaning sink.old).making (K.meaning sink.new).making (written «module».now)) }
     // The written form is a file of the module.
     ensures spells { length (written «module».now) ≤ file_limit → SpellsModule «module».now (written «module».now) true }
-    // Nothing but the file being made changes, and an error is a write that failed.
+    // Nothing changes except the file being made and the count of failed writes, which rises on an error.
     ensures only { OnlyWrites (K.meaning sink.old) (K.meaning sink.new) (K.faults sink.old) (K.faults sink.new) }
     ensures cause { OnErr result (Rose (K.faults sink.old).writes (K.faults sink.new).writes) }
 {

@@ -1,4 +1,4 @@
-//! What a host in memory has printed and written.
+//! The file that a host in memory makes.
 
 ghost use Rattle.std.specs.Prelude.{◌≡◌, ◌≤◌, [], Some, None, false, not, length, IfOk, option_map};
 ghost use Rattle.mufom_host.specs.World.{optional, with_bytes};

@@ -2,7 +2,7 @@
 -- list of debug items, and some of these are blocks.
 --
 -- Contracts see a `List` as a list, and its one field is a `Vec` whose items are that list. So everything here
--- goes from the list to the `Vec` and back. The memory of the items is the matter of `Vec`'s own file.
+-- goes from the list to the `Vec` and back. How the items are stored is described in `Vec`'s own file.
 use mathlib.Core.Path.{◌≡◌, refl, sym}
 use mathlib.Core.List.{List, []}
 use mathlib.Core.Former.{Former, this, via, children, list as list_of}
