@@ -42,10 +42,8 @@ fn add(table: &mut IndexTable, index: u32) -> Result<(), NoMemory>
     requires new { list_any (λ i. i == index) table.old ≡ false }
     ensures { OnOk result (table.new ≡ table.old ++ index ∷ []) }
 {
-    match table.add(index) {
-        Ok(_) => Ok(()),
-        Err(_) => Err(NoMemory),
-    }
+    table.add_new(index)?;
+    Ok(())
 }
 
 impl Tables {

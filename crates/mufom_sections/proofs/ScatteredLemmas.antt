@@ -1,7 +1,8 @@
 -- The positions of the indexes after one more was added, by the ordered map and by their list.
-use Rattle.std.proofs.Common.{◌≡◌, ◌+◌, ℕ, List, [], ◌∷◌, ◌++◌, length, Bool, true, false, not, cond, ◌||◌, nat_eq, position, Some, refl, sym, ap, ◌∙◌, arith}
+use Rattle.std.proofs.Common.{◌≡◌, ◌+◌, ℕ, List, [], ◌∷◌, ◌++◌, length, Bool, true, false, not, cond, ◌||◌, nat_eq, position, Option, Some, refl, sym, ap, ◌∙◌, arith}
 use Rattle.std.specs.Ordering.{nat_cmp, is_eq}
 use Rattle.std.specs.List.{list_any}
+use Rattle.std.specs.Option.{unwrap_or}
 use Rattle.std.proofs.lemmas.Bool.{eqb-true}
 use Rattle.std.proofs.lemmas.Bool.Decides.{nat_tests}
 use Rattle.mufom_sections.proofs.PlacesLemmas.{position-there, position-first, position-second, position-absent, neither}
@@ -33,3 +34,17 @@ position-pushed k q ks none =
       by_case false other false has =
           position-absent (nat_eq q) ks has
           ∙ sym (position-absent (nat_eq q) (ks ++ k ∷ []) (neither (nat_eq q) ks (k ∷ []) has (ap (λ b. b || false) other)))
+
+-- the index that was added last is at its place
+pub last-pushed : (k q at place : ℕ) (ks : List ℕ) → list_any (nat_eq k) ks ≡ false → at ≡ length ks
+    → ◌≡◌ {A = Option (ℕ × ℕ)} (Some (k, at)) (Some (q, place))
+    → position (nat_eq q) (ks ++ k ∷ []) ≡ Some place
+last-pushed k q at place ks none long is =
+    let same : ◌≡◌ {A = ℕ × ℕ} (k, at) (q, place) = ap (λ found. unwrap_or found (k, at)) is in
+    let q_is : q ≡ k = sym (ap (λ pair. pair.0) same) in
+    let itself : nat_eq k k ≡ true = grind (arith, nat_tests) in
+    let place_is : length ks ≡ place = sym long ∙ ap (λ pair. pair.1) same in
+    ap (λ n. position (nat_eq n) (ks ++ k ∷ [])) q_is
+    ∙ sym (position-pushed k k ks none)
+    ∙ ap (λ b. cond b (Some (length ks)) (position (nat_eq k) ks)) (is_eq-nat_cmp k k ∙ itself)
+    ∙ ap Some place_is

@@ -42,6 +42,10 @@ one_more k ks more is short distinct none =
 pub position-flipped : (k : ℕ) (ks : List ℕ) → position (nat_eq k) ks ≡ position (λ other. other == k) ks
 position-flipped k ks = λ i. position (λ other. nat_eq_equiv.symm k other i) ks
 
+-- and for any index of a list
+pub list_any-flipped : (k : ℕ) (ks : List ℕ) → list_any (nat_eq k) ks ≡ list_any (λ other. other == k) ks
+list_any-flipped k ks = λ i. list_any (λ other. nat_eq_equiv.symm k other i) ks
+
 -- what the place of an index says
 pub is_declared : (k place : ℕ) (ks : List ℕ) → position (nat_eq k) ks ≡ Some place → Contains ks k
 is_declared k place ks at = by_case (list_any (nat_eq k) ks) refl where

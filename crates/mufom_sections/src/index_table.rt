@@ -1,11 +1,12 @@
 //! A table from the indexes of a file to positions.
 
-ghost use Rattle.std.specs.Prelude.{◌≡◌, ◌+◌, ◌-◌, ◌^◌, ◌<◌, ◌↔◌, ◌==◌, [], ◌∷◌, ◌++◌, length, position, slice_get, nat_eq, Contains, IsSome, IfSome};
+ghost use Rattle.std.specs.Prelude.{◌≡◌, ◌+◌, ◌-◌, ◌^◌, ◌<◌, ◌↔◌, ◌==◌, [], ◌∷◌, ◌++◌, length, position, slice_get, nat_eq, false, Contains, IsSome, IfSome};
 ghost use Rattle.std.specs.Prelude.{IfOk, OnOk, OnErr};
-ghost use Rattle.std.specs.List.{IsDistinct};
+ghost use Rattle.std.specs.List.{IsDistinct, list_any};
 
 use crate::row::Row;
 use crate::scattered::Scattered;
+use mufom_numbers::NoMemory;
 use std::alloc::Global;
 use std::marker::Model;
 use thiserror::Error;
@@ -71,6 +72,24 @@ impl IndexTable {
         ensures duplicate { (result ≡ Err AddFault.Duplicate) ↔ Contains self.old index }
         ensures err { OnErr result (self.new ≡ self.old) }
     {
+        if self.position(index).is_some() {
+            return Err(AddFault::Duplicate);
+        }
+        match self.add_new(index) {
+            Ok(place) => Ok(place),
+            Err(_) => Err(AddFault::NoMemory),
+        }
+    }
+
+    /// Declares an index that is known not to be declared yet, and returns its position. If memory runs
+    /// out, the table is unchanged. The table must contain fewer than 2^32 - 1 indexes.
+    pub fn add_new(&mut self, index: u32) -> Result<u32, NoMemory>
+        requires few { length self.old < 2 ^ 32 - 1 }
+        requires new { list_any (λ other. other == index) self.old ≡ false }
+        ensures last { IfOk result (λ place. place ≡ length self.old) }
+        ensures added { OnOk result (self.new ≡ self.old ++ index ∷ []) }
+        ensures err { OnErr result (self.new ≡ self.old) }
+    {
         if self.others.is_empty() {
             if let Some(longer) = self.row.followed_by(index) {
                 let place = self.row.len();
@@ -78,12 +97,7 @@ impl IndexTable {
                 return Ok(place);
             }
         }
-        if self.position(index).is_some() {
-            return Err(AddFault::Duplicate);
-        }
-        let Ok(place) = self.others.add(index) else {
-            return Err(AddFault::NoMemory);
-        };
+        let place = self.others.add(index)?;
         Ok(self.row.len() + place)
     }
 

@@ -16,10 +16,12 @@ pub(crate) struct Scattered {
     indexes: Vec<u32>,
     // The position of each index.
     positions: BTreeMap<u32, u32>,
+    // The index that was added last, with its position: the next record often names it.
+    last: Option<(u32, u32)>,
 }
 
 impl Model for Scattered {
-    ghost use Rattle.std.specs.Prelude.{List, ℕ, ◌≡◌, nat_eq, position};
+    ghost use Rattle.std.specs.Prelude.{List, ℕ, ◌≡◌, Some, nat_eq, position};
     ghost use Rattle.std.specs.BTreeMap.{get};
     ghost use Rattle.std.specs.Ordering.{nat_cmp};
 
@@ -27,7 +29,8 @@ impl Model for Scattered {
 
     ghost view = { λ scattered. scattered.indexes.items };
 
-    ghost invariant = { λ scattered. (k : ℕ) → get nat_cmp scattered.positions k ≡ position (nat_eq k) scattered.indexes.items };
+    ghost invariant = { λ scattered. ((k : ℕ) → get nat_cmp scattered.positions k ≡ position (nat_eq k) scattered.indexes.items)
+        × ((k place : ℕ) → scattered.last ≡ Some (k, place) → position (nat_eq k) scattered.indexes.items ≡ Some place) };
 }
 
 // Written out so that each drop is one call: see "Drops" in docs/ARCHITECTURE.md.
@@ -36,6 +39,7 @@ impl Drop for Scattered {
         let Scattered {
             indexes: _,
             positions: _,
+            last: _,
         } = self;
     }
 }
@@ -48,6 +52,7 @@ impl Scattered {
         Scattered {
             indexes: Vec::new(alloc),
             positions: BTreeMap::new(alloc),
+            last: None,
         }
     }
 
@@ -70,7 +75,10 @@ impl Scattered {
         let place = self.indexes.len() as u32;
         self.indexes.push(index)?;
         match self.positions.insert(index, place) {
-            Ok(_) => Ok(place),
+            Ok(_) => {
+                self.last = Some((index, place));
+                Ok(place)
+            }
             Err(_) => {
                 self.indexes.pop();
                 Err(NoMemory)
@@ -82,6 +90,9 @@ impl Scattered {
     pub(crate) fn position(&self, index: u32) -> Option<u32>
         ensures { result ≡ position (nat_eq index) self.now }
     {
-        self.positions.get(&index).copied()
+        match self.last {
+            Some((last, place)) if last == index => Some(place),
+            _ => self.positions.get(&index).copied(),
+        }
     }
 }
