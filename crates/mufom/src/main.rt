@@ -12,7 +12,7 @@ use std::env;
 use std::io::ErrorKind;
 use std::process::ExitCode;
 
-/// The status where a word is not UTF-8, or there are too many: as for arguments that are not a command.
+/// The status if an argument is not UTF-8, or there are too many: as for arguments that are not a command.
 const BAD_WORDS: u8 = 2;
 
 /// The status if memory runs out for the arguments.

@@ -17,7 +17,7 @@ use crate::linking::outcome_of_locate;
 use crate::outcome::Outcome;
 use mufom_host::{Failed, Host};
 use mufom_image::Located;
-use mufom_make::{made, summary_text};
+use mufom_make::{locate_generated, summary_text};
 use mufom_words::Command;
 use std::alloc::Global;
 
@@ -31,7 +31,7 @@ pub(crate) fn generated(alloc: Global, count: u32) -> Result<Located, Outcome>
     ensures ok { IfOk result (λ r. located (made_plan count) (made_modules count) (gives r)) }
     ensures stops { IfErr result (EndsAt (located (made_plan count) (made_modules count))) }
 {
-    match made(alloc, count) {
+    match locate_generated(alloc, count) {
         Ok(located) => Ok(located),
         Err(refusal) => Err(outcome_of_locate(UNITS, refusal)),
     }

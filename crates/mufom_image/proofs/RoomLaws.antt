@@ -110,7 +110,7 @@ room-push commons asked room name e past =
 
 -- ---- what a reference resolves to and asks for
 
--- a reference that resolves to a common and has a positive size asks for room there
+-- a reference that resolves to a common and has a positive size requests space there
 room-asks : (o u : Option ℕ) (weak : Option Weak) (room : Room) → room_of (resolution_by o u weak) weak ≡ Some room
     → (o ≡ None) × (u ≡ Some room.common) × (common_size weak ≡ room.size) × (not (common_size weak == 0) ≡ true)
 room-asks (Some n) u None room e = absurd cc
@@ -211,7 +211,7 @@ module _ (m : Parts) where
     abbrev common_place : Option ℕ
     common_place = place_in (common_list m) r.name
 
-    -- a reference that asks for room is given it
+    -- a reference that requests space is given it
     room-given : (room : Room) → room_of (resolution_of m r) r.weak ≡ Some room → with_room (sections_for (asked_by before)) room r.name
         ≡ sections_for (asked_by (before ++ r ∷ []))
     room-given room given =

@@ -13,10 +13,10 @@ ghost use Rattle.mufom_image.specs.Refusals.{IsMet};
 ghost use Rattle.mufom_image.specs.Stages.{most_weight};
 
 use crate::entries::located_parts;
-use crate::names::judged;
+use crate::names::check_module;
 use crate::placing::{Placement, placed_sections, placing};
 use crate::refusal::LocateRefusal;
-use crate::walk::walked;
+use crate::walk::walk_module;
 use mufom_image_entries::ValuedModule;
 use mufom_image_values::{Graph, PlacedModule, Resolution, resolve_references};
 use mufom_located::Located;
@@ -61,13 +61,13 @@ fn located(
     absolute_weighs();
     let Placement { sections, bases } = placing(alloc, module, resolutions, plan)?;
     let placed = placed_module(module, resolutions, bases.as_slice());
-    let components = judged(alloc, module, &placed.graph, plan)?;
+    let components = check_module(alloc, module, &placed.graph, plan)?;
     let values = placed.public_values(alloc, &components)?;
     let valued = ValuedModule {
         placed: &placed,
         values: values.as_slice(),
     };
-    let runs = walked(alloc, &valued)?;
+    let runs = walk_module(alloc, &valued)?;
     let sections = placed_sections(sections, bases.as_slice());
     Ok(located_parts(alloc, &valued, sections, runs)?)
 }

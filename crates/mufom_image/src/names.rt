@@ -4,7 +4,7 @@ ghost use Rattle.std.specs.Prelude.{◌≡◌, ◌∷◌, [], None, IfErr, OnOk}
 ghost use Rattle.mufom_image_values.specs.Evaluated.{IsGraph};
 ghost use Rattle.mufom_image_values.specs.Resolutions.{resolutions_of};
 ghost use Rattle.mufom_image.specs.Refusals.{IsMet};
-ghost use Rattle.mufom_image.specs.Stages.{unresolved, roomless, circular, oversized, judged as judgment, IsJudged};
+ghost use Rattle.mufom_image.specs.Stages.{unresolved, roomless, circular, oversized, judged, IsJudged};
 
 use crate::commons::has_common;
 use crate::refusal::LocateRefusal;
@@ -84,7 +84,7 @@ fn check_limit(module: &Module) -> Result<(), LocateRefusal>
 /// Checks everything, apart from the placement, that can keep the module from being located before its
 /// expressions are evaluated. Returns the components of the publics, or the first error: an undefined
 /// reference, a common that no region takes, a public that leads back to itself, too many loaded bytes.
-pub(crate) fn judged(
+pub(crate) fn check_module(
     alloc: Global,
     module: &Module,
     graph: &Graph<'_>,
@@ -93,7 +93,7 @@ pub(crate) fn judged(
     requires parts { graph.now.parts.now ≡ «module».now }
     requires graph { IsGraph graph.now }
     ensures ok { OnOk result (IsJudged «module».now plan.now) }
-    ensures refused { IfErr result (IsMet (judgment «module».now plan.now)) }
+    ensures refused { IfErr result (IsMet (judged «module».now plan.now)) }
 {
     check_undefined(alloc, module, graph.resolutions)?;
     check_commons(alloc, module, graph.resolutions, plan)?;

@@ -67,7 +67,7 @@ fn runs_of(alloc: Global, valued: &ValuedModule<'_>) -> Result<List<Run>, Locate
     requires valued { IsValued valued.now }
     requires ready { IsReady (parts_of valued.now) (bases_of valued.now.placed.now) valued.now.placed.now.bases.now (valuation_of valued.now) }
     ensures passed { OnOk result (steps_fact (setting_of valued.now.placed.now) [] (steps (parts_of valued.now ∷ [])) ≡ None) }
-    ensures rows { IfOk result (AreRuns valued.now) }
+    ensures runs { IfOk result (AreRuns valued.now) }
     ensures refused { IfErr result (IsMet (steps_fact (setting_of valued.now.placed.now) [] (steps (parts_of valued.now ∷ [])))) }
 {
     let placed = valued.placed;
@@ -108,11 +108,14 @@ fn check_debug(alloc: Global, valued: &ValuedModule<'_>) -> Result<(), LocateRef
 
 /// Returns the runs of the bytes that the module loads, or the first error in its publics, its loads, its
 /// start and its debug expressions, in this order.
-pub(crate) fn walked(alloc: Global, valued: &ValuedModule<'_>) -> Result<List<Run>, LocateRefusal>
+pub(crate) fn walk_module(
+    alloc: Global,
+    valued: &ValuedModule<'_>,
+) -> Result<List<Run>, LocateRefusal>
     requires valued { IsValued valued.now }
     requires ready { MayBeWalked valued.now }
     ensures passed { OnOk result (walk_answer (parts_of valued.now ∷ []) (setting_of valued.now.placed.now) ≡ None) }
-    ensures rows { IfOk result (AreRuns valued.now) }
+    ensures runs { IfOk result (AreRuns valued.now) }
     ensures refused { IfErr result (IsMet (walk_answer (parts_of valued.now ∷ []) (setting_of valued.now.placed.now))) }
 {
     check_publics(alloc, valued)?;

@@ -16,7 +16,7 @@ use crate::chunk::Chunk;
 use crate::doubles::first_double;
 use crate::layout::Layout;
 use crate::loaded::Loaded;
-use crate::loads::walked;
+use crate::loads::walk_loads;
 use crate::refusal::ImageRefusal;
 use crate::rows::maximal_rows;
 use crate::stop::LoadStop;
@@ -104,7 +104,7 @@ pub fn image_of<V: Values>(
     ensures image { IfOk result (λ runs. IsImageOf layout.now (V.meaning values.now layout.now.width) loads.now runs) }
     ensures refusal { IfErr result (λ refusal. IsRefusalOf layout.now (V.meaning values.now layout.now.width) loads.now refusal) }
 {
-    let (walk, stop) = walked(alloc, layout, values, loads)?;
+    let (walk, stop) = walk_loads(alloc, layout, values, loads)?;
     let Walk {
         counters: _counters,
         loaded,

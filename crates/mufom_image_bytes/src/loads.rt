@@ -192,7 +192,7 @@ fn first_counters(alloc: Global, layout: &Layout<'_>) -> Result<Vec<u64>, NoMemo
 
 /// Walks the loads in order. Returns the state that was reached, and the error that stopped the walk, if one
 /// did.
-pub fn walked<V: Values>(
+pub fn walk_loads<V: Values>(
     alloc: Global,
     layout: &Layout<'_>,
     values: &V,

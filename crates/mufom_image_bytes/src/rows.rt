@@ -19,7 +19,7 @@ fn end_of(chunk: &Chunk) -> u128
 }
 
 // The number of chunks in the first run: the first chunk, and those that begin where the one before ends.
-fn row_count(chunks: &[Chunk]) -> usize
+fn run_length(chunks: &[Chunk]) -> usize
     ensures count { result ≡ first_row chunks.now }
     ensures within { result ≤ length chunks.now }
 {
@@ -58,7 +58,7 @@ fn joined(alloc: Global, chunks: &[Chunk], bytes: &[u8]) -> Result<Vec<u8>, NoMe
 
 // The bytes of a run of chunks. Those of a single chunk are copied directly, without allocating if they are
 // few.
-fn row_bytes(alloc: Global, chunks: &[Chunk], bytes: &[u8]) -> Result<Bytes, NoMemory>
+fn run_bytes(alloc: Global, chunks: &[Chunk], bytes: &[u8]) -> Result<Bytes, NoMemory>
     requires { All (IsAmong bytes.now) chunks.now }
     ensures { IfOk result (λ all. all ≡ bytes_of_chunks bytes.now chunks.now) }
 {
@@ -78,10 +78,10 @@ pub fn maximal_rows(alloc: Global, chunks: &[Chunk], bytes: &[u8]) -> Result<Lis
     let mut runs = List::new(alloc);
     let mut rest = chunks;
     while let [first, ..] = rest {
-        let (row, after) = rest.split_at(row_count(rest));
+        let (run_chunks, after) = rest.split_at(run_length(rest));
         runs.push(Run {
             address: first.address,
-            bytes: row_bytes(alloc, row, bytes)?,
+            bytes: run_bytes(alloc, run_chunks, bytes)?,
         })?;
         rest = after;
     }

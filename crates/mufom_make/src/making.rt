@@ -17,7 +17,7 @@ use std::alloc::Global;
 /// `count` is from 1 to [`MOST_MODULES`](mufom_numbers::limits::MOST_MODULES). Each module has one section of
 /// 16 addressable units with a public symbol in it. A module loads the address of the next module's public;
 /// the last one loads 0 instead. The modules of a pair are dropped as soon as they are linked.
-pub fn made(alloc: Global, count: u32) -> Result<Located, LocateRefusal>
+pub fn locate_generated(alloc: Global, count: u32) -> Result<Located, LocateRefusal>
     requires some { 1 ≤ count }
     requires few { count ≤ MOST_MODULES }
 

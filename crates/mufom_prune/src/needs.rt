@@ -167,7 +167,7 @@ pub(crate) fn needs(
 }
 
 // The sections that have a base.
-fn based(alloc: Global, sections: &[Section]) -> Result<List<u32>, NoMemory>
+fn sections_with_base(alloc: Global, sections: &[Section]) -> Result<List<u32>, NoMemory>
     requires { length sections.now < 2 ^ 32 }
     ensures { IfOk result (λ all. all ≡ based_from 0 sections.now) }
 {
@@ -202,7 +202,7 @@ pub(crate) fn roots(
     requires named { named parts.now keep.now ≡ Some entry }
     ensures { IfOk result (λ all. all ≡ roots parts.now keep.now) }
 {
-    let mut all = based(alloc, parts.sections.as_slice())?;
+    let mut all = sections_with_base(alloc, parts.sections.as_slice())?;
     all.push(entry)?;
     add_start(parts, &mut all)?;
     Ok(all)

@@ -52,7 +52,7 @@ fn gap_length(end: u128, run: &Run) -> u64
 }
 
 // The gap before a run, and its bytes.
-fn row<K: Output>(out: &mut K, fill: u8, end: u128, run: &Run) -> Result<(), Failed>
+fn put_run<K: Output>(out: &mut K, fill: u8, end: u128, run: &Run) -> Result<(), Failed>
     ensures { K.takes out.old out.new (replicate (run.now.address - end) fill ++ run.now.bytes) result }
 {
     gap(out, gap_length(end, run), fill)?;
@@ -60,13 +60,13 @@ fn row<K: Output>(out: &mut K, fill: u8, end: u128, run: &Run) -> Result<(), Fai
 }
 
 // All bytes of the image.
-fn rows<K: Output>(out: &mut K, fill: u8, runs: &[Run]) -> Result<(), Failed>
+fn put_runs<K: Output>(out: &mut K, fill: u8, runs: &[Run]) -> Result<(), Failed>
     ensures { K.takes out.old out.new (raw_image fill runs.now) result }
 {
     let mut end = first_address(runs);
     for place in 0..runs.len() {
         let run = &runs[place];
-        row(out, fill, end, run)?;
+        put_run(out, fill, end, run)?;
         end = run_end(run);
     }
     Ok(())
@@ -79,7 +79,7 @@ fn write_through<K: Sink>(held: &mut Held<K>, fill: u8, runs: &[Run]) -> Result<
     ensures writes { Writes (K.meaning held.old.sink.now) (K.meaning held.new.sink.now) (K.faults held.old.sink.now)
         (K.faults held.new.sink.now) (raw_image fill runs.now) result }
 {
-    rows(held, fill, runs)?;
+    put_runs(held, fill, runs)?;
     held.flush()
 }
 

@@ -164,7 +164,7 @@ module _ (s : Setting) (site : Sited) where
     by_value None own = omega arith
     by_value (Some n) own = omega (arith, own)
 
--- ---- references that ask for room
+-- ---- references that request space
 
 -- a weak reference of a size above 0 is an entry of its own, with its name
 abbrev pub asked_weight : Reference → ℕ

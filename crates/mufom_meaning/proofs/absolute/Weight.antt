@@ -75,7 +75,7 @@ module _ (ms : List Parts) (plan : Plan) where
   common-lighter : (name : List ℕ) → section_weight (common_section (commons ms) name) + 21 ≤ common_weight name
   common-lighter name = let size = sized (common_section (commons ms) name).size in omega (arith, size)
 
-  -- the references that ask for room
+  -- the references that request space
   abbrev pub asking : List Reference
   asking = filter is_common (flat_references ms)
 

@@ -21,8 +21,8 @@ placed_module-placed-requires c =
     let same : c.as_slice.result.now ≡ c.in_ok-sections.field-0.bases = c.as_slice.ensures in
     omega (arith, count, ap length same)
 
-pub judged-requires-clause-graph : goal.judged-requires-clause-graph
-judged-requires-clause-graph c =
+pub check_module-requires-clause-graph : goal.check_module-requires-clause-graph
+check_module-requires-clause-graph c =
     graph-placed _ _ _ _ c.placed_module-placed.ensures c.requires.names c.requires.met
 
 pub returns-in_err-components-clause-refused : goal.returns-in_err-components-clause-refused
@@ -37,14 +37,14 @@ public_values-requires c =
     let there = placed-there _ _ _ _ _ c.in_ok-sections.ensures.placed c.as_slice.ensures in
     placed-acyclic _ _ _ _ c.placed_module-placed.ensures c.requires.names _ _ there c.in_ok-components.ensures.ok c.requires.met
 
-pub walked-requires-clause-valued : goal.walked-requires-clause-valued
-walked-requires-clause-valued c =
+pub walk_module-requires-clause-valued : goal.walk_module-requires-clause-valued
+walk_module-requires-clause-valued c =
     let there = placed-there _ _ _ _ _ c.in_ok-sections.ensures.placed c.as_slice.ensures in
     valued-where-placed _ _ _ _ c.placed_module-placed.ensures c.requires.names _ _ there c.in_ok-components.ensures.ok c.requires.met
     (subst (AreValues c.placed_module-placed.result) (sym c.as_slice-2.ensures.value) c.in_ok-values.ensures)
 
-pub walked-requires-clause-ready : goal.walked-requires-clause-ready
-walked-requires-clause-ready c =
+pub walk_module-requires-clause-ready : goal.walk_module-requires-clause-ready
+walk_module-requires-clause-ready c =
     let there = placed-there _ _ _ _ _ c.in_ok-sections.ensures.placed c.as_slice.ensures in
     walked-where-placed _ _ _ _ c.placed_module-placed.ensures c.requires.names _ _ there c.in_ok-components.ensures.ok
     (valued-where-placed _ _ _ _ c.placed_module-placed.ensures c.requires.names _ _ there c.in_ok-components.ensures.ok c.requires.met
@@ -73,7 +73,7 @@ returns c =
     let valid : IsValid c.args.module.now = subst IsValid c.placed_module-placed.ensures.parts c.placed_module-placed.ensures.valid in
     let is : IsLocation (c.args.module.now ∷ []) c.args.plan.now c.in_ok-located_parts.field-0
     = located-where-placed _ _ _ _ _ _ _ c.in_ok-located_parts.ensures c.placed_module-placed.ensures c.requires.names _ _ there own
-    c.in_ok-components.ensures.ok c.in_ok-runs.ensures.passed c.in_ok-runs.ensures.rows in
+    c.in_ok-components.ensures.ok c.in_ok-runs.ensures.passed c.in_ok-runs.ensures.runs in
     record {
       sound = record { source = c.args.module.now; plan = c.args.plan.now; valid = valid; is = is };
       located = is;

@@ -6,8 +6,8 @@ use Rattle.mufom_image.proofs.walk.runs_of.Goals as goal
 pub returns-in-Ok-clause-passed : goal.returns-in-Ok-clause-passed
 returns-in-Ok-clause-passed c = (c.in-Ok.ensures.image (bases_of c.args.valued.now.placed.now) c.requires.ready).0
 
-pub returns-in-Ok-clause-rows : goal.returns-in-Ok-clause-rows
-returns-in-Ok-clause-rows c = (c.in-Ok.ensures.image (bases_of c.args.valued.now.placed.now) c.requires.ready).1
+pub returns-in-Ok-clause-runs : goal.returns-in-Ok-clause-runs
+returns-in-Ok-clause-runs c = (c.in-Ok.ensures.image (bases_of c.args.valued.now.placed.now) c.requires.ready).1
 
 pub returns-in-Err-Stopped-clause-refused : goal.returns-in-Err-Stopped-clause-refused
 returns-in-Err-Stopped-clause-refused c =

@@ -10,5 +10,5 @@ loop-rest-preserved c =
     (next_row c.args.bytes.now c.args.chunks.now rest c.split_at.result.1.now c.loop-rest.runs _ (record { address = 0; start = 0; count = 0 })
     c.loop-rest.invariant
     (omega arith) refl
-    (c.in_ok-row_bytes.ensures ∙ ap (bytes_of_chunks c.args.bytes.now) (c.split_at.ensures.front ∙ ap (λ n. take n rest) c.row_count.ensures.count))
-    (c.split_at.ensures.back ∙ ap (λ n. drop n rest) c.row_count.ensures.count))
+    (c.in_ok-run_bytes.ensures ∙ ap (bytes_of_chunks c.args.bytes.now) (c.split_at.ensures.front ∙ ap (λ n. take n rest) c.run_length.ensures.count))
+    (c.split_at.ensures.back ∙ ap (λ n. drop n rest) c.run_length.ensures.count))

@@ -2,4 +2,4 @@ use Rattle.mufom_write.specs.HoldingChains.{Holds-through}
 use Rattle.mufom_write.proofs.raw.write_through.Goals as goal
 
 pub returns-clause-writes : goal.returns-clause-writes
-returns-clause-writes g c = Holds-through _ _ _ _ _ _ _ _ _ _ _ c.requires c.in_ok-rows.ensures.1 c.flush.ensures.holds c.flush.ensures.empty
+returns-clause-writes g c = Holds-through _ _ _ _ _ _ _ _ _ _ _ c.requires c.in_ok-put_runs.ensures.1 c.flush.ensures.holds c.flush.ensures.empty

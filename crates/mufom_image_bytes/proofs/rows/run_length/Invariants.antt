@@ -1,6 +1,6 @@
 use Rattle.std.proofs.Common.{◌≡◌, ◌+◌, ◌<◌, drop}
 use Rattle.mufom_image_bytes.specs.Spread.{neighbours, first_row}
-use Rattle.mufom_image_bytes.proofs.rows.row_count.Given as goal
+use Rattle.mufom_image_bytes.proofs.rows.run_length.Given as goal
 
 abbrev pub invariant-loop-chunk : goal.invariant-loop-chunk
 invariant-loop-chunk l = record {

@@ -2,7 +2,7 @@ use Rattle.std.proofs.Common.{sym, subst}
 use Rattle.mufom_image.specs.Placements.{IsSoundPlan}
 use Rattle.mufom_make.proofs.LinkLaws.{link-distinct}
 use Rattle.mufom_make.proofs.PlanLaws.{location-of-all, refusal-of-all, sound-plan}
-use Rattle.mufom_make.proofs.making.made.Goals as goal
+use Rattle.mufom_make.proofs.making.locate_generated.Goals as goal
 
 pub locate-requires-clause-names : goal.locate-requires-clause-names
 locate-requires-clause-names c = link-distinct c.args.count c.in_ok-module.module c.requires.few c.in_ok-module.ensures

@@ -2,7 +2,7 @@ use Rattle.std.proofs.Common.{◌≡◌, None, drop}
 use Rattle.mufom_image_bytes.specs.Loaded.{IsTiled}
 use Rattle.mufom_image_bytes.specs.Outcomes.{loads_outcome, progress_at_first}
 use Rattle.mufom_image_bytes.specs.Walks.{progress_of, first_counters}
-use Rattle.mufom_image_bytes.proofs.loads.walked.Given as goal
+use Rattle.mufom_image_bytes.proofs.loads.walk_loads.Given as goal
 
 abbrev pub invariant-loop-load : goal.invariant-loop-load
 invariant-loop-load g l = let valuation = g.V.Values.meaning l.values l.layout.width in record {
