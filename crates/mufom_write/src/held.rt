@@ -9,8 +9,11 @@ use crate::output::Output;
 use mufom_host::{Block, Failed, Sink, write_all};
 use mufom_numbers::number_spelling;
 
-/// A buffer in front of a sink: it holds some bytes, and writes them once there is no room for more
-/// or the next record begins.
+// The number of bytes from which the records that are held are written when the next record begins.
+const GROUP: usize = 64;
+
+/// A buffer in front of a sink: it holds some bytes, and writes them once there is no room for more, or
+/// once a record begins and there are at least 64.
 #[derive(Drop)]
 pub(crate) struct Held<'a, K: Sink> {
     sink: &'a mut K,
@@ -110,6 +113,9 @@ impl<'a, K: Sink> Output for Held<'a, K> {
     }
 
     fn record(&mut self, command: &[u8]) -> Result<(), Failed> {
+        if self.block.as_slice().len() < GROUP {
+            return self.add(command);
+        }
         self.turn(command)
     }
 

@@ -18,8 +18,8 @@ pub(crate) trait Output {
     fn put(&mut self, bytes: &[u8]) -> Result<(), Failed>
         ensures { takes self.old self.new bytes.now result };
 
-    /// Begins a record with the bytes of its command, as [`put`](Output::put) adds them. The bytes of earlier
-    /// records are passed on first, so that records arrive one by one.
+    /// Begins a record with the bytes of its command, as [`put`](Output::put) adds them. An output that
+    /// holds bytes may pass those of earlier records on first, so that whole records arrive together.
     fn record(&mut self, command: &[u8]) -> Result<(), Failed>
         ensures { takes self.old self.new command.now result };
 

@@ -61,8 +61,8 @@ fn write_held<K: Sink>(sink: &mut K, parts: &Parts) -> Result<(), Failed>
 
 /// Writes the written form of the module to the file being made. Does not allocate.
 ///
-/// The sink gets each record in a write of its own, or in several if the record is longer than 65,536
-/// bytes. The contract does not state this.
+/// The sink gets whole records, at least 64 bytes in each write but the last. A record that is longer than
+/// 65,536 bytes takes several writes. The contract does not state this.
 ///
 /// If the written form is no longer than a file may be, it is a file of this module. `Fault` is returned
 /// only if a write failed and the count of failed writes rose; a prefix of the written form may then be
