@@ -67,7 +67,7 @@ fn expect_listing(rt: &impl Abort, alloc: Global, text: &str, listing: &str) -> 
     assert!(rt; text.len() < 4096);
     let module = build(alloc, text.as_bytes())?;
     let printed = text_bytes(alloc, TextForm::Listing, &module)?;
-    assert_eq!(rt; printed.as_slice(), listing.as_bytes());
+    assert_eq!(rt; printed.as_slice(), listing.as_bytes(), "{text}");
     Ok(())
 }
 

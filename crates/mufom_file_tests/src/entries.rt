@@ -31,7 +31,7 @@ pub(crate) fn bytes(rt: &impl Abort, alloc: Global, text: &[u8]) -> Bytes {
 }
 
 /// The module of these parts.
-pub(crate) fn made(rt: &impl Abort, parts: Parts) -> Module {
+pub(crate) fn module_of(rt: &impl Abort, parts: Parts) -> Module {
     assemble(parts).ok().expect(rt, "a module")
 }
 

@@ -1,7 +1,7 @@
 //! The small module with its weight, with each defect but too great a weight, and with many publics.
 
 use crate::entries::{
-    SectionRow, block, bytes, constant, expression, field, list, made, note, public, section,
+    SectionRow, block, bytes, constant, expression, field, list, module_of, note, public, section,
     sections, with,
 };
 use crate::small::{CODE, small};
@@ -37,7 +37,7 @@ fn load_count(parts: Parts) -> usize {
 
 #[test]
 fn a_module_has_its_parts_and_weight(rt: HostRuntime) {
-    let module = made(&rt, small(&rt, rt.alloc()));
+    let module = module_of(&rt, small(&rt, rt.alloc()));
     assert_eq!(rt; module.weight(), 298);
     assert_eq!(rt; module.parts().name.as_slice(), &b"A"[..]);
     assert_eq!(rt; load_count(module.into_parts()), 3);
@@ -227,7 +227,7 @@ fn twenty_thousand_publics_name_one_another(rt: HostRuntime) {
     let alloc = rt.alloc();
     let mut parts = small(&rt, alloc);
     parts.names.publics = publics(&rt, alloc, 20_000);
-    let module = made(&rt, parts);
+    let module = module_of(&rt, parts);
     // Each weighs 24, the four bytes of its name, and ten for its variable.
     assert_eq!(rt; module.weight(), 298 + 20_000 * 38);
 }

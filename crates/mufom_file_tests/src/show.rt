@@ -29,6 +29,6 @@ fn shows(rt: &impl Abort, alloc: Global, module: &Module, text: &[u8]) {
 fn stops(rt: &impl Abort, alloc: Global, module: &Module, call: u64, text: &[u8]) {
     let mut host = host(rt, alloc, list(rt, alloc, call));
     let outcome = print_module(alloc, &mut host, module);
-    assert_eq!(rt; outcome, Err(PrintStop::Fault));
-    assert_eq!(rt; host.out(), text);
+    assert_eq!(rt; outcome, Err(PrintStop::Fault), "call {call}");
+    assert_eq!(rt; host.out(), text, "call {call}");
 }

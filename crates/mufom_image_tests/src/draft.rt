@@ -173,7 +173,7 @@ pub(crate) fn refuses(rt: &impl Abort, alloc: Global, draft: Draft, plan: &str, 
         Ok(_) => panic!(rt; "located, and not {refusal}"),
         Err(found) => {
             let text = format!(in alloc; "{found:?}").expect(rt, "memory");
-            assert_eq!(rt; text.as_str(), refusal);
+            assert_eq!(rt; text.as_str(), refusal, "{refusal}");
         }
     }
 }
@@ -194,9 +194,9 @@ pub(crate) fn loads(
 ) {
     let located = locates(rt, alloc, draft, plan);
     let runs = located.parts().runs.as_slice();
-    assert_eq!(rt; runs.len(), 1);
-    assert_eq!(rt; runs[0].address, address);
-    assert_eq!(rt; runs[0].bytes.as_slice(), bytes);
+    assert_eq!(rt; runs.len(), 1, "at {address}");
+    assert_eq!(rt; runs[0].address, address, "at {address}");
+    assert_eq!(rt; runs[0].bytes.as_slice(), bytes, "at {address}");
 }
 
 /// The draft is located by the plan without regions, and the public at a position has this value.

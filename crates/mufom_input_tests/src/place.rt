@@ -100,7 +100,7 @@ fn comes_to(rt: &impl Abort, alloc: Global, case: &Case) {
         Ok(bases) => format!(in alloc; "{:?}", bases.as_slice()).expect(rt, "memory"),
         Err(refusal) => format!(in alloc; "{refusal:?}").expect(rt, "memory"),
     };
-    assert_eq!(rt; text.as_str(), *want);
+    assert_eq!(rt; text.as_str(), *want, "{want}");
 }
 
 // Sections that have bases.

@@ -92,7 +92,7 @@ fn push_number(
 
 // A command in words: its verb, what its options give, and its files. What it would be without an option is
 // left out, so a row has no word on options that its line has not.
-fn told(rt: &impl Abort, alloc: Global, command: &Command) -> String {
+fn command_text(rt: &impl Abort, alloc: Global, command: &Command) -> String {
     let verb = command.verb;
     let mut text = format!(in alloc; "{verb:?}").expect(rt, "memory");
     if command.no_debug {
@@ -115,7 +115,7 @@ fn told(rt: &impl Abort, alloc: Global, command: &Command) -> String {
 fn answer(rt: &impl Abort, alloc: Global, words: &[String]) -> String {
     assert!(rt; words.len() < 1 << 32);
     match read_words(alloc, words) {
-        Ok(command) => told(rt, alloc, &command),
+        Ok(command) => command_text(rt, alloc, &command),
         Err(stop) => format!(in alloc; "{stop:?}").expect(rt, "memory"),
     }
 }

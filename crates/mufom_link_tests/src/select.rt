@@ -8,7 +8,7 @@ use std::alloc::Global;
 use std::process::Abort;
 
 // The names that a module defines, those that it needs and those to which it refers weakly, each a byte below 128.
-type Row<'a> = [&'a [u8]; 3];
+type Names<'a> = [&'a [u8]; 3];
 
 // Adds records.
 fn add(rt: &impl Abort, external: &mut Vec<u8>, records: &[u8]) {
@@ -36,10 +36,10 @@ fn add_weak(rt: &impl Abort, external: &mut Vec<u8>, names: &[u8]) {
     }
 }
 
-// The module of this row.
-fn made(rt: &impl Abort, alloc: Global, row: &Row<'_>) -> Module {
+// The module of these names.
+fn module_with(rt: &impl Abort, alloc: Global, names: &Names<'_>) -> Module {
     let mut external = Vec::new(alloc);
-    let [defines, needs, wants] = row;
+    let [defines, needs, wants] = names;
     add_publics(rt, &mut external, defines);
     add_references(rt, &mut external, needs);
     add_weak(rt, &mut external, wants);
@@ -56,29 +56,35 @@ fn made(rt: &impl Abort, alloc: Global, row: &Row<'_>) -> Module {
     module(rt, alloc, &records)
 }
 
-// The modules of these rows.
-fn all_made(rt: &impl Abort, alloc: Global, rows: &[Row<'_>]) -> Vec<Module> {
+// The modules of these names.
+fn modules_with(rt: &impl Abort, alloc: Global, all_names: &[Names<'_>]) -> Vec<Module> {
     let mut all = Vec::new(alloc);
-    for row in rows {
-        all.push(made(rt, alloc, row)).expect(rt, "memory");
+    for names in all_names {
+        all.push(module_with(rt, alloc, names)).expect(rt, "memory");
     }
     all
 }
 
 // Of these members the ones at the wanted positions are selected for the roots.
-fn selects(rt: &impl Abort, alloc: Global, roots: &Row<'_>, members: &[Row<'_>], wanted: &[u32]) {
-    let roots = made(rt, alloc, roots);
-    let all = all_made(rt, alloc, members);
+fn selects(
+    rt: &impl Abort,
+    alloc: Global,
+    roots: &Names<'_>,
+    members: &[Names<'_>],
+    wanted: &[u32],
+) {
+    let roots = module_with(rt, alloc, roots);
+    let all = modules_with(rt, alloc, members);
     assert!(rt; all.len() < 1 << 32);
     let chosen = select(alloc, &roots, &all).expect(rt, "memory");
     assert_eq!(rt; chosen.as_slice(), wanted);
 }
 
-const NEEDS_F: Row<'static> = [b"", b"f", b""];
+const NEEDS_F: Names<'static> = [b"", b"f", b""];
 
-const FIRST_AND_SECOND: [Row<'static>; 2] = [[b"f", b"g", b""], [b"fg", b"", b""]];
+const FIRST_AND_SECOND: [Names<'static>; 2] = [[b"f", b"g", b""], [b"fg", b"", b""]];
 
-const SECOND_ALONE: [Row<'static>; 2] = [[b"h", b"", b""], [b"fg", b"", b""]];
+const SECOND_ALONE: [Names<'static>; 2] = [[b"h", b"", b""], [b"fg", b"", b""]];
 
 #[test]
 fn members_are_selected_for_members(rt: HostRuntime) {
@@ -86,9 +92,9 @@ fn members_are_selected_for_members(rt: HostRuntime) {
     selects(&rt, rt.alloc(), &NEEDS_F, &SECOND_ALONE, &[1]);
 }
 
-const DEFINES_A: Row<'static> = [b"a", b"ab", b"c"];
+const DEFINES_A: Names<'static> = [b"a", b"ab", b"c"];
 
-const MEMBERS: [Row<'static>; 4] = [
+const MEMBERS: [Names<'static>; 4] = [
     [b"a", b"", b""],
     [b"c", b"", b""],
     [b"d", b"e", b""],
@@ -100,9 +106,9 @@ fn weak_and_defined_names_select_nothing(rt: HostRuntime) {
     selects(&rt, rt.alloc(), &DEFINES_A, &MEMBERS, &[2, 3]);
 }
 
-const NEEDS_B: Row<'static> = [b"", b"b", b""];
+const NEEDS_B: Names<'static> = [b"", b"b", b""];
 
-const CIRCLE: [Row<'static>; 3] = [[b"a", b"b", b""], [b"b", b"c", b""], [b"c", b"a", b""]];
+const CIRCLE: [Names<'static>; 3] = [[b"a", b"b", b""], [b"b", b"c", b""], [b"c", b"a", b""]];
 
 #[test]
 fn a_circle_is_selected_whole(rt: HostRuntime) {
@@ -120,7 +126,7 @@ fn numbers(rt: &impl Abort, alloc: Global, last: u8) -> Vec<u8> {
 }
 
 // Members of which each defines a name and needs the one before it.
-fn chain<'a>(rt: &impl Abort, alloc: Global, names: &'a [u8]) -> Vec<Row<'a>> {
+fn chain<'a>(rt: &impl Abort, alloc: Global, names: &'a [u8]) -> Vec<Names<'a>> {
     let mut members = Vec::new(alloc);
     for pair in names.windows(2) {
         let (needs, defines) = pair.split_at(1);

@@ -47,7 +47,7 @@ fn bytes(rt: &impl Abort, alloc: Global, text: &[u8]) -> Bytes {
     Bytes::from_slice(alloc, text).expect(rt, "memory")
 }
 
-// A reference that asks for room if its size is above 0, and is strong if it has no size.
+// A reference that requests space if its size is above 0, and is strong if it has no size.
 fn reference(rt: &impl Abort, alloc: Global, name: &[u8], size: Option<u64>) -> Reference {
     let weak = match size {
         Some(size) => Some(Weak { size, default: 0 }),

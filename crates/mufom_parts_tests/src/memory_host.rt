@@ -33,7 +33,7 @@ struct Known {
 /// A test of a host with the files `a` and `b`: the numbers of its calls that fail, and its room in bytes; the calls,
 /// each with the number of bytes that it takes or gives (0 for calls that return no number, `None` for those that
 /// fail); and the state after them.
-struct Run {
+struct Script {
     fail_reads: &'static [u64],
     fail_writes: &'static [u64],
     room: usize,
@@ -93,21 +93,21 @@ fn add_file(
 }
 
 // A host with the files `a` and `b`.
-fn host(rt: &impl Abort, alloc: Global, run: &Run) -> MemHost {
+fn host(rt: &impl Abort, alloc: Global, script: &Script) -> MemHost {
     let mut files = List::new(alloc);
     add_file(rt, alloc, &mut files, "a", "hello");
     add_file(rt, alloc, &mut files, "b", "xyz");
-    let fail_reads = numbers(rt, alloc, run.fail_reads);
-    let fail_writes = numbers(rt, alloc, run.fail_writes);
-    MemHost::new(alloc, files, fail_reads, fail_writes, run.room).expect(rt, "memory")
+    let fail_reads = numbers(rt, alloc, script.fail_reads);
+    let fail_writes = numbers(rt, alloc, script.fail_writes);
+    MemHost::new(alloc, files, fail_reads, fail_writes, script.room).expect(rt, "memory")
 }
 
-fn do_all(rt: &impl Abort, alloc: Global, run: &Run) {
-    let mut host = host(rt, alloc, run);
-    for (call, want) in run.calls {
+fn do_all(rt: &impl Abort, alloc: Global, script: &Script) {
+    let mut host = host(rt, alloc, script);
+    for (call, want) in script.calls {
         assert!(rt; taken(&mut host, *call) == *want, "{call:?}");
     }
-    assert!(rt; reveals(&host, &run.after));
+    assert!(rt; reveals(&host, &script.after), "after the calls");
 }
 
 // The room, in bytes, of the hosts that have enough of it.
@@ -121,7 +121,7 @@ const FRESH: Known = Known {
     err: "",
 };
 
-const READING: Run = Run {
+const READING: Script = Script {
     fail_reads: &[],
     fail_writes: &[],
     room: ROOM,
@@ -142,7 +142,7 @@ fn files_are_opened_and_read_in_chunks(rt: HostRuntime) {
     do_all(&rt, rt.alloc(), &READING);
 }
 
-const WRITING: Run = Run {
+const WRITING: Script = Script {
     fail_reads: &[],
     fail_writes: &[],
     room: ROOM,
@@ -164,7 +164,7 @@ fn a_file_is_written_in_chunks(rt: HostRuntime) {
     do_all(&rt, rt.alloc(), &WRITING);
 }
 
-const FINISHING: Run = Run {
+const FINISHING: Script = Script {
     fail_reads: &[],
     fail_writes: &[],
     room: ROOM,
@@ -190,7 +190,7 @@ fn a_file_is_made_and_texts_are_printed(rt: HostRuntime) {
 }
 
 // The last call fails, since there is no file `c`.
-const FAILING_READS: Run = Run {
+const FAILING_READS: Script = Script {
     fail_reads: &[1, 3],
     fail_writes: &[],
     room: ROOM,
@@ -211,7 +211,7 @@ fn reads_and_opens_fail_by_their_numbers(rt: HostRuntime) {
 }
 
 // The last call fails, since a file is finished already.
-const FAILING_WRITES: Run = Run {
+const FAILING_WRITES: Script = Script {
     fail_reads: &[],
     fail_writes: &[0, 2, 4, 6, 8],
     room: ROOM,
@@ -239,7 +239,7 @@ fn other_calls_fail_by_their_numbers(rt: HostRuntime) {
     do_all(&rt, rt.alloc(), &FAILING_WRITES);
 }
 
-const SHORT_OF_BYTES: Run = Run {
+const SHORT_OF_BYTES: Script = Script {
     fail_reads: &[],
     fail_writes: &[],
     room: 20,
@@ -267,7 +267,7 @@ fn bytes_that_pass_the_room_are_refused(rt: HostRuntime) {
 
 // Each name takes 8 bytes more than its length. Opened names that take 18 bytes fit, and so does a created one that
 // takes 20; with 27 and 28 bytes a call fails, and so does each later one of its kind.
-const SHORT_OF_NAMES: Run = Run {
+const SHORT_OF_NAMES: Script = Script {
     fail_reads: &[],
     fail_writes: &[],
     room: 20,

@@ -5,7 +5,7 @@ use mufom_loads::{Item, Load};
 use mufom_module::{Module, Order, Parts, assemble};
 use mufom_names::{Public, Reference};
 use mufom_numbers::{Bytes, List};
-use mufom_prune::{PruneRefusal, prune};
+use mufom_prune::{PruneRefusal, prune, prune_with_marks};
 use mufom_sections::Section;
 use std::alloc::Global;
 use std::process::Abort;
@@ -50,7 +50,7 @@ fn add_load(rt: &impl Abort, parts: &mut Parts, load: Load) {
 
 // The sections `a`, `b` and `c`, the publics `main` in the first and `u` in the second, and the
 // reference `q`. The first section holds the address of the third one, the second one that of `q`.
-fn program(rt: &impl Abort, alloc: Global) -> Module {
+fn program_parts(rt: &impl Abort, alloc: Global) -> Parts {
     let mut parts = Parts::new(alloc, 4, Order::Most);
     add_section(rt, alloc, &mut parts, b"a");
     add_section(rt, alloc, &mut parts, b"b");
@@ -70,22 +70,30 @@ fn program(rt: &impl Abort, alloc: Global) -> Module {
     add_load(rt, &mut parts, Load::SetSection(2));
     let bytes = text(rt, alloc, &[1, 2, 3, 4]);
     add_load(rt, &mut parts, Load::One(Item::Literal(bytes)));
+    parts
+}
+
+fn module_of(rt: &impl Abort, parts: Parts) -> Module {
     match assemble(parts) {
         Ok(module) => module,
         Err(_) => panic!(rt; "a module without a defect"),
     }
 }
 
+fn program(rt: &impl Abort, alloc: Global) -> Module {
+    module_of(rt, program_parts(rt, alloc))
+}
+
 fn has_section(rt: &impl Abort, parts: &Parts, place: usize, name: &[u8]) {
     match parts.sections.get(place) {
-        Some(section) => assert_eq!(rt; section.name.as_slice(), name),
+        Some(section) => assert_eq!(rt; section.name.as_slice(), name, "{place}"),
         None => panic!(rt; "a section"),
     }
 }
 
 fn has_public(rt: &impl Abort, parts: &Parts, place: usize, name: &[u8]) {
     match parts.names.publics.get(place) {
-        Some(public) => assert_eq!(rt; public.name.as_slice(), name),
+        Some(public) => assert_eq!(rt; public.name.as_slice(), name, "{place}"),
         None => panic!(rt; "a public"),
     }
 }
@@ -94,7 +102,10 @@ fn has_public(rt: &impl Abort, parts: &Parts, place: usize, name: &[u8]) {
 fn has_field(rt: &impl Abort, parts: &Parts, place: usize, section: u32) {
     let base = Postfix::single(Token::Var(Letter::R, section));
     match parts.loads.get(place) {
-        Some(Load::One(Item::Field { value, .. })) => assert!(rt; value.equals(&base)),
+        Some(Load::One(Item::Field { value, .. })) => assert!(rt;
+            value.equals(&base),
+            "load {place}"
+        ),
         _ => panic!(rt; "a field"),
     }
 }
@@ -106,13 +117,13 @@ fn what_main_does_not_need_is_gone(rt: HostRuntime) {
     match prune(alloc, &module, b"main") {
         Ok(rest) => {
             let parts = rest.parts();
-            assert_eq!(rt; parts.sections.len(), 2);
+            assert_eq!(rt; parts.sections.len(), 2, "sections");
             has_section(&rt, parts, 0, b"a");
             has_section(&rt, parts, 1, b"c");
-            assert_eq!(rt; parts.names.publics.len(), 1);
+            assert_eq!(rt; parts.names.publics.len(), 1, "publics");
             has_public(&rt, parts, 0, b"main");
-            assert_eq!(rt; parts.names.references.len(), 0);
-            assert_eq!(rt; parts.loads.len(), 4);
+            assert_eq!(rt; parts.names.references.len(), 0, "references");
+            assert_eq!(rt; parts.loads.len(), 4, "loads");
             // The section `c` is now the second one.
             has_field(&rt, parts, 1, 1);
         }
@@ -127,5 +138,52 @@ fn a_name_that_no_public_has_is_unknown(rt: HostRuntime) {
     match prune(alloc, &module, b"z") {
         Err(PruneRefusal::Unknown(name)) => assert_eq!(rt; name.as_slice(), b"z".as_slice()),
         _ => panic!(rt; "an unknown name"),
+    }
+}
+
+#[test]
+fn what_the_start_mentions_is_kept(rt: HostRuntime) {
+    let alloc = rt.alloc();
+    let mut parts = program_parts(&rt, alloc);
+    parts.start = Some(Postfix::single(Token::Var(Letter::R, 1)));
+    match prune(alloc, &module_of(&rt, parts), b"main") {
+        Ok(rest) => {
+            let parts = rest.parts();
+            assert_eq!(rt; parts.sections.len(), 3, "sections");
+            // The section of `u` is kept, with the reference in its loads, but not `u`.
+            assert_eq!(rt; parts.names.publics.len(), 1, "publics");
+            assert_eq!(rt; parts.names.references.len(), 1, "references");
+            assert_eq!(rt; parts.loads.len(), 6, "loads");
+            assert!(rt; parts.start.is_some(), "the start");
+        }
+        Err(_) => panic!(rt; "a known name"),
+    }
+}
+
+#[test]
+fn a_section_with_a_base_is_kept_and_marked(rt: HostRuntime) {
+    let alloc = rt.alloc();
+    let mut parts = program_parts(&rt, alloc);
+    let section = Section {
+        name: text(&rt, alloc, b"d"),
+        absolute: true,
+        purpose: None,
+        size: 4,
+        align: 1,
+        base: Some(4096),
+    };
+    parts.sections.push(section).expect(&rt, "memory");
+    match prune_with_marks(alloc, &module_of(&rt, parts), b"main") {
+        Ok(left) => {
+            has_section(&rt, left.module.parts(), 2, b"d");
+            let sections = [true, false, true, true];
+            assert_eq!(rt; left.sections.as_slice(), sections.as_slice(), "sections");
+            assert_eq!(rt;
+                left.publics.as_slice(),
+                [true, false].as_slice(),
+                "publics"
+            );
+        }
+        Err(_) => panic!(rt; "a known name"),
     }
 }

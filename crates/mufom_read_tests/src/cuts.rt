@@ -1,13 +1,13 @@
 //! Long streams, read byte by byte.
 
-use crate::tests::{PLAIN, add, copied, read, set, text_of};
+use crate::streams::{PLAIN, add, copy_of, read, set, text_of};
 use std::alloc::Global;
 use std::process::Abort;
 
 // The plain module without a start address and with `count` loads, each of which sets the current section. `end` is the
 // offset of ME, as three bytes.
 fn with_loads(rt: &impl Abort, alloc: Global, count: u32, end: [u8; 3]) -> Vec<u8> {
-    let mut stream = copied(rt, alloc, &PLAIN[..100]);
+    let mut stream = copy_of(rt, alloc, &PLAIN[..100]);
     set(&mut stream, 68, 0);
     set(&mut stream, 74, end[0]);
     set(&mut stream, 75, end[1]);

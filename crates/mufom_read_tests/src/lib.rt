@@ -10,4 +10,4 @@ mod real;
 #[cfg(test)]
 mod records;
 #[cfg(test)]
-mod tests;
+mod streams;

@@ -6,7 +6,7 @@
 
 ghost use Rattle.std.specs.Prelude.{◌<◌};
 
-use crate::tests::{comes_to, read, refused};
+use crate::streams::{comes_to, read, refused};
 use mufom_module::Module;
 use mufom_numbers::Reason;
 use std::alloc::Global;
@@ -258,8 +258,16 @@ fn figures_of(alloc: Global, stream: &[u8], size: usize, reads_debug: bool) -> O
 
 // Asserts that the file, read whole and byte by byte, is a module with these figures.
 fn has_figures(rt: &impl Abort, alloc: Global, file: &[u8], reads_debug: bool, wanted: Figures) {
-    assert_eq!(rt; figures_of(alloc, file, 65_536, reads_debug), Some(wanted));
-    assert_eq!(rt; figures_of(alloc, file, 1, reads_debug), Some(wanted));
+    assert_eq!(rt;
+        figures_of(alloc, file, 65_536, reads_debug),
+        Some(wanted),
+        "read whole"
+    );
+    assert_eq!(rt;
+        figures_of(alloc, file, 1, reads_debug),
+        Some(wanted),
+        "read byte by byte"
+    );
 }
 
 fn counted(sections: usize, publics: usize, references: usize, loads: usize) -> Figures {

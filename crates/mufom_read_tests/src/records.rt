@@ -277,7 +277,7 @@ fn is_read_whole(rt: &impl Abort, alloc: Global, mode: Mode, bytes: &[u8], want:
     let Taken::Got(text, length) = beginning(rt, alloc, mode, bytes) else {
         panic!(rt; "{want}");
     };
-    assert_eq!(rt; text.as_str(), want);
+    assert_eq!(rt; text.as_str(), want, "{want}");
     assert_eq!(rt; length, bytes.len().saturating_sub(1), "{want}");
 }
 
@@ -398,8 +398,8 @@ fn is_named(rt: &impl Abort, alloc: Global, row: &Fault<'_>) {
         Taken::Bad {
             offset,
             reason: why,
-        } => assert_eq!(rt; (offset, why), (*at, *reason)),
-        _ => panic!(rt; "no fault at {at}"),
+        } => assert_eq!(rt; (offset, why), (*at, *reason), "{bytes:?}"),
+        _ => panic!(rt; "no fault in {bytes:?}"),
     }
 }
 

@@ -1,4 +1,4 @@
-//! Room that weak references ask for, over several files.
+//! Space that weak references request, over several files.
 
 use crate::drafts::{REFERENCE, SECTION};
 use crate::runs::{Case, File, Held, all_come_to};
@@ -18,7 +18,7 @@ const NO_TRUTH: &[u8] =
 /// Both fields have the address after the sections.
 const ROOM: &str = "00000100: 00 00 01 08 00 00 01 08\n";
 
-/// Modules that ask 4 and 6 bytes for `c`, one that defines it, one with a strong reference to it, and
+/// Modules that request 4 and 6 bytes for `c`, one that defines it, one with a strong reference to it, and
 /// plans.
 const FILES: &[File] = &[
     (
@@ -99,7 +99,7 @@ static RUNS: [Case; 8] = [
     },
 ];
 
-/// Modules that ask for 6 bytes of `c`, for 4 of `d`, and for 4 of `c`, and a plan.
+/// Modules that request 6 bytes of `c`, 4 of `d`, and 4 of `c`, and a plan.
 const TWO_NAMES: &[File] = &[
     (
         "x",

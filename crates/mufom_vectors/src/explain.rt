@@ -5,7 +5,7 @@ use crate::check::many;
 use crate::drafts::{REFERENCE, Records, SECTION, named_module};
 use crate::files::{ABSOLUTE, failing_host, host, numbers, words};
 use crate::locate::PAGE;
-use crate::runs::{Case, File, Held, all_come_to, explains};
+use crate::runs::{Case, File, Held, all_come_to, explains, status_of};
 use crate::usage::deep;
 use mufom_command::run;
 use mufom_help::commands::command_topic;
@@ -125,7 +125,7 @@ const TIGHT: &[u8] =
 const UNTRUE: &[u8] =
     b"[[region]]\nname = \"ram\"\nbase = 256\nsize = 64\nsections = [\"t\"]\ncommon = 1\n";
 
-/// Modules that ask 4 and 6 bytes for `c`, and plans.
+/// Modules that request 4 and 6 bytes for `c`, and plans.
 const COMMONS: &[File] = &[
     (
         "a",
@@ -739,31 +739,29 @@ fn an_explanation_is_not_explained(rt: HostRuntime) {
 fn ends(
     rt: &impl Abort,
     alloc: Global,
-    line: &[&str],
+    line: &str,
     failing: (&[u64], &[u64]),
     wanted: (u8, &[u8], &[u8]),
 ) {
     let reads = numbers(rt, alloc, failing.0);
     let writes = numbers(rt, alloc, failing.1);
     let mut host = failing_host(rt, alloc, &[("a", &ABSOLUTE)], reads, writes);
-    assert!(rt; line.len() < 1 << 32);
-    let words = words(rt, alloc, line);
-    assert_eq!(rt; run(alloc, words.as_slice(), &mut host).status(), wanted.0);
-    assert_eq!(rt; host.out(), wanted.1);
-    assert_eq!(rt; host.err(), wanted.2);
-    assert!(rt; host.made().is_none());
-    assert!(rt; host.making().is_none());
+    assert_eq!(rt; status_of(rt, alloc, &mut host, line), wanted.0, "{line}");
+    assert_eq!(rt; host.out(), wanted.1, "{line}");
+    assert_eq!(rt; host.err(), wanted.2, "{line}");
+    assert!(rt; host.made().is_none(), "{line}");
+    assert!(rt; host.making().is_none(), "{line}");
 }
 
 #[test]
 fn failed_calls_are_explained_or_fail(rt: HostRuntime) {
     let alloc = rt.alloc();
-    let line = &["explain", "dump", "a"];
+    let line = "explain dump a";
     let fault = b"read fault: file 0\nfile 0: \"a\"\n";
     ends(&rt, alloc, line, (&[0], &[]), (0, fault, b""));
     ends(&rt, alloc, line, (&[1], &[]), (0, fault, b""));
     ends(&rt, alloc, line, (&[], &[0]), (4, b"", b"write fault\n"));
     // Writes of the run that is explained are not met.
-    let line = &["explain", "locate", "-o", "c", "a"];
+    let line = "explain locate -o c a";
     ends(&rt, alloc, line, (&[], &[1]), (0, b"done\n", b""));
 }

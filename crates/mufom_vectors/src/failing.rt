@@ -25,7 +25,7 @@ struct Script<'a> {
     failing_write: Option<u64>,
 }
 
-fn listed(rt: &impl Abort, alloc: Global, call: Option<u64>) -> List<u64> {
+fn call_list(rt: &impl Abort, alloc: Global, call: Option<u64>) -> List<u64> {
     match call {
         Some(call) => numbers(rt, alloc, &[call]),
         None => List::new(alloc),
@@ -35,8 +35,8 @@ fn listed(rt: &impl Abort, alloc: Global, call: Option<u64>) -> List<u64> {
 // A host with the absolute module, the two that need each other, and a plan for them.
 fn host(rt: &impl Abort, alloc: Global, script: &Script) -> Veiled {
     let files: [(&str, &[u8]); 4] = [("m", &ABSOLUTE), ("a", &FIRST), ("b", &SECOND), ("p", PAGE)];
-    let reads = listed(rt, alloc, script.failing_read);
-    let writes = listed(rt, alloc, script.failing_write);
+    let reads = call_list(rt, alloc, script.failing_read);
+    let writes = call_list(rt, alloc, script.failing_write);
     Veiled {
         inner: failing_host(rt, alloc, &files, reads, writes),
         by_bytes: script.by_bytes,
@@ -44,7 +44,7 @@ fn host(rt: &impl Abort, alloc: Global, script: &Script) -> Veiled {
 }
 
 // The status that the run ends with, and the host after it.
-fn ran(rt: &impl Abort, alloc: Global, script: &Script) -> (u8, MemHost)
+fn run_script(rt: &impl Abort, alloc: Global, script: &Script) -> (u8, MemHost)
     requires { length script.now.line.now < 2 ^ 32 }
 {
     let mut host = host(rt, alloc, script);
@@ -64,10 +64,10 @@ fn read_fails(rt: &impl Abort, alloc: Global, script: &Script, call: u64, compla
 {
     let mut script = *script;
     script.failing_read = Some(call);
-    let (status, host) = ran(rt, alloc, &script);
-    assert_eq!(rt; status, 3);
-    assert_eq!(rt; host.err(), complaint.as_bytes());
-    assert!(rt; is_untouched(&host));
+    let (status, host) = run_script(rt, alloc, &script);
+    assert_eq!(rt; status, 3, "read {call}");
+    assert_eq!(rt; host.err(), complaint.as_bytes(), "read {call}");
+    assert!(rt; is_untouched(&host), "read {call}");
 }
 
 // Each of the reads from one to another fails in its turn, with this complaint.
@@ -85,7 +85,7 @@ fn has_reads(rt: &impl Abort, alloc: Global, script: &Script, reads: u64)
 {
     let mut script = *script;
     script.failing_read = Some(reads);
-    assert_eq!(rt; ran(rt, alloc, &script).0, 0);
+    assert_eq!(rt; run_script(rt, alloc, &script).0, 0, "after {reads} reads");
 }
 
 // A run that no call keeps from its end.
@@ -160,8 +160,8 @@ fn has_prefix(host: &MemHost, whole: &[u8]) -> bool {
 fn output(rt: &impl Abort, alloc: Global, script: &Script) -> Vec<u8>
     requires { length script.now.line.now < 2 ^ 32 }
 {
-    let (status, host) = ran(rt, alloc, script);
-    assert_eq!(rt; status, 0);
+    let (status, host) = run_script(rt, alloc, script);
+    assert_eq!(rt; status, 0, "no call fails");
     match host.made() {
         Some((_, bytes)) => Vec::from_slice(alloc, bytes).expect(rt, "memory"),
         None => Vec::from_slice(alloc, host.out()).expect(rt, "memory"),
@@ -174,14 +174,14 @@ fn write_fails(rt: &impl Abort, alloc: Global, script: &Script, call: u64, whole
 {
     let mut script = *script;
     script.failing_write = Some(call);
-    let (status, host) = ran(rt, alloc, &script);
+    let (status, host) = run_script(rt, alloc, &script);
     if status == 0 {
         return false;
     }
-    assert_eq!(rt; status, 4);
-    assert_eq!(rt; host.err(), b"write fault\n".as_slice());
-    assert!(rt; host.made().is_none());
-    assert!(rt; has_prefix(&host, whole));
+    assert_eq!(rt; status, 4, "write {call}");
+    assert_eq!(rt; host.err(), b"write fault\n".as_slice(), "write {call}");
+    assert!(rt; host.made().is_none(), "write {call}");
+    assert!(rt; has_prefix(&host, whole), "write {call}");
     true
 }
 
@@ -224,7 +224,7 @@ fn a_write_that_fails_between_records_leaves_those_before_it(rt: HostRuntime) {
     let alloc = rt.alloc();
     let mut script = undisturbed(&["link", "-o", "c", "m"], false);
     script.failing_write = Some(3);
-    let (status, host) = ran(&rt, alloc, &script);
+    let (status, host) = run_script(&rt, alloc, &script);
     assert_eq!(rt; status, 4);
     assert_eq!(rt; host.err(), b"write fault\n".as_slice());
     assert!(rt; host.made().is_none());

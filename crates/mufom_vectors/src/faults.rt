@@ -1,7 +1,7 @@
 //! Runs in which a call of the host fails.
 
 use crate::files::{ABSOLUTE, failing_host, numbers, words};
-use crate::runs::complains_of;
+use crate::runs::{complains_of, status_of};
 use mufom_command::{Input, Outcome, Refusal, run};
 use mufom_host::MemHost;
 use mufom_words::UsageFault;
@@ -15,18 +15,11 @@ fn host(rt: &impl Abort, alloc: Global, reads: &[u64], writes: &[u64]) -> MemHos
     failing_host(rt, alloc, &[("a", &ABSOLUTE)], reads, writes)
 }
 
-// A run with these two arguments on this host ends with this status, and prints this to the output and to the errors.
-fn ends(
-    rt: &impl Abort,
-    alloc: Global,
-    mut host: MemHost,
-    line: &[&str; 2],
-    wanted: (u8, &[u8], &[u8]),
-) {
-    let words = words(rt, alloc, line);
-    assert_eq!(rt; run(alloc, words.as_slice(), &mut host).status(), wanted.0);
-    assert_eq!(rt; host.out(), wanted.1);
-    assert_eq!(rt; host.err(), wanted.2);
+// A run with the arguments of this line on this host ends with this status, and prints this to the output and to the errors.
+fn ends(rt: &impl Abort, alloc: Global, mut host: MemHost, line: &str, wanted: (u8, &[u8], &[u8])) {
+    assert_eq!(rt; status_of(rt, alloc, &mut host, line), wanted.0, "{line}");
+    assert_eq!(rt; host.out(), wanted.1, "{line}");
+    assert_eq!(rt; host.err(), wanted.2, "{line}");
 }
 
 #[test]
@@ -37,21 +30,21 @@ fn a_failed_open_or_read_is_a_read_fault(rt: HostRuntime) {
         &rt,
         alloc,
         host(&rt, alloc, &[0], &[]),
-        &["check", "a"],
+        "check a",
         (3, b"", line),
     );
     ends(
         &rt,
         alloc,
         host(&rt, alloc, &[1], &[]),
-        &["dump", "a"],
+        "dump a",
         (3, b"", line),
     );
     ends(
         &rt,
         alloc,
         host(&rt, alloc, &[2], &[]),
-        &["show", "a"],
+        "show a",
         (3, b"", line),
     );
 }
@@ -80,28 +73,28 @@ fn a_failed_print_is_a_write_fault(rt: HostRuntime) {
         &rt,
         alloc,
         host(&rt, alloc, &[], &[0]),
-        &["check", "a"],
+        "check a",
         (4, b"", line),
     );
     ends(
         &rt,
         alloc,
         host(&rt, alloc, &[], &[0]),
-        &["dump", "a"],
+        "dump a",
         (4, b"", line),
     );
     ends(
         &rt,
         alloc,
         host(&rt, alloc, &[], &[0]),
-        &["show", "a"],
+        "show a",
         (4, b"", line),
     );
     ends(
         &rt,
         alloc,
         host(&rt, alloc, &[], &[0, 1]),
-        &["dump", "a"],
+        "dump a",
         (4, b"", b""),
     );
 }

@@ -90,7 +90,7 @@ pub(crate) static BLOCKS: [u8; 158] = [
     0x01, 0x63, 0x01, 0x01, 0xD2, 0x01, 0xF9, 0x10, 0xF9, 0xE2, 0xCE, 0x20, 0x01, 0xE1,
 ];
 
-/// These words.
+/// The arguments of a run.
 pub(crate) fn words(rt: &impl Abort, alloc: Global, words: &[&str]) -> Vec<String>
     requires { length words.now < 2 ^ 32 }
     ensures { vec_len result < 2 ^ 32 }

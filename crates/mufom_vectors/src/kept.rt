@@ -49,7 +49,7 @@ const BASED: Held = Held::Section(
     b"\xE5\x01\xED\x02\x05\x06",
 );
 
-/// Two sections: the one of `main` asks for the common `v`, and the other for the common `u`.
+/// Two sections: the one of `main` requests the common `v`, and the other for the common `u`.
 const ASKING: Held = Held::Section(
     b"\xE6\x01\xC3\x01a\xE2\xD3\x01\x04\xE6\x02\xC3\x01b\xE2\xD3\x02\x04",
     b"\xE8\x20\x04main\xE2\xC9\x20\xD2\x01\xE9\x0B\x01u\xF4\x0B\x06\xE9\x0C\x01v\xF4\x0C\x04",
@@ -117,7 +117,7 @@ static RULES: [Case; 5] = [
         status: 0,
         text: "00000000: 00 00 00 04 01 02 03 04\n00000020: 05 06\npublic 00000000 \"main\"\n",
     },
-    // A common that a kept section asks for, and not the other one.
+    // A common that a kept section requests, and not the other one.
     Case {
         files: USES,
         first: "",

@@ -66,7 +66,7 @@ fn whole(held: &Held) -> &'static [u8] {
     }
 }
 
-fn drafted(
+fn drafted_bytes(
     rt: &impl Abort,
     alloc: Global,
     maus: u8,
@@ -91,7 +91,7 @@ fn cut(rt: &impl Abort, alloc: Global, count: usize, rest: &[u8]) -> Vec<u8> {
     bytes
 }
 
-fn changed(rt: &impl Abort, alloc: Global, offset: usize, byte: u8) -> Vec<u8> {
+fn changed_bytes(rt: &impl Abort, alloc: Global, offset: usize, byte: u8) -> Vec<u8> {
     let mut bytes = Vec::from_slice(alloc, &ABSOLUTE).expect(rt, "memory");
     if let Some(old) = bytes.get_mut(offset) {
         *old = byte;
@@ -107,14 +107,14 @@ fn spaces(rt: &impl Abort, alloc: Global, count: usize) -> Vec<u8> {
 
 fn content(rt: &impl Abort, alloc: Global, held: &Held) -> Vec<u8> {
     match held {
-        Held::Changed(offset, byte) => changed(rt, alloc, *offset, *byte),
+        Held::Changed(offset, byte) => changed_bytes(rt, alloc, *offset, *byte),
         Held::Cut(count, rest) => cut(rt, alloc, *count, rest),
         Held::Spaces(count) => spaces(rt, alloc, *count),
-        Held::Names(external) => drafted(rt, alloc, 4, b"", external, b"", b""),
-        Held::Section(sections, external, loads) => drafted(
+        Held::Names(external) => drafted_bytes(rt, alloc, 4, b"", external, b"", b""),
+        Held::Section(sections, external, loads) => drafted_bytes(
             rt, alloc, 4, sections, external, b"", loads,
         ),
-        Held::Records(maus, sections, debug, loads) => drafted(
+        Held::Records(maus, sections, debug, loads) => drafted_bytes(
             rt, alloc, *maus, sections, b"", debug, loads,
         ),
         _ => Vec::from_slice(alloc, whole(held)).expect(rt, "memory"),
@@ -127,7 +127,7 @@ fn add(rt: &impl Abort, alloc: Global, files: &mut List<(Text, Bytes)>, name: &s
     files.push((name, bytes)).expect(rt, "memory");
 }
 
-fn listed(rt: &impl Abort, alloc: Global, files: &[File]) -> List<(Text, Bytes)> {
+fn file_list(rt: &impl Abort, alloc: Global, files: &[File]) -> List<(Text, Bytes)> {
     let mut list = List::new(alloc);
     for (name, held) in files {
         let bytes = content(rt, alloc, held);
@@ -159,10 +159,10 @@ pub(crate) fn status_of(rt: &impl Abort, alloc: Global, host: &mut MemHost, line
 
 /// The bytes of the file that a run with the arguments of a line makes of these files. It prints nothing.
 pub(crate) fn made_of(rt: &impl Abort, alloc: Global, files: &[File], line: &str) -> Vec<u8> {
-    let files = listed(rt, alloc, files);
+    let files = file_list(rt, alloc, files);
     let mut host = host_of(rt, alloc, files);
     assert_eq!(rt; status_of(rt, alloc, &mut host, line), 0, "{line}");
-    assert!(rt; host.out().is_empty());
+    assert!(rt; host.out().is_empty(), "{line}");
     made_bytes(rt, alloc, &host)
 }
 
@@ -176,7 +176,7 @@ pub(crate) fn made_twice(
     second: &str,
 ) -> Vec<u8> {
     let bytes = made_of(rt, alloc, files, first);
-    let mut list = listed(rt, alloc, files);
+    let mut list = file_list(rt, alloc, files);
     add(rt, alloc, &mut list, "c", &bytes);
     let mut host = host_of(rt, alloc, list);
     assert_eq!(rt; status_of(rt, alloc, &mut host, second), 0, "{second}");
@@ -186,21 +186,21 @@ pub(crate) fn made_twice(
 // A run that is done prints this text alone.
 fn is_done(rt: &impl Abort, host: &MemHost, line: &str, text: &str) {
     assert_eq!(rt; host.out(), text.as_bytes(), "{line}");
-    assert!(rt; host.err().is_empty());
+    assert!(rt; host.err().is_empty(), "{line}");
 }
 
 // A run that is not done prints this error line alone, and no file is made or begun.
 fn is_not_done(rt: &impl Abort, host: &MemHost, line: &str, text: &str) {
     assert_eq!(rt; host.err(), text.as_bytes(), "{line}");
-    assert!(rt; host.out().is_empty());
-    assert!(rt; host.made().is_none());
-    assert!(rt; host.making().is_none());
+    assert!(rt; host.out().is_empty(), "{line}");
+    assert!(rt; host.made().is_none(), "{line}");
+    assert!(rt; host.making().is_none(), "{line}");
 }
 
 // A run ends with the status and the text of its row.
 fn comes_to(rt: &impl Abort, alloc: Global, case: &Case) {
     let line = case.line;
-    let mut list = listed(rt, alloc, case.files);
+    let mut list = file_list(rt, alloc, case.files);
     if !case.first.is_empty() {
         let made = made_of(rt, alloc, case.files, case.first);
         add(rt, alloc, &mut list, "c", &made);
@@ -234,7 +234,7 @@ pub(crate) fn explains(
     lines: &str,
     help: &str,
 ) {
-    let mut host = host_of(rt, alloc, listed(rt, alloc, files));
+    let mut host = host_of(rt, alloc, file_list(rt, alloc, files));
     assert_eq!(rt; status_of(rt, alloc, &mut host, line), 0, "{line}");
     let mut text = Vec::from_slice(alloc, lines.as_bytes()).expect(rt, "memory");
     if !help.is_empty() {
@@ -242,9 +242,9 @@ pub(crate) fn explains(
         text.extend_from_slice(help.as_bytes()).expect(rt, "memory");
     }
     assert!(rt; host.out() == text.as_slice(), "{line}");
-    assert!(rt; host.err().is_empty());
-    assert!(rt; host.made().is_none());
-    assert!(rt; host.making().is_none());
+    assert!(rt; host.err().is_empty(), "{line}");
+    assert!(rt; host.made().is_none(), "{line}");
+    assert!(rt; host.making().is_none(), "{line}");
 }
 
 /// These arguments make a file of these bytes.
@@ -263,8 +263,8 @@ pub(crate) fn complains_of(rt: &impl Abort, alloc: Global, line: &str, status: u
 /// A run without arguments is a usage error, with this error line alone.
 pub(crate) fn complains_of_no_words(rt: &impl Abort, alloc: Global, text: &str) {
     let mut host = host_of(rt, alloc, List::new(alloc));
-    assert_eq!(rt; run(alloc, &[], &mut host).status(), 2);
-    is_not_done(rt, &host, "", text);
+    assert_eq!(rt; run(alloc, &[], &mut host).status(), 2, "without arguments");
+    is_not_done(rt, &host, "without arguments", text);
 }
 
 /// The file of these bytes is shown as this text.
@@ -272,6 +272,6 @@ pub(crate) fn shows(rt: &impl Abort, alloc: Global, bytes: &[u8], text: &str) {
     let mut files = List::new(alloc);
     add(rt, alloc, &mut files, "a", bytes);
     let mut host = host_of(rt, alloc, files);
-    assert_eq!(rt; status_of(rt, alloc, &mut host, "show a"), 0);
+    assert_eq!(rt; status_of(rt, alloc, &mut host, "show a"), 0, "show a");
     is_done(rt, &host, "show a", text);
 }

@@ -1,7 +1,7 @@
 //! The lines of a module with every kind of entry, and each function.
 
 use super::shows;
-use crate::entries::{bytes, expression, list, made, public, sections};
+use crate::entries::{bytes, expression, list, module_of, public, sections};
 use crate::every_kind::{SECTIONS, every_kind};
 use mufom_expr::{Function, Letter, Postfix, Token};
 use mufom_module::{Order, Parts};
@@ -56,7 +56,7 @@ const EVERY_LINE: &str = "\
 #[test]
 fn every_kind_of_line_is_printed(rt: HostRuntime) {
     let alloc = rt.alloc();
-    let module = made(&rt, every_kind(&rt, alloc));
+    let module = module_of(&rt, every_kind(&rt, alloc));
     shows(&rt, alloc, &module, EVERY_LINE.as_bytes());
 }
 
@@ -157,6 +157,6 @@ const FUNCTION_LINES: &str = "\
 #[test]
 fn each_function_is_printed_in_infix_form(rt: HostRuntime) {
     let alloc = rt.alloc();
-    let module = made(&rt, with_functions(&rt, alloc));
+    let module = module_of(&rt, with_functions(&rt, alloc));
     shows(&rt, alloc, &module, FUNCTION_LINES.as_bytes());
 }

@@ -1,7 +1,7 @@
 //! A small module, names of all bytes, and a text that fills more than a page.
 
 use super::{shows, stops};
-use crate::entries::made;
+use crate::entries::module_of;
 use crate::small::{CODE, loads, parts, small};
 use mufom_module::Parts;
 use std::alloc::Global;
@@ -19,7 +19,7 @@ const PLAIN_TEXT: &str = "\
 #[test]
 fn a_small_module_is_printed(rt: HostRuntime) {
     let alloc = rt.alloc();
-    let module = made(&rt, small(&rt, alloc));
+    let module = module_of(&rt, small(&rt, alloc));
     shows(&rt, alloc, &module, PLAIN_TEXT.as_bytes());
     stops(&rt, alloc, &module, 0, b"");
 }
@@ -41,7 +41,7 @@ fn bytes_that_do_not_stand_for_themselves_are_printed_by_their_digits(rt: HostRu
     let alloc = rt.alloc();
     let row = (ODD, false, None, 0, 1, None);
     let loads = loads(&rt, alloc, &[]);
-    let module = made(&rt, parts(&rt, alloc, ODD, &[row], loads, None));
+    let module = module_of(&rt, parts(&rt, alloc, ODD, &[row], loads, None));
     shows(&rt, alloc, &module, ODD_TEXT.as_bytes());
 }
 
@@ -75,7 +75,7 @@ fn long(rt: &impl Abort, alloc: Global) -> Parts {
 #[test]
 fn a_text_of_more_than_a_page_is_printed_in_order(rt: HostRuntime) {
     let alloc = rt.alloc();
-    let module = made(&rt, long(&rt, alloc));
+    let module = module_of(&rt, long(&rt, alloc));
     let text = long_text(&rt, alloc);
     shows(&rt, alloc, &module, text.as_slice());
     stops(&rt, alloc, &module, 0, b"");

@@ -83,7 +83,7 @@ const BLOCKS_TEXT: &str =
 // ---- streams
 
 /// A copy of these bytes.
-pub(crate) fn copied(rt: &impl Abort, alloc: Global, bytes: &[u8]) -> Vec<u8> {
+pub(crate) fn copy_of(rt: &impl Abort, alloc: Global, bytes: &[u8]) -> Vec<u8> {
     Vec::from_slice(alloc, bytes).expect(rt, "memory")
 }
 
@@ -115,7 +115,7 @@ const DATA: usize = 60;
 // `offset`.
 fn with_part(rt: &impl Abort, alloc: Global, offset: usize, part: &[u8]) -> Vec<u8> {
     let [high, low] = end_after(part).to_be_bytes();
-    let mut stream = copied(rt, alloc, &PLAIN[..100]);
+    let mut stream = copy_of(rt, alloc, &PLAIN[..100]);
     for (at, byte) in [(DATA, 0), (offset, 100), (68, 0), (75, high), (76, low)] {
         set(&mut stream, at, byte);
     }
@@ -181,7 +181,8 @@ pub(crate) fn comes_to(
     assert_eq!(rt;
         stop(alloc, stream, size, reads_debug),
         wanted,
-        "in chunks of {size} bytes"
+        "{} bytes in chunks of {size}",
+        stream.len()
     );
 }
 
@@ -227,7 +228,7 @@ static CHANGED: [Changed; 19] = [
 ];
 
 fn changed_is_refused(rt: &impl Abort, alloc: Global, row: &Changed) {
-    let mut stream = copied(rt, alloc, PLAIN);
+    let mut stream = copy_of(rt, alloc, PLAIN);
     set(&mut stream, row.0, row.1);
     is_refused(rt, alloc, &stream, row.2, row.3);
 }
@@ -456,7 +457,7 @@ fn a_prefix_of_a_module_is_truncated(rt: HostRuntime) {
 
 #[test]
 fn a_byte_after_the_end_is_refused(rt: HostRuntime) {
-    let mut stream = copied(&rt, rt.alloc(), PLAIN);
+    let mut stream = copy_of(&rt, rt.alloc(), PLAIN);
     add(&rt, &mut stream, b"\x00");
     is_refused(&rt, rt.alloc(), &stream, 120, Reason::AfterEnd);
 }
@@ -489,7 +490,7 @@ fn a_stop_is_answered_again(rt: HostRuntime) {
 
 #[test]
 fn a_second_start_is_refused(rt: HostRuntime) {
-    let mut stream = copied(&rt, rt.alloc(), &PLAIN[..119]);
+    let mut stream = copy_of(&rt, rt.alloc(), &PLAIN[..119]);
     add(&rt, &mut stream, b"\xE2\xC7\x00\xE1");
     set(&mut stream, 76, 0x7A);
     is_refused(&rt, rt.alloc(), &stream, 119, Reason::DuplicateValue);
@@ -497,7 +498,7 @@ fn a_second_start_is_refused(rt: HostRuntime) {
 
 #[test]
 fn an_absolute_section_has_a_base(rt: HostRuntime) {
-    let mut stream = copied(&rt, rt.alloc(), &PLAIN[..94]);
+    let mut stream = copy_of(&rt, rt.alloc(), &PLAIN[..94]);
     add(&rt, &mut stream, b"\xE1");
     for (at, byte) in [(60, 0), (68, 0), (76, 0x5E)] {
         set(&mut stream, at, byte);
@@ -521,7 +522,7 @@ fn zeros(rt: &impl Abort, alloc: Global, count: usize) -> Vec<u8> {
 
 // The header of a module whose extension part is raw bytes, up to the end of a file.
 fn raw_header(rt: &impl Abort, alloc: Global) -> Vec<u8> {
-    let mut header = copied(rt, alloc, &PLAIN[..77]);
+    let mut header = copy_of(rt, alloc, &PLAIN[..77]);
     for (at, byte) in [(20, 0x4D), (36, 0), (60, 0), (68, 0), (73, 4), (76, 0)] {
         set(&mut header, at, byte);
     }
@@ -630,7 +631,7 @@ fn host(rt: &impl Abort, alloc: Global) -> MemHost {
 }
 
 // A host in which the file of the plain module is open.
-fn opened(rt: &impl Abort, alloc: Global) -> MemHost {
+fn open_host(rt: &impl Abort, alloc: Global) -> MemHost {
     let mut host = host(rt, alloc);
     assert_eq!(rt; host.open("a"), Ok(()));
     host
@@ -638,14 +639,14 @@ fn opened(rt: &impl Abort, alloc: Global) -> MemHost {
 
 #[test]
 fn a_source_is_read_within_its_limit(rt: HostRuntime) {
-    let mut source = opened(&rt, rt.alloc());
+    let mut source = open_host(&rt, rt.alloc());
     let read = read_module(rt.alloc(), &mut source, 120, true);
     assert!(rt; matches!(read, Ok((_, 120))));
 }
 
 #[test]
 fn a_source_is_not_read_past_its_limit(rt: HostRuntime) {
-    let mut source = opened(&rt, rt.alloc());
+    let mut source = open_host(&rt, rt.alloc());
     let stop = read_module(rt.alloc(), &mut source, 119, true);
     assert!(rt; matches!(stop, Err(SourceStop::Limit)));
 }
