@@ -27,30 +27,60 @@ impl HashSeed {
 
     // Mixes in the hash of a name or key. That hash ends with SipHash's finalization rounds, so that the
     // bytes of a name don't set the state directly.
-    fn mix(&mut self, one: DefaultHasher) {
-        self.start.write_u64(one.finish());
+    fn mix(&mut self, hash: u64) {
+        self.start.write_u64(hash);
+    }
+
+    // Mixes in four hashes, as four calls of `mix` do, by one call of the hasher.
+    fn mix_four(&mut self, hashes: [u64; 4]) {
+        let mut bytes = [0; 32];
+        bytes[..8].copy_from_slice(&hashes[0].to_le_bytes());
+        bytes[8..16].copy_from_slice(&hashes[1].to_le_bytes());
+        bytes[16..24].copy_from_slice(&hashes[2].to_le_bytes());
+        bytes[24..].copy_from_slice(&hashes[3].to_le_bytes());
+        self.start.write(&bytes);
     }
 
     /// Mixes in a name.
     pub fn add_name(&mut self, name: &[u8]) {
-        let mut one = DefaultHasher::new();
-        one.write(name);
-        self.mix(one);
+        self.mix(hash_of_name(name));
+    }
+
+    // Mixes in the names of at most four publics.
+    fn add_group(&mut self, group: &[Public]) {
+        if let [first, second, third, fourth] = group {
+            let hashes = [
+                hash_of_name(first.name.as_slice()),
+                hash_of_name(second.name.as_slice()),
+                hash_of_name(third.name.as_slice()),
+                hash_of_name(fourth.name.as_slice()),
+            ];
+            return self.mix_four(hashes);
+        }
+        for public in group {
+            self.add_name(public.name.as_slice());
+        }
     }
 
     /// Mixes in the names of publics.
     pub fn add_publics(&mut self, publics: &[Public]) {
-        for public in publics {
-            self.add_name(public.name.as_slice());
+        for group in publics.chunks(4) {
+            self.add_group(group);
         }
     }
 
     /// Mixes in the names, the weak parts and the notes of references.
     pub fn add_references(&mut self, references: &[Reference]) {
         for reference in references {
-            self.mix(hash_of(reference));
+            self.mix(hash_of_reference(reference));
         }
     }
+}
+
+fn hash_of_name(name: &[u8]) -> u64 {
+    let mut hasher = DefaultHasher::new();
+    hasher.write(name);
+    hasher.finish()
 }
 
 // Hashes a note: its type, its attribute, and its numbers with their count.
@@ -64,8 +94,8 @@ fn write_note(hasher: &mut DefaultHasher, note: &Note) {
     }
 }
 
-// A hasher that has taken in everything that the key of a reference contains.
-fn hash_of(reference: &Reference) -> DefaultHasher {
+// The hash of everything that the key of a reference contains.
+fn hash_of_reference(reference: &Reference) -> u64 {
     let mut hasher = DefaultHasher::new();
     hasher.write(reference.name.as_slice());
     if let Some(weak) = reference.weak {
@@ -75,7 +105,7 @@ fn hash_of(reference: &Reference) -> DefaultHasher {
     for note in reference.notes.as_slice() {
         write_note(&mut hasher, note);
     }
-    hasher
+    hasher.finish()
 }
 
 impl BuildHasher for HashSeed {

@@ -144,7 +144,7 @@ static ORDERED: [Case; 4] = [
         status: 0,
         text: D_FIRST,
     },
-    // The size is the greatest, although a later module asks for less.
+    // The size is the greatest, although a later module requests less.
     Case {
         files: TWO_NAMES,
         first: "",

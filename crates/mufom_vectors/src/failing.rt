@@ -205,32 +205,29 @@ fn each_print_fails_in_its_turn(rt: HostRuntime) {
     assert_eq!(rt; failing_writes(&rt, alloc, &whole), 1);
 }
 
-// A file is created, written record by record or byte by byte, and finished.
+// A file is created, written in groups of records or byte by byte, and finished.
 #[test]
 fn each_write_of_a_file_fails_in_its_turn(rt: HostRuntime) {
     let alloc = rt.alloc();
-    assert_eq!(rt; failing_writes(&rt, alloc, &undisturbed(&LINK, false)), 25);
+    assert_eq!(rt; failing_writes(&rt, alloc, &undisturbed(&LINK, false)), 5);
     let by_bytes = failing_writes(&rt, alloc, &undisturbed(&LINK, true));
     assert_eq!(rt; by_bytes, 138);
-    assert_eq!(rt;
-        failing_writes(&rt, alloc, &undisturbed(&LOCATE, false)),
-        29
-    );
+    assert_eq!(rt; failing_writes(&rt, alloc, &undisturbed(&LOCATE, false)), 5);
 }
 
-// The file is created by the call with number 0, and has its first two records when number 3 fails.
+// The file is created by the call with number 0, and has its first nine records when number 2 fails.
 #[test]
 fn a_write_that_fails_between_records_leaves_those_before_it(rt: HostRuntime) {
     let alloc = rt.alloc();
     let mut script = undisturbed(&["link", "-o", "c", "m"], false);
-    script.failing_write = Some(3);
+    script.failing_write = Some(2);
     let (status, host) = run_script(&rt, alloc, &script);
     assert_eq!(rt; status, 4);
     assert_eq!(rt; host.err(), b"write fault\n".as_slice());
     assert!(rt; host.made().is_none());
     let (name, bytes) = host.making().expect(&rt, "a file that is begun");
     assert_eq!(rt; name, b"c".as_slice());
-    assert_eq!(rt; bytes, &ABSOLUTE[..13]);
+    assert_eq!(rt; bytes, &ABSOLUTE[..69]);
 }
 
 #[test]
