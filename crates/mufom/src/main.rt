@@ -1,4 +1,4 @@
-//! The program `mufom`: it gives the command line's words to [`run`] over the files and streams of
+//! The program `mufom`: it passes the arguments of the command line to [`run`] over the files and streams of
 //! the process, and ends with the status of the outcome.
 //!
 //! It depends on `mufom_command`, whose contract states what every outcome means, and on `mufom_host`.
@@ -18,7 +18,7 @@ const BAD_WORDS: u8 = 2;
 /// The status if memory runs out for the arguments.
 const NO_MEMORY: u8 = 5;
 
-// The command line's words without the program's name, or the status where they can't be had.
+// The arguments without the program's name, or the status to end with if they cannot be read.
 fn words(rt: &HostRuntime) -> Result<Vec<String>, u8>
     ensures { IfOk result (λ words. vec_len words < 2 ^ 32) }
 {

@@ -56,8 +56,8 @@ use Rattle.mufom_command.specs.Text.{Text, check_text, hit_text}
 use Rattle.mufom_numbers.specs.declared.limits.TheConstants.{MOST_FILE_BYTES}
 use Rattle.mufom_addr.specs.AddressHit.{hit_at}
 use Rattle.mufom_write.specs.Raw.{raw_image}
-use Rattle.mufom_meaning.specs.AddressMap.{AreRowsOf}
-use Rattle.mufom_meaning.proofs.locations.CellRows.{rows_are_single}
+use Rattle.mufom_meaning.specs.AddressMap.{AreRunsOf}
+use Rattle.mufom_meaning.proofs.locations.CellRuns.{rows_are_single}
 use Rattle.mufom_titxt.specs.declared.refusal.TxtRefusal.{TxtRefusal}
 use Rattle.mufom_titxt.specs.TextModules.{text_parts}
 use Rattle.mufom_titxt.specs.Texts.{txt_cells, txt_refusal}
@@ -201,7 +201,7 @@ text_in-single files (name ∷ names) =
 runs_of_text-single : (maus : ℕ) (text : List ℕ) → IsSingle (runs_of_text maus text)
 runs_of_text-single maus text = by (txt_refusal text (8 * maus)) where
   by : (o : Option TxtRefusal) → IsSingle (runs_unless o text)
-  by None = one_with-single (AreRowsOf (txt_cells text)) (λ runs other is_one is_other. rows_are_single (txt_cells text) runs other is_one is_other)
+  by None = one_with-single (AreRunsOf (txt_cells text)) (λ runs other is_one is_other. rows_are_single (txt_cells text) runs other is_one is_other)
   by (Some r) = stop_at-single (text_refused r)
 
 parts_of_txt-single : (maus : ℕ) (text : List ℕ) → IsSingle (parts_of_txt maus text)

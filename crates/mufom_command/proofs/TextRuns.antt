@@ -10,7 +10,7 @@ use Rattle.mufom_module.specs.Written.{written}
 use Rattle.mufom_plan.specs.declared.plan.Plan.{Plan}
 use Rattle.mufom_meaning.specs.declared.located.Run.{Run}
 use Rattle.mufom_meaning.specs.Absolute.{no_regions}
-use Rattle.mufom_meaning.specs.AddressMap.{AreRowsOf}
+use Rattle.mufom_meaning.specs.AddressMap.{AreRunsOf}
 use Rattle.mufom_titxt.specs.declared.refusal.TxtRefusal.{TxtRefusal}
 use Rattle.mufom_titxt.specs.TextModules.{text_parts}
 use Rattle.mufom_titxt.specs.Texts.{IsTxtOf, txt_cells, txt_refusal}

@@ -50,7 +50,7 @@ use Rattle.mufom_build.specs.Refusals.{IsRefusedAt, HasDefect}
 use Rattle.mufom_titxt.specs.TextModules.{text_parts}
 use Rattle.mufom_titxt.specs.Texts.{txt_cells, txt_refusal}
 use Rattle.mufom_titxt.specs.Written.{txt_text}
-use Rattle.mufom_meaning.specs.AddressMap.{AreRowsOf}
+use Rattle.mufom_meaning.specs.AddressMap.{AreRunsOf}
 use Rattle.mufom_numbers.specs.declared.limits.TheConstants.{MOST_FILE_BYTES}
 use Rattle.mufom_command.specs.Text.{Text, check_text, hit_text}
 
@@ -267,7 +267,7 @@ mapping files c = linking_of (λ ms c plan flat. locating_kept (printed_map ms p
 
 -- the runs of the bytes that a text gives to addresses, unless the text has an error
 abbrev pub runs_unless : Option TxtRefusal → List ℕ → Work Stop (List Run)
-runs_unless None text = one_with (AreRowsOf (txt_cells text))
+runs_unless None text = one_with (AreRunsOf (txt_cells text))
 runs_unless (Some r) text = stop_at (text_refused r)
 
 -- the same, given the length of an address in units

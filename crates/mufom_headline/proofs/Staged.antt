@@ -1,4 +1,4 @@
--- A command whose files were linked in stages comes to what it comes to of the list that the stages began with.
+-- If a command's files were linked in stages, its work has the same result as over the list that the stages began with.
 use Rattle.std.proofs.Common.{◌≡◌, List, [], ◌∷◌, Option, Some, None, refl, sym, ap, subst, ◌∙◌, inl, inr}
 use Rattle.mufom_words.specs.declared.command.Command.{Command}
 use Rattle.mufom_words.specs.declared.command.Verb.{Verb}

@@ -14,7 +14,7 @@ use Rattle.mufom_meaning.specs.declared.located.LocatedParts.{LocatedParts}
 use Rattle.mufom_meaning.specs.declared.located.PublicValue.{PublicValue}
 use Rattle.mufom_meaning.specs.declared.located.Run.{Run}
 use Rattle.mufom_meaning.specs.Absolute.{absolute_of}
-use Rattle.mufom_meaning.specs.AddressMap.{AreRowsOf, address_map}
+use Rattle.mufom_meaning.specs.AddressMap.{AreRunsOf, address_map}
 use Rattle.mufom_meaning.specs.Bases.{Bases}
 use Rattle.mufom_meaning.specs.Flat.{Sited, sited, flat_publics, is_common}
 use Rattle.mufom_meaning.specs.LocateAnswer.{locate_answer}
@@ -118,10 +118,10 @@ entries-located plan valued runs r by valid names locates rows entries =
     }
   where
     rows_there : bases_of valued.placed.now ≡ planned_bases (parts_of valued ∷ []) plan → (parts_of valued).order ≡ r.order
-        → AreRowsOf (address_map r.order (2 ^ (8 * (parts_of valued).maus))
+        → AreRunsOf (address_map r.order (2 ^ (8 * (parts_of valued).maus))
         (readings (parts_of valued ∷ []) (planned_bases (parts_of valued ∷ []) plan)).steps) r.runs
     rows_there same order =
-        subst (λ (x : Order × Bases × List Run). AreRowsOf (address_map x.0 (2 ^ (8 * (parts_of valued).maus)) (readings (parts_of valued ∷ []) x.1).steps) x.2)
+        subst (λ (x : Order × Bases × List Run). AreRunsOf (address_map x.0 (2 ^ (8 * (parts_of valued).maus)) (readings (parts_of valued ∷ []) x.1).steps) x.2)
         (let runs_same = sym entries.rows in λ i. (order i, same i, runs_same i))
         rows
 

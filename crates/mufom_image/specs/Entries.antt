@@ -2,7 +2,7 @@
 use Rattle.std.specs.Prelude.{◌≡◌, List, [], ◌∷◌, map, Some, option_map}
 use Rattle.mufom_debug.specs.Marks.{marks_of}
 use Rattle.mufom_sections.specs.declared.section.Section.{Section}
-use Rattle.mufom_meaning.specs.AddressMap.{AreRowsOf, address_map}
+use Rattle.mufom_meaning.specs.AddressMap.{AreRunsOf, address_map}
 use Rattle.mufom_meaning.specs.declared.located.LocatedParts.{LocatedParts}
 use Rattle.mufom_meaning.specs.declared.located.Run.{Run}
 use Rattle.mufom_meaning.specs.Location.{first_header}
@@ -24,4 +24,4 @@ pub record HasEntries (valued : ValuedModule) (sections : List Section) (runs : 
 -- the runs are those of the bytes that the module loads
 abbrev pub AreRuns : ValuedModule → List Run → Type 0
 AreRuns valued runs = let m = parts_of valued in
-    AreRowsOf (address_map m.order (setting_of valued.placed.now).modulus (readings (m ∷ []) (bases_of valued.placed.now)).steps) runs
+    AreRunsOf (address_map m.order (setting_of valued.placed.now).modulus (readings (m ∷ []) (bases_of valued.placed.now)).steps) runs

@@ -10,7 +10,7 @@ use Rattle.std.proofs.Math.Nat.{pow-le-pow_right}
 use Rattle.mufom_loads.specs.declared.load.Load.{Load}
 use Rattle.mufom_place.specs.Facts.{◌or_else◌}
 use Rattle.mufom_meaning.specs.declared.located.Run.{Run}
-use Rattle.mufom_meaning.specs.AddressMap.{Cell, run_cells, AreApart, AreRowsOf, address_map}
+use Rattle.mufom_meaning.specs.AddressMap.{Cell, run_cells, AreApart, AreRunsOf, address_map}
 use Rattle.mufom_meaning.specs.Facts.{LocateFact}
 use Rattle.mufom_meaning.specs.Flat.{Sited}
 use Rattle.mufom_meaning.specs.Steps.{steps_of, readings_after}
@@ -132,7 +132,7 @@ module _ (layout : Layout) (valuation : ValuationAt) (loads : List Load) (high :
       let lowest = subst AreLow (sym e) (low s site h) in
       let none : outcome.1 ≡ None = sym f ∙ i.ended in (
         w.0 ∙ ap (λ all. first_twice [] (cell_addresses all) or_else outcome.1) (sym e) ∙ ap (λ o. o or_else outcome.1) (i.single lowest) ∙ none,
-        subst (λ all. AreRowsOf all runs) (e ∙ w.1 none) i.rows,
+        subst (λ all. AreRunsOf all runs) (e ∙ w.1 none) i.rows,
       )
 
   pub refusal_there : (cells : List Cell) (stop : Option LocateFact) (refusal : ImageRefusal) → cells ≡ outcome.0.cells → stop ≡ outcome.1

@@ -16,7 +16,7 @@ use Rattle.mufom_module.specs.Contents.{any_item}
 use Rattle.mufom_module.specs.Defects.{IsValid, has_bad_size, is_unit_count}
 use Rattle.mufom_meaning.specs.declared.located.Site.TheVariants as sites
 use Rattle.mufom_meaning.specs.declared.located.Run.{Run}
-use Rattle.mufom_meaning.specs.AddressMap.{address_map, AreRowsOf}
+use Rattle.mufom_meaning.specs.AddressMap.{address_map, AreRunsOf}
 use Rattle.mufom_meaning.specs.Bases.{Bases}
 use Rattle.mufom_meaning.specs.Facts.{zero_divisor}
 use Rattle.mufom_meaning.specs.Flat.{Sited, SitedPublic}
@@ -228,7 +228,7 @@ module_image m valid layout bases valuation wide based sectioned ordered runs im
     let there = image s (home_of m) (walked_so m valid placed bases valuation h layout wide based sectioned) in
     let same = all_steps m valid placed bases valuation h in (
       ap (steps_fact s []) same ∙ there.0,
-      subst (λ cells. AreRowsOf cells runs)
+      subst (λ cells. AreRunsOf cells runs)
           (ap (λ order. address_map order s.modulus (step_readings s (steps_of (home_of m) None m.loads))) ordered
           ∙ ap (λ all. address_map m.order s.modulus (step_readings s all)) (sym same)
           ∙ ap (address_map m.order s.modulus) (sym (readings-steps (m ∷ []) placed)))

@@ -15,7 +15,7 @@ use Rattle.mufom_meaning.specs.Walk.{counted_from}
 use Rattle.mufom_image_bytes.specs.declared.chunk.Chunk.{Chunk}
 use Rattle.mufom_image_bytes.specs.Chunks.{chunk_cells, cells_of_chunks, cell_addresses, chunk_addresses, addresses_of, AreConsecutive}
 use Rattle.mufom_image_bytes.specs.Shared.{part_of, shares_from, AreRisingFrom}
-use Rattle.mufom_image_bytes.specs.Spread.{AreSpread, IsAmong, neighbours, first_row, chunk_bytes, bytes_of_chunks, free_after, HasAllBytes}
+use Rattle.mufom_image_bytes.specs.Spread.{AreSpread, IsAmong, neighbours, first_run_length, chunk_bytes, bytes_of_chunks, free_after, HasAllBytes}
 use Rattle.mufom_image_bytes.proofs.ChunkLaws.{cells_from-append, take-all, length_dropped, end_after_start}
 use Rattle.mufom_image_bytes.proofs.WalkSteps.{addresses-from}
 
@@ -118,7 +118,7 @@ run_cells-push (first ∷ runs) run =
     ∙ sym (append_assoc (cells_from first.address first.bytes) (run_cells runs) (cells_from run.address run.bytes))
 
 -- the state if some rows are runs, and the other chunks come after them
-pub record AreRowsSoFar (bytes : List ℕ) (chunks rest : List Chunk) (runs : List Run) : Type 0 where
+pub record AreRunsSoFar (bytes : List ℕ) (chunks rest : List Chunk) (runs : List Run) : Type 0 where
   pub spread : AreSpread (free_after 0 runs) rest
   pub among : All (IsAmong bytes) rest
   pub apart : AreApart 0 runs
@@ -130,9 +130,9 @@ All-dropped P (suc n) [] h = h
 All-dropped P (suc n) (x ∷ xs) h = All-dropped P n xs (All-tail P x xs h)
 
 row_step : (bytes : List ℕ) (chunks : List Chunk) (c : Chunk) (more : List Chunk) (runs : List Run) (run : Run)
-    → AreRowsSoFar bytes chunks (c ∷ more) runs → run.address ≡ c.address
+    → AreRunsSoFar bytes chunks (c ∷ more) runs → run.address ≡ c.address
     → run.bytes ≡ bytes_of_chunks bytes (take (suc (neighbours (c.address + c.count) more)) (c ∷ more))
-    → AreRowsSoFar bytes chunks (drop (neighbours (c.address + c.count) more) more) (runs ++ run ∷ [])
+    → AreRunsSoFar bytes chunks (drop (neighbours (c.address + c.count) more) more) (runs ++ run ∷ [])
 row_step bytes chunks c more runs run h address row =
     let n = neighbours (c.address + c.count) more in
     let next = bytes_of_chunks bytes (take n more) in
@@ -157,13 +157,13 @@ row_step bytes chunks c more runs run h address row =
     }
 
 -- the first row of what is left
-pub next_row : (bytes : List ℕ) (chunks rest after : List Chunk) (runs : List Run) (run : Run) (c : Chunk) → AreRowsSoFar bytes chunks rest runs
-    → 0 < length rest → run.address ≡ (get_or rest 0 c).address → run.bytes ≡ bytes_of_chunks bytes (take (first_row rest) rest) → after
-    ≡ drop (first_row rest) rest
-    → AreRowsSoFar bytes chunks after (runs ++ run ∷ [])
+pub next_row : (bytes : List ℕ) (chunks rest after : List Chunk) (runs : List Run) (run : Run) (c : Chunk) → AreRunsSoFar bytes chunks rest runs
+    → 0 < length rest → run.address ≡ (get_or rest 0 c).address → run.bytes ≡ bytes_of_chunks bytes (take (first_run_length rest) rest) → after
+    ≡ drop (first_run_length rest) rest
+    → AreRunsSoFar bytes chunks after (runs ++ run ∷ [])
 next_row bytes chunks [] after runs run c h some address row left = absurd (omega (arith, some))
 next_row bytes chunks (d ∷ more) after runs run c h some address row left =
-    subst (λ list. AreRowsSoFar bytes chunks list (runs ++ run ∷ [])) (sym left)
+    subst (λ list. AreRunsSoFar bytes chunks list (runs ++ run ∷ [])) (sym left)
     (row_step bytes chunks d more runs run h address row)
 
 -- ---- chunks by address that share none

@@ -3,7 +3,7 @@ use Rattle.std.specs.Prelude.{◌≡◌, ℕ, ◌<◌, ◌^◌, List, [], Option
 use Rattle.mufom_loads.specs.declared.load.Load.{Load}
 use Rattle.mufom_place.specs.Facts.{◌or_else◌}
 use Rattle.mufom_meaning.specs.declared.located.Run.{Run}
-use Rattle.mufom_meaning.specs.AddressMap.{Cell, address_map, AreRowsOf}
+use Rattle.mufom_meaning.specs.AddressMap.{Cell, address_map, AreRunsOf}
 use Rattle.mufom_meaning.specs.Facts.{LocateFact}
 use Rattle.mufom_meaning.specs.Flat.{Sited}
 use Rattle.mufom_meaning.specs.Steps.{steps_of, step_readings}
@@ -25,7 +25,7 @@ AreLow cells = (a : ℕ) → Contains (cell_addresses cells) a → a < 2 ^ 64
 pub record IsImage (cells : List Cell) (stop : Option LocateFact) (runs : List Run) : Type 0 where
   pub ended : stop ≡ None
   pub single : AreLow cells → first_twice [] (cell_addresses cells) ≡ None
-  pub rows : AreRowsOf cells runs
+  pub rows : AreRunsOf cells runs
 
 -- the error is the first address that occurs twice, or otherwise the one that stopped the loads; or it is out of memory
 abbrev pub IsRefusal : List Cell → Option LocateFact → ImageRefusal → Type 0
@@ -36,7 +36,7 @@ IsRefusal cells stop refusals.NoMemory = Unit {0}
 abbrev pub IsImageOf : Layout → ValuationAt → List Load → List Run → Type 0
 IsImageOf layout valuation loads runs =
     (s : Setting) (site : Sited) → AreWalked s site layout valuation loads → let steps = steps_of site None loads in
-    (steps_fact s [] steps ≡ None) × AreRowsOf (address_map layout.order s.modulus (step_readings s steps)) runs
+    (steps_fact s [] steps ≡ None) × AreRunsOf (address_map layout.order s.modulus (step_readings s steps)) runs
 
 -- if the loads are walked with this layout and these values, this is the first error that is found
 abbrev pub IsRefusalOf : Layout → ValuationAt → List Load → ImageRefusal → Type 0

@@ -5,7 +5,7 @@ use Rattle.mufom_module.specs.declared.module.Parts.{Parts}
 use Rattle.mufom_plan.specs.Names.{has_name}
 use Rattle.mufom_place.specs.Facts.{first_some}
 use Rattle.mufom_meaning.specs.declared.located.Run.{Run}
-use Rattle.mufom_meaning.specs.AddressMap.{address_map, AreRowsOf}
+use Rattle.mufom_meaning.specs.AddressMap.{address_map, AreRunsOf}
 use Rattle.mufom_meaning.specs.Bases.{Bases}
 use Rattle.mufom_meaning.specs.Cycles.{IsOnCycle}
 use Rattle.mufom_meaning.specs.Facts.{duplicate}
@@ -41,7 +41,7 @@ pub record IsReady (m : Parts) (placed : Bases) (bases : List ℕ) (valuation : 
 abbrev pub IsImageOfModule : Parts → List ℕ → ValuationAt → List Run → Type 0
 IsImageOfModule m bases valuation runs =
     (placed : Bases) → IsReady m placed bases valuation → let s = setting (m ∷ []) placed in
-    (steps_fact s [] (steps (m ∷ [])) ≡ None) × AreRowsOf (address_map m.order s.modulus (readings (m ∷ []) placed).steps) runs
+    (steps_fact s [] (steps (m ∷ [])) ≡ None) × AreRunsOf (address_map m.order s.modulus (readings (m ∷ []) placed).steps) runs
 
 -- if the module is ready, this is the first error that is found at its steps
 abbrev pub IsRefusalOfModule : Parts → List ℕ → ValuationAt → ImageRefusal → Type 0

@@ -19,9 +19,9 @@ neighbours end [] = 0
 neighbours end (c ∷ chunks) = if c.address == end then suc (neighbours (c.address + c.count) chunks) else 0
 
 -- the number of chunks in the first run
-abbrev pub first_row : List Chunk → ℕ
-first_row [] = 0
-first_row (c ∷ chunks) = suc (neighbours (c.address + c.count) chunks)
+abbrev pub first_run_length : List Chunk → ℕ
+first_run_length [] = 0
+first_run_length (c ∷ chunks) = suc (neighbours (c.address + c.count) chunks)
 
 -- the bytes of a chunk
 abbrev pub chunk_bytes : List ℕ → Chunk → List ℕ

@@ -18,7 +18,7 @@ use crate::layout::Layout;
 use crate::loaded::Loaded;
 use crate::loads::walk_loads;
 use crate::refusal::ImageRefusal;
-use crate::rows::maximal_rows;
+use crate::runs::maximal_runs;
 use crate::stop::LoadStop;
 use crate::values::Values;
 use crate::walk::Walk;
@@ -51,7 +51,7 @@ fn first_stop(chunks: &[Chunk], count: usize, stop: Option<LoadStop>) -> Option<
 
 // The runs of chunks that are in order of address and do not overlap. The bytes of a single chunk are not
 // copied.
-fn rows_of(alloc: Global, chunks: &[Chunk], bytes: Vec<u8>) -> Result<List<Run>, NoMemory>
+fn runs_of(alloc: Global, chunks: &[Chunk], bytes: Vec<u8>) -> Result<List<Run>, NoMemory>
     requires spread { AreSpread 0 chunks.now }
     requires among { All (IsAmong bytes.items) chunks.now }
     requires whole { HasAllBytes (length bytes.items) chunks.now }
@@ -66,12 +66,12 @@ fn rows_of(alloc: Global, chunks: &[Chunk], bytes: Vec<u8>) -> Result<List<Run>,
         })?;
         return Ok(runs);
     }
-    maximal_rows(alloc, chunks, &bytes)
+    maximal_runs(alloc, chunks, &bytes)
 }
 
 /// Returns the maximal runs of loaded bytes. The error is the first address that is loaded twice, or
 /// otherwise the one that stopped the loads.
-pub fn rows_of_loaded(
+pub fn runs_of_loaded(
     alloc: Global,
     loaded: Loaded,
     stop: Option<LoadStop>,
@@ -84,7 +84,7 @@ pub fn rows_of_loaded(
     sort_by_address(&mut chunks);
     match first_stop(&chunks, bytes.len(), stop) {
         Some(stop) => Err(ImageRefusal::Stopped(stop)),
-        None => Ok(rows_of(alloc, &chunks, bytes)?),
+        None => Ok(runs_of(alloc, &chunks, bytes)?),
     }
 }
 
@@ -109,5 +109,5 @@ pub fn image_of<V: Values>(
         counters: _counters,
         loaded,
     } = walk;
-    rows_of_loaded(alloc, loaded, stop)
+    runs_of_loaded(alloc, loaded, stop)
 }

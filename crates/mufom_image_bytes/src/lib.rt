@@ -16,12 +16,12 @@ mod loads;
 mod module_image;
 mod places;
 mod refusal;
-mod rows;
+mod runs;
 mod stop;
 mod values;
 mod walk;
 
-pub use image::{image_of, rows_of_loaded};
+pub use image::{image_of, runs_of_loaded};
 pub use layout::Layout;
 pub use loaded::{Loaded, nothing_loaded};
 pub use module_image::image_of_module;

@@ -1,6 +1,5 @@
-//! Worked rows of `mufom_image` as tests: each is a module and a plan, and the result of locating the
-//! module by the plan. The expected values were not taken from the program. They state nothing that a
-//! contract states. Two more are rows of `mufom_image_bytes`: a module with a base for its section,
+//! Tests of `mufom_image`: each locates a module by a plan, and compares the result with one that was
+//! worked out by hand. They state nothing that a contract states. Two more are tests of `mufom_image_bytes`: a module with a base for its section,
 //! and the bytes that its loads put at addresses.
 //!
 //! The crate has tests alone, so that the libraries are proved without them.

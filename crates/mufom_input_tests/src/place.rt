@@ -74,7 +74,7 @@ fn takes_commons(regions: &[Region]) -> bool
 }
 
 /// How many bits an address has, the plan, the sections, how many of them at the end are commons,
-/// and what placing them comes to.
+/// and the bases or the error that are expected.
 type Case = (
     u32,
     &'static str,
@@ -84,7 +84,7 @@ type Case = (
 );
 
 /// A case that is not well formed fails.
-fn comes_to(rt: &impl Abort, alloc: Global, case: &Case) {
+fn gives(rt: &impl Abort, alloc: Global, case: &Case) {
     let (width, plan, rows, commons, want) = case;
     let (width, commons) = (*width, *commons);
     let plan = read_plan(alloc, plan.as_bytes()).expect(rt, "a plan");
@@ -100,7 +100,7 @@ fn comes_to(rt: &impl Abort, alloc: Global, case: &Case) {
         Ok(bases) => format!(in alloc; "{:?}", bases.as_slice()).expect(rt, "memory"),
         Err(refusal) => format!(in alloc; "{refusal:?}").expect(rt, "memory"),
     };
-    assert_eq!(rt; text.as_str(), *want, "{want}");
+    assert_eq!(rt; text.as_str(), *want, "{width} bits, {plan:?}");
 }
 
 // Sections that have bases.
@@ -225,7 +225,7 @@ static PLACED: [Case; 13] = [
 #[test]
 fn sections_are_placed_by_the_plan(rt: HostRuntime) {
     for case in &PLACED {
-        comes_to(&rt, rt.alloc(), case);
+        gives(&rt, rt.alloc(), case);
     }
     place_refusals_are_facts();
 }
@@ -387,6 +387,6 @@ static REFUSED: [Case; 18] = [
 #[test]
 fn sections_that_do_not_fit_are_refused(rt: HostRuntime) {
     for case in &REFUSED {
-        comes_to(&rt, rt.alloc(), case);
+        gives(&rt, rt.alloc(), case);
     }
 }

@@ -6,8 +6,8 @@ use mufom_plan::{NameList, PlanRefusal, read_plan};
 use std::alloc::Global;
 use std::process::Abort;
 
-// A document comes to this: the plan that it states, or why it states none.
-fn comes_to(rt: &impl Abort, alloc: Global, document: &str, want: &str) {
+// Checks that a document gives this text: the plan that it states, or the error in it.
+fn gives(rt: &impl Abort, alloc: Global, document: &str, want: &str) {
     let text = match read_plan(alloc, document.as_bytes()) {
         Ok(plan) => format!(in alloc; "{plan:?}").expect(rt, "memory"),
         Err(refusal) => format!(in alloc; "{refusal:?}").expect(rt, "memory"),
@@ -65,12 +65,12 @@ static PLANS: [(&str, &str); 8] = [
 #[test]
 fn documents_state_plans(rt: HostRuntime) {
     for (document, want) in &PLANS {
-        comes_to(&rt, rt.alloc(), document, want);
+        gives(&rt, rt.alloc(), document, want);
     }
 }
 
 static REFUSED: [(&str, &str); 30] = [
-    // Documents that have not the shape of a plan.
+    // Documents that do not have the shape of a plan.
     ("[[", "Syntax"),
     ("region = []\nregion = []", "Syntax"),
     ("regions = []", "Shape { region: None, field: Extra }"),
@@ -187,7 +187,7 @@ static REFUSED: [(&str, &str); 30] = [
 #[test]
 fn documents_are_refused_for_the_first_thing_that_is_wrong(rt: HostRuntime) {
     for (document, want) in &REFUSED {
-        comes_to(&rt, rt.alloc(), document, want);
+        gives(&rt, rt.alloc(), document, want);
     }
 }
 

@@ -111,7 +111,7 @@ fn command_text(rt: &impl Abort, alloc: Global, command: &Command) -> String {
     text
 }
 
-// What words come to: a command with all that it gives, or why they are none.
+// The command that the arguments give, as text, or the first error in them.
 fn answer(rt: &impl Abort, alloc: Global, words: &[String]) -> String {
     assert!(rt; words.len() < 1 << 32);
     match read_words(alloc, words) {
@@ -120,8 +120,8 @@ fn answer(rt: &impl Abort, alloc: Global, words: &[String]) -> String {
     }
 }
 
-// The words of a line come to this.
-fn comes_to(rt: &impl Abort, alloc: Global, line: &str, want: &str) {
+// Checks that the arguments in a line give this text.
+fn gives(rt: &impl Abort, alloc: Global, line: &str, want: &str) {
     let words = words_of(rt, alloc, line);
     let text = answer(rt, alloc, &words);
     assert_eq!(rt; text.as_str(), want, "{line}");
@@ -183,7 +183,7 @@ static COMMANDS: [(&str, &str); 27] = [
 #[test]
 fn lines_give_commands(rt: HostRuntime) {
     for (line, want) in &COMMANDS {
-        comes_to(&rt, rt.alloc(), line, want);
+        gives(&rt, rt.alloc(), line, want);
     }
     trees_are_spelled();
     commands_are_sound();
@@ -274,7 +274,7 @@ static FAULTS: [(&str, &str); 69] = [
 #[test]
 fn lines_are_refused_for_their_first_fault(rt: HostRuntime) {
     for (line, want) in &FAULTS {
-        comes_to(&rt, rt.alloc(), line, want);
+        gives(&rt, rt.alloc(), line, want);
     }
 }
 
@@ -308,9 +308,9 @@ fn files_are_at_most_1024(rt: HostRuntime) {
     let line = long_line(&rt, rt.alloc(), "check", &[(" a", 1024)]);
     assert_eq!(rt; counts(&rt, rt.alloc(), &line), (1024, 1024));
     let line = long_line(&rt, rt.alloc(), "check", &[(" a", 1025)]);
-    comes_to(&rt, rt.alloc(), &line, "TooManyFiles(1025)");
+    gives(&rt, rt.alloc(), &line, "TooManyFiles(1025)");
     let line = long_line(&rt, rt.alloc(), "show", &[(" a", 1025)]);
-    comes_to(&rt, rt.alloc(), &line, "Usage(FileCount)");
+    gives(&rt, rt.alloc(), &line, "Usage(FileCount)");
 }
 
 #[test]
@@ -328,5 +328,5 @@ fn groups_are_at_most_64_deep(rt: HostRuntime) {
         "dump",
         &[(" [", 65), (" a", 1), (" ]", 65)],
     );
-    comes_to(&rt, rt.alloc(), &line, "TooDeep(65)");
+    gives(&rt, rt.alloc(), &line, "TooDeep(65)");
 }

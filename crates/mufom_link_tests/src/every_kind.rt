@@ -88,7 +88,7 @@ const ALL_SECTIONS: &[u8] = b"\
     \xE6\x06\xC3\x01t\xE2\xD3\x06\x28";
 
 // `b` is 21 and `c` is 22, and their values go by their sections, L 4 and L 6. The common is one in all three, 0B,
-// and `b` meets the other reference.
+// and `b` defines the name of the other reference.
 const ALL_NAMES: &[u8] = b"\
     \xE8\x20\x01a\xF1\xC9\x20\x00\x07\x03\xE2\xC9\x20\xCC\x02\x04\xA5\
     \xE8\x21\x01b\xF1\xC9\x21\x00\x07\x03\xE2\xC9\x21\xCC\x04\x04\xA5\
@@ -141,7 +141,7 @@ const ALL_DEBUG: &[u8] = b"\
     \xF9\
     \xF9";
 
-// Section 2 is 4 in the second module, and 6 in the third. I 21 is `b`, which meets the second reference of each.
+// Section 2 is 4 in the second module, and 6 in the third. I 21 is `b`, which the second reference of each names.
 const ALL_LOADS: &[u8] = b"\
     \xE5\x02\
     \xE2\xD0\x02\xD2\x02\x02\xA5\

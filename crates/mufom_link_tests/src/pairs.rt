@@ -190,7 +190,7 @@ const NOTED: Records<'static> = Records {
     trailer: b"",
 };
 
-// The weak reference `q`, which is 1 where nothing meets it.
+// The weak reference `q`, with the default 1.
 const WEAK_ONE: Records<'static> = Records {
     descriptor: FOUR,
     extension: b"",
@@ -202,7 +202,7 @@ const WEAK_ONE: Records<'static> = Records {
     trailer: b"",
 };
 
-// The weak reference `q`, which is 2 where nothing meets it.
+// The weak reference `q`, with the default 2.
 const WEAK_TWO: Records<'static> = Records {
     descriptor: FOUR,
     extension: b"",

@@ -15,7 +15,7 @@ fn add(rt: &impl Abort, external: &mut Vec<u8>, records: &[u8]) {
     external.extend_from_slice(records).expect(rt, "memory");
 }
 
-// Adds publics of these names, each worth 0. A name is its own index.
+// Adds publics of these names, each with the value 0. A name is its own index.
 fn add_publics(rt: &impl Abort, external: &mut Vec<u8>, names: &[u8]) {
     for name in names {
         add(rt, external, &[0xE8, *name, 1, *name, 0xE2, 0xC9, *name, 0]);
@@ -77,7 +77,7 @@ fn selects(
     let all = modules_with(rt, alloc, members);
     assert!(rt; all.len() < 1 << 32);
     let chosen = select(alloc, &roots, &all).expect(rt, "memory");
-    assert_eq!(rt; chosen.as_slice(), wanted);
+    assert_eq!(rt; chosen.as_slice(), wanted, "{members:?}");
 }
 
 const NEEDS_F: Names<'static> = [b"", b"f", b""];

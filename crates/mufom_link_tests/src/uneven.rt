@@ -3,8 +3,8 @@
 
 use crate::files::{FOUR, Records, links_to};
 
-// One section and the public `one`, which is its base. The second module meets the reference `three`, and the third
-// one `five`; there is a field of each.
+// One section and the public `one`, which is its base. The reference `three` is defined in the second module,
+// and `five` in the third; there is a field of each.
 const FIRST: Records<'static> = Records {
     descriptor: FOUR,
     extension: b"",
@@ -23,8 +23,8 @@ const FIRST: Records<'static> = Records {
 };
 
 // Three sections and two publics: `three` of a section, and `four` of a section, that public and a reference. The
-// first module meets the reference `one`, nothing `lost`, which is 3 then, and the third module `six`, which asks for
-// four bytes. There are two debug names and a value of the second, and in the data a counter, a field of `lost`, and
+// reference `one` is defined in the first module, `lost`, with the default 3, in none, and `six`, which requests four
+// bytes, in the third. There are two debug names and a value of the second, and in the data a counter, a field of `lost`, and
 // repeats of a byte and a field of the counter and `six`.
 const SECOND: Records<'static> = Records {
     descriptor: FOUR,
@@ -47,8 +47,8 @@ const SECOND: Records<'static> = Records {
 };
 
 // Two sections and three publics: `five` of a section, `six` of a section and a reference, and `seven` of these two.
-// Nothing meets the references `lost`, which is that of the second module, and `gone`; the second module meets `four`
-// and the first one `one`. A module block holds a name, a function and a part of the second section; the function
+// No module defines the references `lost`, which is that of the second module, and `gone`; the second module defines
+// `four` and the first one `one`. A module block holds a name, a function and a part of the second section; the function
 // holds a part of the first section with a name, a note of it, and a value of the name before. The start is of a
 // section and `four`.
 const THIRD: Records<'static> = Records {
@@ -94,9 +94,9 @@ const SECTIONS: &[u8] = b"\
     \xE6\x05\xC3\x02c0\xE2\xD3\x05\x10\
     \xE6\x06\xC3\x02c1\xE2\xD3\x06\x10";
 
-// The publics are 20 to 25 in their order. In `four` the section moves by 1, `three` is 21, and `one`, 20, meets the
-// reference; in `five` and `six` the section moves by 4, and `four`, 22, meets the reference; `seven` is the sum of 23
-// and 24. The two references that nothing meets are 0B and 0C.
+// The publics are 20 to 25 in their order. In `four` the section moves by 1, `three` is 21, and the reference is
+// `one`, 20; in `five` and `six` the section moves by 4, and the reference is `four`, 22; `seven` is the sum of 23
+// and 24. The two references that no module defines are 0B and 0C.
 const NAMES: &[u8] = b"\
     \xE8\x20\x03one\xE2\xC9\x20\xD2\x01\
     \xE8\x21\x05three\xE2\xC9\x21\xD2\x02\x08\xA5\
@@ -140,7 +140,7 @@ const LOADS: &[u8] = b"\
     \xE5\x06\
     \xE4\xBE\xD8\x0B\x90\x04\xBF";
 
-// The start is that of the third module: its section moves by 4, and `four` meets the reference.
+// The start is that of the third module: its section moves by 4, and `four` defines its name.
 const ALL: Records<'static> = Records {
     descriptor: FOUR,
     extension: b"",

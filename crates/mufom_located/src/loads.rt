@@ -4,7 +4,7 @@ ghost use Rattle.std.specs.Prelude.{◌≡◌, ◌≤◌, ◌<◌, ◌++◌, ◌
 ghost use Rattle.std.specs.List.{enumerate_from};
 ghost use Rattle.mufom_loads.specs.declared.load.Item.TheVariants.{Literal};
 ghost use Rattle.mufom_loads.specs.declared.load.Load.TheVariants.{One};
-ghost use Rattle.mufom_meaning.specs.Absolute.{chunks, literal_limit, loads_between, loads_of_bytes, row_loads, run_within as row_within};
+ghost use Rattle.mufom_meaning.specs.Absolute.{chunks, literal_limit, loads_between, loads_of_bytes, loads_of_run, run_within as row_within};
 ghost use Rattle.mufom_meaning.specs.Absolute.{section_loads, section_loads_at, with_section};
 ghost use Rattle.mufom_located.specs.Located.{AreRows};
 ghost use Rattle.mufom_located.specs.Opened.{opened, opens};
@@ -41,7 +41,7 @@ fn push_row(
     address: u64,
     bytes: &[u8],
 ) -> Result<(), NoMemory>
-    ensures { OnOk result (loads.new ≡ loads.old ++ row_loads section (record { address = address; bytes = bytes.now })) }
+    ensures { OnOk result (loads.new ≡ loads.old ++ loads_of_run section (record { address = address; bytes = bytes.now })) }
 {
     let value = Postfix::constant(alloc, address)?;
     loads.push(Load::SetPc { section, value })?;

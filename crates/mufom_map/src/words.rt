@@ -13,7 +13,7 @@ use mufom_text::Output;
 // The upper-case hexadecimal digits.
 const DIGITS: &[u8; 16] = b"0123456789ABCDEF";
 
-/// A word, and after it a number of up to 128 bits in decimal.
+/// Puts a word and, right after it, a number of up to 128 bits in decimal.
 pub fn counted<K: Output>(out: &mut K, word: &[u8], value: u128)
     ensures { K.takes out.old out.new (counted word.now value) }
 {

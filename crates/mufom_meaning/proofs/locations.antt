@@ -1,6 +1,6 @@
 -- That locations and selections exist and are single.
 pub mod CellHome
-pub mod CellRows
+pub mod CellRuns
 pub mod ChangedMarks
 pub mod Exists
 pub mod OwnAddresses

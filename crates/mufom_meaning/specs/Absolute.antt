@@ -32,13 +32,13 @@ abbrev pub run_within : ℕ → ℕ → Run → Run
 run_within from to run = record { address = max from run.address; bytes = drop (from - run.address) (take (to - run.address) run.bytes) }
 
 -- the loads of a run: the program counter is set to the address of the run, and literals follow
-abbrev pub row_loads : ℕ → Run → List Load
-row_loads section row = SetPc section (number row.address) ∷ map (λ chunk. One (Literal chunk)) (chunks literal_limit row.bytes)
+abbrev pub loads_of_run : ℕ → Run → List Load
+loads_of_run section run = SetPc section (number run.address) ∷ map (λ chunk. One (Literal chunk)) (chunks literal_limit run.bytes)
 
 -- the same loads, or none for a run without bytes
 abbrev pub loads_of_bytes : ℕ → Run → List ℕ → List Load
-loads_of_bytes section row [] = []
-loads_of_bytes section row (byte ∷ bytes) = row_loads section row
+loads_of_bytes section run [] = []
+loads_of_bytes section run (byte ∷ bytes) = loads_of_run section run
 
 -- the loads of a section that lies from one address up to another
 abbrev pub loads_between : ℕ → List Run → ℕ → ℕ → List Load

@@ -47,6 +47,6 @@ AreApart from [] = Unit {0}
 AreApart from (run ∷ runs) = (from ≤ run.address) × (0 < length run.bytes) × AreApart (run.address + length run.bytes + 1) runs
 
 -- the runs have exactly the cells of the address map, and each is as long as possible
-pub record AreRowsOf (cells : List Cell) (runs : List Run) : Type 0 where
+pub record AreRunsOf (cells : List Cell) (runs : List Run) : Type 0 where
   pub apart : AreApart 0 runs
   pub same : (cell : Cell) → Contains cells cell ↔ Contains (run_cells runs) cell

@@ -17,7 +17,7 @@ use Rattle.mufom_meaning.specs.Readings.{readings, PublicReading, HeadReading, m
 use Rattle.mufom_meaning.specs.Readings.{MarkReading, begin_reading, end_reading, name_reading, note_reading, value_reading}
 use Rattle.mufom_meaning.specs.LinkAnswer.{link_answer}
 use Rattle.mufom_meaning.specs.LocateAnswer.{locate_answer}
-use Rattle.mufom_meaning.specs.AddressMap.{AreRowsOf, address_map}
+use Rattle.mufom_meaning.specs.AddressMap.{AreRunsOf, address_map}
 
 -- a section after placing: absolute, and with the base that is at its position
 abbrev pub placed_section : List ℕ → ℕ × Section → Section
@@ -75,4 +75,4 @@ pub record IsLocation (ms : List Parts) (plan : Plan) (r : LocatedParts) : Type 
   pub publics : map located_public r.publics ≡ (readings ms (planned_bases ms plan)).publics
   pub start : map (λ v. Some v) (option_to_list r.start) ≡ (readings ms (planned_bases ms plan)).starts
   pub debug : map (λ mark. Some mark) (marks_of r.debug) ≡ map located_mark (readings ms (planned_bases ms plan)).debug
-  pub rows : AreRowsOf (address_map r.order (2 ^ width ms) (readings ms (planned_bases ms plan)).steps) r.runs
+  pub rows : AreRunsOf (address_map r.order (2 ^ width ms) (readings ms (planned_bases ms plan)).steps) r.runs

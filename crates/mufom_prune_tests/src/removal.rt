@@ -76,7 +76,7 @@ fn program_parts(rt: &impl Abort, alloc: Global) -> Parts {
 fn module_of(rt: &impl Abort, parts: Parts) -> Module {
     match assemble(parts) {
         Ok(module) => module,
-        Err(_) => panic!(rt; "a module without a defect"),
+        Err(_) => panic!(rt; "the parts have a defect"),
     }
 }
 
@@ -87,14 +87,14 @@ fn program(rt: &impl Abort, alloc: Global) -> Module {
 fn has_section(rt: &impl Abort, parts: &Parts, place: usize, name: &[u8]) {
     match parts.sections.get(place) {
         Some(section) => assert_eq!(rt; section.name.as_slice(), name, "{place}"),
-        None => panic!(rt; "a section"),
+        None => panic!(rt; "no section {place}"),
     }
 }
 
 fn has_public(rt: &impl Abort, parts: &Parts, place: usize, name: &[u8]) {
     match parts.names.publics.get(place) {
         Some(public) => assert_eq!(rt; public.name.as_slice(), name, "{place}"),
-        None => panic!(rt; "a public"),
+        None => panic!(rt; "no public {place}"),
     }
 }
 
@@ -106,7 +106,7 @@ fn has_field(rt: &impl Abort, parts: &Parts, place: usize, section: u32) {
             value.equals(&base),
             "load {place}"
         ),
-        _ => panic!(rt; "a field"),
+        _ => panic!(rt; "load {place} is not a field"),
     }
 }
 
@@ -127,7 +127,7 @@ fn what_main_does_not_need_is_gone(rt: HostRuntime) {
             // The section `c` is now the second one.
             has_field(&rt, parts, 1, 1);
         }
-        Err(_) => panic!(rt; "a known name"),
+        Err(_) => panic!(rt; "main is refused"),
     }
 }
 
@@ -156,7 +156,7 @@ fn what_the_start_mentions_is_kept(rt: HostRuntime) {
             assert_eq!(rt; parts.loads.len(), 6, "loads");
             assert!(rt; parts.start.is_some(), "the start");
         }
-        Err(_) => panic!(rt; "a known name"),
+        Err(_) => panic!(rt; "main is refused"),
     }
 }
 
@@ -184,6 +184,6 @@ fn a_section_with_a_base_is_kept_and_marked(rt: HostRuntime) {
                 "publics"
             );
         }
-        Err(_) => panic!(rt; "a known name"),
+        Err(_) => panic!(rt; "main is refused"),
     }
 }

@@ -72,9 +72,12 @@ impl Reader {
     pub fn feed(&mut self, chunk: &[u8]) -> Result<(), ReadStop>
         // The reader has then read this chunk too.
         ensures read { (stream : List ℕ) → HasRead self.old stream → HasRead self.new (stream ++ chunk.now) }
+        // It returns the error that stopped the reader, if one did.
         ensures answer { result ≡ answer_of (reader_stop self.new) }
+        // A reader that was stopped before does not change.
         ensures stays { IsSome (reader_stop self.old) → self.new ≡ self.old }
         ensures reads_debug { reads_debug_of self.new ≡ reads_debug_of self.old }
+        // It returns exactly the first error in the stream so far, unless memory ran out.
         ensures refused { (offset : ℕ) (reason : Reason) (stream : List ℕ) → HasRead self.old stream → reader_stop self.new ≢ Some ReadStop.NoMemory
             → (result ≡ Err (ReadStop.Refused (record { offset = offset; reason = reason }))) ↔ IsRefusedAt (reads_debug_of self.old)
             (stream ++ chunk.now) offset reason }

@@ -6,7 +6,7 @@
 
 ghost use Rattle.std.specs.Prelude.{◌<◌};
 
-use crate::streams::{comes_to, read, refused};
+use crate::streams::{gives, read, refused};
 use mufom_module::Module;
 use mufom_numbers::Reason;
 use std::alloc::Global;
@@ -292,8 +292,8 @@ fn files_of_a_toolchain_are_modules(rt: HostRuntime) {
 // Asserts that the file, read whole and byte by byte, has this error at this offset.
 fn is_refused(rt: &impl Abort, alloc: Global, file: &[u8], offset: u64, reason: Reason) {
     let wanted = refused(offset, reason);
-    comes_to(rt, alloc, file, 65_536, true, wanted);
-    comes_to(rt, alloc, file, 1, true, wanted);
+    gives(rt, alloc, file, 65_536, true, wanted);
+    gives(rt, alloc, file, 1, true, wanted);
 }
 
 #[test]

@@ -168,7 +168,7 @@ pub(crate) fn text_of(rt: &impl Abort, alloc: Global, stream: &[u8], size: usize
 }
 
 /// Asserts that reading a stream in chunks of `size` bytes results in this error, or in a module for `None`.
-pub(crate) fn comes_to(
+pub(crate) fn gives(
     rt: &impl Abort,
     alloc: Global,
     stream: &[u8],
@@ -189,15 +189,15 @@ pub(crate) fn comes_to(
 // Asserts that a stream, read whole and in chunks of one and of seven bytes, has this error at this offset.
 fn is_refused(rt: &impl Abort, alloc: Global, stream: &[u8], offset: u64, reason: Reason) {
     let wanted = refused(offset, reason);
-    comes_to(rt, alloc, stream, 1000, true, wanted);
-    comes_to(rt, alloc, stream, 1, true, wanted);
-    comes_to(rt, alloc, stream, 7, true, wanted);
+    gives(rt, alloc, stream, 1000, true, wanted);
+    gives(rt, alloc, stream, 1, true, wanted);
+    gives(rt, alloc, stream, 7, true, wanted);
 }
 
 fn is_module(rt: &impl Abort, alloc: Global, stream: &[u8]) {
-    comes_to(rt, alloc, stream, 1000, true, None);
-    comes_to(rt, alloc, stream, 1, true, None);
-    comes_to(rt, alloc, stream, 3, false, None);
+    gives(rt, alloc, stream, 1000, true, None);
+    gives(rt, alloc, stream, 1, true, None);
+    gives(rt, alloc, stream, 3, false, None);
 }
 
 // ---- streams with an error
@@ -445,7 +445,7 @@ fn modules_are_read_whole_and_byte_by_byte(rt: HostRuntime) {
 
 fn is_truncated(rt: &impl Abort, alloc: Global, stream: &[u8]) {
     let wanted = refused(stream.len() as u64, Reason::Truncated);
-    comes_to(rt, alloc, stream, 1000, true, wanted);
+    gives(rt, alloc, stream, 1000, true, wanted);
 }
 
 #[test]
@@ -568,8 +568,8 @@ fn the_byte_beyond_the_limit_is_refused(rt: HostRuntime) {
 fn a_debug_part_is_passed_over(rt: HostRuntime) {
     let alloc = rt.alloc();
     let stream = with_part(&rt, alloc, DEBUG, b"\x00\x89\xFF");
-    comes_to(&rt, alloc, &stream, 1000, false, None);
-    comes_to(&rt, alloc, &stream, 1, false, None);
+    gives(&rt, alloc, &stream, 1000, false, None);
+    gives(&rt, alloc, &stream, 1, false, None);
     is_refused(&rt, alloc, &stream, 100, Reason::BadRecord);
 }
 

@@ -12,7 +12,7 @@ use Rattle.mufom_meaning.specs.declared.located.Run.{Run}
 use Rattle.mufom_meaning.specs.AddressMap.{Cell, cells_from, run_cells, AreApart}
 use Rattle.mufom_meaning.specs.Facts.{loaded_twice}
 use Rattle.mufom_meaning.specs.Walk.{has_number, first_twice}
-use Rattle.mufom_meaning.proofs.locations.CellRows.{AreRising, run_cells-rise, rows_are_single}
+use Rattle.mufom_meaning.proofs.locations.CellRuns.{AreRising, run_cells-rise, rows_are_single}
 use Rattle.mufom_image_bytes.specs.Chunks.{cell_addresses}
 use Rattle.mufom_image_bytes.proofs.ChunkLaws.{cells_from-append}
 use Rattle.mufom_titxt.specs.Lines.{Line, blank_line, address_line, byte_line, end_line, lines_of, has_bytes, line_of, line_of_words}

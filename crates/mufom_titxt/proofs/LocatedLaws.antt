@@ -23,7 +23,7 @@ use Rattle.mufom_meaning.specs.Steps.{Step, item_step, steps, steps_of, counter}
 use Rattle.mufom_meaning.specs.Values.{Setting, setting}
 use Rattle.mufom_meaning.specs.Walk.{base_number, size_at}
 use Rattle.mufom_meaning.proofs.absolute.Walk.{GoodWalk}
-use Rattle.mufom_meaning.proofs.locations.CellRows.{rows_are_single}
+use Rattle.mufom_meaning.proofs.locations.CellRuns.{rows_are_single}
 use Rattle.mufom_image_bytes.proofs.ChunkLaws.{cells_from-append}
 use Rattle.mufom_titxt.specs.TextModules.{run_section, literals, loads_from, text_parts, EndBelow, HaveModule}
 

@@ -38,7 +38,7 @@ use Rattle.mufom_meaning.specs.Values.{Setting, setting}
 use Rattle.mufom_meaning.proofs.Choices.{some_same}
 use Rattle.mufom_meaning.specs.Staging.{AreValid}
 use Rattle.mufom_meaning.proofs.Members.{In, In-map, In-Contains}
-use Rattle.mufom_meaning.proofs.locations.CellRows.{HaveOwnAddresses}
+use Rattle.mufom_meaning.proofs.locations.CellRuns.{HaveOwnAddresses}
 use Rattle.mufom_meaning.proofs.locations.Exists.{locations_exist}
 use Rattle.mufom_meaning.proofs.facts.AllAnswers.{answers_are_facts}
 use Rattle.mufom_meaning.proofs.absolute.Cells.{apart_own}

@@ -14,7 +14,7 @@ use Rattle.mufom_meaning.specs.AddressMap.{Cell, cells_from, run_cells, AreApart
 use Rattle.mufom_meaning.proofs.Choices.{equal_numbers, some_same}
 use Rattle.std.proofs.lemmas.List.Elements.{All-contains}
 use Rattle.mufom_meaning.proofs.Members.{Contains-In, In, In-Contains, In-append, In-left, In-map, In-right}
-use Rattle.mufom_meaning.proofs.locations.CellRows.{AreRising, rising-In, run_cells-rise}
+use Rattle.mufom_meaning.proofs.locations.CellRuns.{AreRising, rising-In, run_cells-rise}
 use Rattle.mufom_titxt.specs.Lines.{Line, blank_line, address_line, byte_line, end_line, address_of, alone, byte_of, bytes_of, ended_lines, has_bytes}
 use Rattle.mufom_titxt.specs.Lines.{line_of, line_of_words, lines_of, without_return, words_of}
 use Rattle.mufom_titxt.specs.Lines.{hex_digit, hex_after}

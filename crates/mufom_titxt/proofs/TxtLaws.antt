@@ -4,7 +4,7 @@ use Rattle.std.specs.List.{Contains}
 use Rattle.std.proofs.lemmas.List.Elements.{All-contains}
 use Rattle.mufom_place.specs.Facts.{◌or_else◌}
 use Rattle.mufom_meaning.specs.declared.located.Run.{Run}
-use Rattle.mufom_meaning.specs.AddressMap.{Cell, AreRowsOf}
+use Rattle.mufom_meaning.specs.AddressMap.{Cell, AreRunsOf}
 use Rattle.mufom_meaning.specs.Facts.{LocateFact, loaded_twice}
 use Rattle.mufom_meaning.specs.Walk.{first_twice}
 use Rattle.mufom_image_bytes.specs.Chunks.{cell_addresses}
@@ -63,10 +63,10 @@ module _ (text : List ℕ) (width modulus : ℕ) (same : modulus ≡ 2 ^ width) 
 
   -- if nothing stopped it either, the text is one of the rows
   pub accepted_text : (runs : List Run) → first_twice [] (cell_addresses cells) ≡ None
-      → None ≡ stop_read modulus 0 nothing_stated (map line_of (lines_of text)) → AreRowsOf cells runs → IsTxtOf text width runs
+      → None ≡ stop_read modulus 0 nothing_stated (map line_of (lines_of text)) → AreRunsOf cells runs → IsTxtOf text width runs
   accepted_text runs once whole rows = record {
     accepted = refused_by_stop once ∙ sym whole;
-    rows = subst (λ these. AreRowsOf these runs) (read ∙ cells_read-whole modulus lines 0 nothing_stated (sym whole)) rows;
+    rows = subst (λ these. AreRunsOf these runs) (read ∙ cells_read-whole modulus lines 0 nothing_stated (sym whole)) rows;
   }
 
 -- ---- the stop that names an address with two bytes

@@ -4,7 +4,7 @@ use Rattle.std.specs.Prelude.{option_map, if◌then◌else◌}
 use Rattle.std.specs.List.{All}
 use Rattle.mufom_place.specs.Facts.{◌or_else◌}
 use Rattle.mufom_meaning.specs.declared.located.Run.{Run}
-use Rattle.mufom_meaning.specs.AddressMap.{Cell, cells_from, AreRowsOf}
+use Rattle.mufom_meaning.specs.AddressMap.{Cell, cells_from, AreRunsOf}
 use Rattle.mufom_meaning.specs.Walk.{has_number, first_twice}
 use Rattle.mufom_titxt.specs.declared.refusal.TxtReason.{TxtReason}
 use Rattle.mufom_titxt.specs.declared.refusal.TxtReason.TheVariants.{BadLine, NoAddress, Beyond, Twice, AfterEnd, NoEnd}
@@ -157,4 +157,4 @@ txt_cells text = cells_after nothing_stated (map line_of (lines_of text))
 -- the text has no error, and the runs are the maximal runs of its bytes, in increasing order
 pub record IsTxtOf (text : List ℕ) (width : ℕ) (runs : List Run) : Type 0 where
   pub accepted : txt_refusal text width ≡ None
-  pub rows : AreRowsOf (txt_cells text) runs
+  pub rows : AreRunsOf (txt_cells text) runs

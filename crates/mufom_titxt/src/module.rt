@@ -80,7 +80,11 @@ fn state_module(alloc: Global, parts: &mut Parts, runs: &[Run], maus: u8) -> Res
 }
 
 /// Returns the module of runs, with an absolute section `txt` for each of them. An address has `maus`
-/// addressable units of eight bits.
+/// addressable units of eight bits, 1 to 8.
+///
+/// The runs must be as [`read_txt`](crate::read_txt) returns them: maximal, in increasing order, below the
+/// end of the address space, and at most 33,554,432 with at most as many bytes in all. The only error is
+/// out of memory.
 pub fn text_module(alloc: Global, runs: &[Run], maus: u8) -> Result<Module, NoMemory>
     requires low { 1 ≤ maus }
     requires high { maus ≤ 8 }

@@ -17,7 +17,7 @@ pub struct Store {
     pub loaded: Loaded,
     /// An address whose bytes are counted.
     pub watched: Option<u64>,
-    /// The number of bytes that it got.
+    /// How many bytes the text has put at `watched` so far. The count stops at the greatest `u32`.
     pub hits: u32,
 }
 

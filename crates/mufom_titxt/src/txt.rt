@@ -2,7 +2,7 @@
 
 ghost use Rattle.std.specs.Prelude.{◌≡◌, ◌+◌, ◌-◌, ◌*◌, ◌≤◌, ◌<◌, ◌^◌, [], length, Ok, Err, IfOk, IfErr, None, Some, map};
 ghost use Rattle.mufom_numbers.specs.declared.limits.TheConstants.{MOST_FILE_BYTES};
-ghost use Rattle.mufom_meaning.specs.AddressMap.{AreRowsOf};
+ghost use Rattle.mufom_meaning.specs.AddressMap.{AreRunsOf};
 ghost use Rattle.mufom_meaning.specs.Facts.{loaded_twice};
 ghost use Rattle.mufom_meaning.specs.Walk.{first_twice};
 ghost use Rattle.mufom_image_bytes.specs.Chunks.{cell_addresses};
@@ -22,7 +22,7 @@ use crate::lines::next_line;
 use crate::reading::Reading;
 use crate::refusal::{TxtReason, TxtRefusal, TxtStop};
 use crate::store::Store;
-use mufom_image_bytes::{ImageRefusal, LoadStop, Loaded, rows_of_loaded};
+use mufom_image_bytes::{ImageRefusal, LoadStop, Loaded, runs_of_loaded};
 use mufom_meaning::Run;
 use mufom_numbers::{List, NoMemory};
 use std::alloc::Global;
@@ -51,10 +51,10 @@ fn rows(alloc: Global, loaded: Loaded) -> Result<List<Run>, RowsStop>
     requires tiled { IsTiled loaded }
     requires low { AreLow (loaded_cells loaded) }
     ensures once { IfOk result (λ runs. first_twice [] (cell_addresses (loaded_cells loaded)) ≡ None) }
-    ensures rows { IfOk result (λ runs. AreRowsOf (loaded_cells loaded) runs) }
+    ensures rows { IfOk result (λ runs. AreRunsOf (loaded_cells loaded) runs) }
     ensures twice { IfErr result (IsTwice (first_twice [] (cell_addresses (loaded_cells loaded)))) }
 {
-    match rows_of_loaded(alloc, loaded, None) {
+    match runs_of_loaded(alloc, loaded, None) {
         Ok(runs) => Ok(runs),
         Err(ImageRefusal::NoMemory) => Err(RowsStop::NoMemory),
         Err(ImageRefusal::Stopped(stop)) => Err(RowsStop::Twice(twice_address(stop))),
@@ -136,7 +136,7 @@ fn modulus_of(maus: u8) -> u128
 
 /// Reads a TI-TXT text. Returns its bytes in maximal runs of consecutive addresses, in increasing order. An
 /// address has `maus` addressable units of eight bits. The runs meet the conditions of
-/// [`text_module`](crate::text_module).
+/// [`text_module`](crate::text_module). The text has at most 67,108,864 bytes, and `maus` is 1 to 8.
 ///
 /// Errors: `Refused` with the first line that is wrong and the reason; `NoMemory`.
 pub fn read_txt(alloc: Global, text: &[u8], maus: u8) -> Result<List<Run>, TxtStop>

@@ -8,6 +8,9 @@ use crate::page::{MOST_BYTES, Page};
 use mufom_host::{Failed, Sink, write_all};
 
 /// Writes the address and the bytes of a run to the file that is being written. Does not allocate.
+///
+/// The run has at least one byte and ends at 2^64 at most. `Failed` is returned only if a write failed and
+/// the count of failed writes rose; a prefix of the text may then be in the file.
 pub fn write_run<K: Sink>(address: u64, bytes: &[u8], sink: &mut K) -> Result<(), Failed>
     requires some { 0 < length bytes.now }
     requires within { address + length bytes.now ≤ 2 ^ 64 }

@@ -198,7 +198,7 @@ fn is_not_done(rt: &impl Abort, host: &MemHost, line: &str, text: &str) {
 }
 
 // A run ends with the status and the text of its row.
-fn comes_to(rt: &impl Abort, alloc: Global, case: &Case) {
+fn gives(rt: &impl Abort, alloc: Global, case: &Case) {
     let line = case.line;
     let mut list = file_list(rt, alloc, case.files);
     if !case.first.is_empty() {
@@ -220,7 +220,7 @@ fn comes_to(rt: &impl Abort, alloc: Global, case: &Case) {
 /// Each of these runs ends with the status and the text of its row.
 pub(crate) fn all_come_to(rt: &impl Abort, alloc: Global, cases: &[Case]) {
     for case in cases {
-        comes_to(rt, alloc, case);
+        gives(rt, alloc, case);
     }
 }
 

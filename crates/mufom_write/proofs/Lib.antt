@@ -26,4 +26,4 @@ pub mod NamingNames
 pub mod NamingDebug
 pub mod NamingLoads
 pub mod NamingFile
-mod RowsOfBytes
+mod RunsOfBytes

@@ -12,10 +12,10 @@ first_address [] = 0
 first_address (run ∷ runs) = run.address
 
 -- the bytes from the address `end` to the end of the last run: those of the runs, and `fill` at each address between them
-abbrev pub rows_from : ℕ → ℕ → List Run → List ℕ
-rows_from fill end [] = []
-rows_from fill end (run ∷ runs) = (replicate (run.address - end) fill ++ run.bytes) ++ rows_from fill (run_end run) runs
+abbrev pub runs_from : ℕ → ℕ → List Run → List ℕ
+runs_from fill end [] = []
+runs_from fill end (run ∷ runs) = (replicate (run.address - end) fill ++ run.bytes) ++ runs_from fill (run_end run) runs
 
 -- The bytes of the runs, in the order of their addresses, with `fill` at each address between them.
 abbrev pub raw_image : ℕ → List Run → List ℕ
-raw_image fill runs = rows_from fill (first_address runs) runs
+raw_image fill runs = runs_from fill (first_address runs) runs

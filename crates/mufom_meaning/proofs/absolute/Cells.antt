@@ -8,7 +8,7 @@ use Rattle.mufom_meaning.specs.declared.located.Run.{Run}
 use Rattle.mufom_meaning.specs.AddressMap.{Cell, cells_from, run_cells, AreApart}
 use Rattle.mufom_meaning.specs.Absolute.{run_within}
 use Rattle.mufom_meaning.proofs.Members.{In, In-right, In-flat_map, flat_map-In}
-use Rattle.mufom_meaning.proofs.locations.CellRows.{AreRising, HaveOwnAddresses, rising-In, run_cells-rise}
+use Rattle.mufom_meaning.proofs.locations.CellRuns.{AreRising, HaveOwnAddresses, rising-In, run_cells-rise}
 use Rattle.mufom_meaning.proofs.locations.OwnAddresses.{row_own, own_append}
 
 -- ---- cells of bytes, by their places

@@ -18,10 +18,10 @@ use Rattle.mufom_meaning.specs.Counts.{step_length, lengths_of_steps}
 use Rattle.mufom_meaning.specs.Fields.{number_bytes, field_number, field_bytes}
 use Rattle.mufom_meaning.specs.Steps.{Step, counter_step, item_step, counter, item_reading, readings_after}
 use Rattle.mufom_meaning.specs.AddressMap.{Cell, cells_from, field_cells, step_cells, address_map}
-use Rattle.mufom_meaning.specs.Absolute.{literal_limit, chunks, run_within, row_loads, loads_of_bytes, loads_between, with_section, section_loads_at}
+use Rattle.mufom_meaning.specs.Absolute.{literal_limit, chunks, run_within, loads_of_run, loads_of_bytes, loads_between, with_section, section_loads_at}
 use Rattle.mufom_meaning.specs.Absolute.{section_loads}
 use Rattle.mufom_meaning.proofs.Members.{In}
-use Rattle.mufom_meaning.proofs.locations.CellRows.{HaveOwnAddresses}
+use Rattle.mufom_meaning.proofs.locations.CellRuns.{HaveOwnAddresses}
 use Rattle.mufom_meaning.proofs.locations.OwnAddresses.{length-number_bytes, length-in_byte_order}
 use Rattle.mufom_meaning.proofs.absolute.Cells.{cells_within, cells_at, section_cells, absolute_cells}
 use Rattle.mufom_meaning.proofs.absolute.Walk.{together, chunks_together}
@@ -38,7 +38,7 @@ literals_length (p ∷ ps) =
     sum_by-cons length_loaded (One (Literal p)) (map (λ p. One (Literal p)) ps) ∙ ap (λ n. length p + n) (literals_length ps)
     ∙ sym (length-append p (together ps))
 
-row_length : (n : ℕ) (row : Run) → lengths_loaded (row_loads n row) ≡ length row.bytes
+row_length : (n : ℕ) (row : Run) → lengths_loaded (loads_of_run n row) ≡ length row.bytes
 row_length n row =
     sum_by-cons length_loaded (SetPc n (number row.address)) (map (λ p. One (Literal p)) (chunks literal_limit row.bytes))
     ∙ (let none = literals_length (chunks literal_limit row.bytes) in let all =

@@ -25,7 +25,7 @@ use Rattle.mufom_meaning.specs.Flat.{Sited, SitedPublic, sited_from, name_count,
 use Rattle.mufom_meaning.specs.Values.{Setting, value}
 use Rattle.mufom_meaning.specs.Readings.{PublicReading, public_reading, head_reading, mark_reading}
 use Rattle.mufom_meaning.specs.Location.{placed_section, located_public, located_mark, located_head}
-use Rattle.mufom_meaning.specs.Absolute.{absolute_public, chunks_within, literal_limit, chunks, run_within, row_loads, loads_of_bytes, loads_between}
+use Rattle.mufom_meaning.specs.Absolute.{absolute_public, chunks_within, literal_limit, chunks, run_within, loads_of_run, loads_of_bytes, loads_between}
 use Rattle.mufom_meaning.specs.Absolute.{with_section, section_loads_at, section_loads}
 use Rattle.mufom_meaning.specs.AddressMap.{cells_from}
 use Rattle.mufom_meaning.proofs.Choices.{of_lt}
@@ -200,7 +200,7 @@ literals-lighter size (suc n) (byte ∷ bytes) =
     let all = sym (length-append (take size bytes) (drop size bytes)) ∙ ap length (take-append-drop size bytes) in
     omega (arith, a, later, all)
 
-row-lighter : (n : ℕ) (row : Run) → 1 ≤ length row.bytes → sum_by load_weight (row_loads n row) ≤ 31 * length row.bytes
+row-lighter : (n : ℕ) (row : Run) → 1 ≤ length row.bytes → sum_by load_weight (loads_of_run n row) ≤ 31 * length row.bytes
 row-lighter n row some =
     let a = sum_by-cons load_weight (SetPc n (number row.address)) (map (λ chunk. One (Literal chunk)) (chunks literal_limit row.bytes)) in
     let own = literals-lighter 65534 (length row.bytes) row.bytes in

@@ -21,7 +21,7 @@ use Rattle.mufom_meaning.specs.Facts.{load_outside, loaded_twice, overflow}
 use Rattle.mufom_meaning.specs.Stands.{StandsIn, put_back, IsStepAfter, HasZeroDivisor, StandsInWalk}
 use Rattle.mufom_meaning.proofs.Choices.{some_same}
 use Rattle.mufom_meaning.proofs.Members.{In, In-at, map-In, In-append, In-left, get_some}
-use Rattle.mufom_meaning.proofs.locations.CellRows.{HaveOwnAddresses}
+use Rattle.mufom_meaning.proofs.locations.CellRuns.{HaveOwnAddresses}
 use Rattle.mufom_meaning.proofs.absolute.Cells.{at_cell, own_apart, own_after}
 use Rattle.mufom_meaning.proofs.absolute.Walk.{IsPlainItem, IsPlainWalk}
 

@@ -13,7 +13,7 @@ use Rattle.mufom_module.specs.Defects.{counts_of, names_outside, has_bad_place, 
 use Rattle.mufom_module.specs.Defects.{has_other_counter, counter_of}
 use Rattle.mufom_module.specs.declared.module.Parts.{Parts}
 use Rattle.mufom_meaning.specs.declared.located.Run.{Run}
-use Rattle.mufom_meaning.specs.Absolute.{literal_limit, chunks_within, chunks, run_within, row_loads, loads_of_bytes, loads_between, with_section}
+use Rattle.mufom_meaning.specs.Absolute.{literal_limit, chunks_within, chunks, run_within, loads_of_run, loads_of_bytes, loads_between, with_section}
 use Rattle.mufom_meaning.specs.Absolute.{section_loads_at, section_loads}
 use Rattle.mufom_meaning.proofs.Choices.{two_false, not_lt, not_le}
 use Rattle.mufom_meaning.proofs.Members.{In, map-In, flat_map-In}
@@ -33,7 +33,7 @@ chunk_short size (suc n) (x ∷ xs) p (inl e) = let long = length-take size (x �
 chunk_short size (suc n) (x ∷ xs) p (inr h) = chunk_short size n (drop size (x ∷ xs)) p h
 
 module _ (k n : ℕ) (less : n < k) where
-  row_plain : (row : Run) (load : Load) → In load (row_loads n row) → IsPlainLoad k load
+  row_plain : (row : Run) (load : Load) → In load (loads_of_run n row) → IsPlainLoad k load
   row_plain row load (inl e) = subst (IsPlainLoad k) e (less, (row.address, refl))
   row_plain row load (inr h) =
       let there = map-In (λ chunk. One (Literal chunk)) load (chunks literal_limit row.bytes) h in

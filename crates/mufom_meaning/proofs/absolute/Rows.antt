@@ -32,7 +32,7 @@ use Rattle.mufom_meaning.proofs.Tests.{enumerate_get, get_enumerate}
 use Rattle.mufom_meaning.proofs.facts.Answers.{or_else_none}
 use Rattle.mufom_meaning.proofs.facts.AllAnswers.{answers_are_facts}
 use Rattle.mufom_meaning.proofs.facts.StepCounts.{counts_agree}
-use Rattle.mufom_meaning.proofs.locations.CellRows.{HaveOwnAddresses}
+use Rattle.mufom_meaning.proofs.locations.CellRuns.{HaveOwnAddresses}
 use Rattle.mufom_meaning.proofs.locations.CellHome.{HasHome, cell_home}
 use Rattle.mufom_meaning.proofs.values.ValueLaws.{no_link_fact, no_fact_before}
 use Rattle.mufom_meaning.proofs.absolute.Cells.{LiesIn, absolute_cells, section_cells, section_cell, cell_section, apart_own, absolute_own, separate}

@@ -17,7 +17,7 @@ use Rattle.mufom_meaning.specs.Values.{Setting, value}
 use Rattle.mufom_meaning.specs.Steps.{Step, counter_step, item_step, steps_of, counter, readings_after}
 use Rattle.mufom_meaning.specs.Walk.{base_number, size_at}
 use Rattle.mufom_meaning.specs.AddressMap.{Cell, cells_from, literal_cells, address_map}
-use Rattle.mufom_meaning.specs.Absolute.{literal_limit, chunks_within, chunks, run_within, row_loads, loads_of_bytes, loads_between, with_section}
+use Rattle.mufom_meaning.specs.Absolute.{literal_limit, chunks_within, chunks, run_within, loads_of_run, loads_of_bytes, loads_between, with_section}
 use Rattle.mufom_meaning.specs.Absolute.{section_loads_at, section_loads}
 use Rattle.mufom_meaning.proofs.Members.{In}
 use Rattle.mufom_meaning.proofs.values.Causes.{within_is}
@@ -146,7 +146,7 @@ module _ (order : Order) (s : Setting) (site : Sited) where
 
   row_good : (n : ℕ) (row : Run) → 0 < length row.bytes → Fits n row → (loads : List Load) (cells : List Cell)
       → ((e : List Step) → GoodWalk e (steps_of site (Some n) loads) cells)
-      → (earlier : List Step) → GoodWalk earlier (steps_of site (Some n) (row_loads n row ++ loads)) (cells_from row.address row.bytes ++ cells)
+      → (earlier : List Step) → GoodWalk earlier (steps_of site (Some n) (loads_of_run n row ++ loads)) (cells_from row.address row.bytes ++ cells)
   row_good n row some f loads cells after earlier =
       let section = site.first_section + n in
       let ps = chunks literal_limit row.bytes in
@@ -194,7 +194,7 @@ module _ (order : Order) (s : Setting) (site : Sited) where
         let row = run_within base (base + size) run in
         let long : length row.bytes ≡ suc (length bytes) = ap length e in
         let some : 0 < length row.bytes = omega (arith, long) in
-        subst (λ bs. GoodWalk earlier (steps_of site (Some n) (row_loads n row ++ loads)) (cells_from row.address bs ++ cells)) e
+        subst (λ bs. GoodWalk earlier (steps_of site (Some n) (loads_of_run n row ++ loads)) (cells_from row.address bs ++ cells)) e
         (row_good n row some (row_fits n base size h run some) loads cells after earlier)
 
   runs_good : (n base size : ℕ) → IsSettled n base size → (runs : List Run) → (loads : List Load) (cells : List Cell)

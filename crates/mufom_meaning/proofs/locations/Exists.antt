@@ -27,7 +27,7 @@ use Rattle.mufom_meaning.specs.Staging.{AreValid}
 use Rattle.mufom_meaning.specs.Valued.{HaveValues}
 use Rattle.mufom_meaning.proofs.facts.AllAnswers.{answers_are_facts}
 use Rattle.mufom_meaning.proofs.Members.{In, map-In, flat_map-In}
-use Rattle.mufom_meaning.proofs.locations.CellRows.{rows_exist}
+use Rattle.mufom_meaning.proofs.locations.CellRuns.{rows_exist}
 use Rattle.mufom_meaning.proofs.locations.ChangedMarks.{changed, changed_block, changed_items, marks_of-append, blocks_of-append}
 use Rattle.mufom_meaning.proofs.locations.OwnAddresses.{own_addresses}
 use Rattle.mufom_meaning.proofs.values.ValueLaws.{placed, no_link_fact, no_fact_before, values_exist, public_valued, start_valued, debug_valued, head_located}

@@ -17,7 +17,7 @@ use Rattle.mufom_meaning.specs.Walk.{counted_from, addresses_at, loaded_addresse
 use Rattle.mufom_meaning.specs.Facts.{loaded_twice}
 use Rattle.mufom_meaning.specs.Stands.{put_back, IsStepAfter, StandsInWalk}
 use Rattle.mufom_meaning.proofs.Members.{In, In-append, In-left, In-right, In-map, at-In}
-use Rattle.mufom_meaning.proofs.locations.CellRows.{HaveOwnAddresses}
+use Rattle.mufom_meaning.proofs.locations.CellRuns.{HaveOwnAddresses}
 
 pub length-number_bytes : (size v : ℕ) → length (number_bytes size v) ≡ size
 length-number_bytes zero v = refl

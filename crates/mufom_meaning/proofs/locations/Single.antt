@@ -7,11 +7,11 @@ use Rattle.mufom_meaning.specs.Placed.{planned_bases}
 use Rattle.mufom_meaning.specs.declared.located.PublicValue.{PublicValue}
 use Rattle.mufom_meaning.specs.Flat.{width}
 use Rattle.mufom_meaning.specs.Readings.{readings, PublicReading}
-use Rattle.mufom_meaning.specs.AddressMap.{AreRowsOf, address_map}
+use Rattle.mufom_meaning.specs.AddressMap.{AreRunsOf, address_map}
 use Rattle.mufom_meaning.specs.Location.{Header, located_public}
 use Rattle.mufom_meaning.specs.LocationLaws.{LocationIsSingle}
 use Rattle.mufom_meaning.proofs.Choices.{some_same}
-use Rattle.mufom_meaning.proofs.locations.CellRows.{rows_are_single}
+use Rattle.mufom_meaning.proofs.locations.CellRuns.{rows_are_single}
 
 head_same : {A : Type 0} (x y : A) (xs ys : List A) → ◌≡◌ {A = List A} (x ∷ xs) (y ∷ ys) → x ≡ y
 head_same x y xs ys e = cc
@@ -50,8 +50,8 @@ location_is_single ms plan r q h k =
     let start : r.start ≡ q.start = start_same r.start q.start (h.start ∙ sym k.start) in
     let marks : marks_of r.debug ≡ marks_of q.debug = map_same (λ mark. Some mark) some_same (marks_of r.debug) (marks_of q.debug) (h.debug ∙ sym k.debug) in
     let debug : r.debug ≡ q.debug = same_items r.debug q.debug marks in
-    let rows : AreRowsOf (address_map q.order (2 ^ width ms) (readings ms (planned_bases ms plan)).steps) r.runs
-    = subst (λ order. AreRowsOf (address_map order (2 ^ width ms) (readings ms (planned_bases ms plan)).steps) r.runs) order h.rows in
+    let rows : AreRunsOf (address_map q.order (2 ^ width ms) (readings ms (planned_bases ms plan)).steps) r.runs
+    = subst (λ order. AreRunsOf (address_map order (2 ^ width ms) (readings ms (planned_bases ms plan)).steps) r.runs) order h.rows in
     let runs : r.runs ≡ q.runs = rows_are_single (address_map q.order (2 ^ width ms) (readings ms (planned_bases ms plan)).steps) r.runs q.runs rows k.rows in
     λ i. record {
       processor = (first i).0;

@@ -15,7 +15,7 @@ use Rattle.mufom_meaning.specs.Values.{value_within}
 use Rattle.mufom_meaning.specs.Steps.{counter}
 use Rattle.mufom_meaning.specs.LocateAnswer.{locate_answer}
 use Rattle.mufom_meaning.specs.declared.located.LocatedParts.{LocatedParts}
-use Rattle.mufom_meaning.specs.AddressMap.{Cell, cells_from, AreRowsOf}
+use Rattle.mufom_meaning.specs.AddressMap.{Cell, cells_from, AreRunsOf}
 use Rattle.mufom_meaning.specs.Facts.{mismatch, duplicate_start}
 use Rattle.mufom_meaning.specs.LinkAnswer.{link_answer}
 use Rattle.mufom_meaning.specs.Location.{IsLocation}
@@ -23,7 +23,7 @@ use Rattle.mufom_meaning.specs.Absolute.{absolute_of, no_regions}
 use Rattle.mufom_meaning.proofs.rows.Built.{a_module, absolute_at, public_of, strong, region_at, plan_of, image_of}
 
 -- cells that are one row
-one_row : (address byte : ℕ) (bytes : List ℕ) → AreRowsOf (cells_from address (byte ∷ bytes)) (record { address = address; bytes = byte ∷ bytes } ∷ [])
+one_row : (address byte : ℕ) (bytes : List ℕ) → AreRunsOf (cells_from address (byte ∷ bytes)) (record { address = address; bytes = byte ∷ bytes } ∷ [])
 one_row address byte bytes = record { apart = (omega arith, omega arith, tt); same = λ cell. (λ h. same h, λ h. back h) } where
   same : {cell : Cell} → Contains (cells_from address (byte ∷ bytes)) cell → Contains (cells_from address (byte ∷ bytes) ++ []) cell
   same {cell} h = subst (λ cells. Contains cells cell) (sym (append-nil (cells_from address (byte ∷ bytes)))) h

@@ -12,7 +12,7 @@ use Rattle.mufom_meaning.specs.Location.{located_mark, Header, first_header, pla
 use Rattle.mufom_meaning.specs.Staging.{NameStays}
 use Rattle.mufom_meaning.specs.LinkAnswer.{link_answer}
 use Rattle.mufom_meaning.specs.LocateAnswer.{locate_answer}
-use Rattle.mufom_meaning.specs.AddressMap.{address_map, AreRowsOf}
+use Rattle.mufom_meaning.specs.AddressMap.{address_map, AreRunsOf}
 use Rattle.mufom_meaning.specs.Placed.{planned_bases}
 use Rattle.mufom_meaning.proofs.Placed.{same_extended, same_base_list, same_planned}
 
@@ -50,7 +50,7 @@ module _ (ms leaves : List Parts) (plan : Plan) (link : link_answer ms ≡ link_
     publics = h.publics ∙ ap (λ (x : Readings). x.publics) there;
     start = h.start ∙ ap (λ (x : Readings). x.starts) there;
     debug = h.debug ∙ ap (λ (x : Readings). map located_mark x.debug) there;
-    rows = subst (λ cells. AreRowsOf cells r.runs) (λ i. address_map r.order (2 ^ widths i) (there i).steps) h.rows;
+    rows = subst (λ cells. AreRunsOf cells r.runs) (λ i. address_map r.order (2 ^ widths i) (there i).steps) h.rows;
   }
 
 -- the first module of a list in which a group is linked

@@ -11,18 +11,18 @@ pub returns-clause-image : goal.returns-clause-image
 returns-clause-image g c =
     let valuation = g.V.Values.meaning c.args.values.now c.args.layout.now.width in
     let e = c.in_ok-walk.ensures.outcome in
-    IfOk-weaker c.rows_of_loaded.result _ _
+    IfOk-weaker c.runs_of_loaded.result _ _
     (λ runs image. image_there c.args.layout.now valuation c.args.loads.now c.requires.high (loaded_cells c.in_ok-walk.walk.loaded)
     (option_map fact_of c.in_ok-walk.stop) runs
     (ap (λ (o : Outcome). o.0.cells) e) (ap (λ (o : Outcome). o.1) e) image)
-    c.rows_of_loaded.ensures.image
+    c.runs_of_loaded.ensures.image
 
 pub returns-clause-refusal : goal.returns-clause-refusal
 returns-clause-refusal g c =
     let valuation = g.V.Values.meaning c.args.values.now c.args.layout.now.width in
     let e = c.in_ok-walk.ensures.outcome in
-    IfErr-weaker c.rows_of_loaded.result _ _
+    IfErr-weaker c.runs_of_loaded.result _ _
     (λ refusal there. refusal_there c.args.layout.now valuation c.args.loads.now c.requires.high (loaded_cells c.in_ok-walk.walk.loaded)
     (option_map fact_of c.in_ok-walk.stop) refusal
     (ap (λ (o : Outcome). o.0.cells) e) (ap (λ (o : Outcome). o.1) e) there)
-    c.rows_of_loaded.ensures.refusal
+    c.runs_of_loaded.ensures.refusal

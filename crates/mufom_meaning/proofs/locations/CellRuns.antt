@@ -1,11 +1,11 @@
--- The maximal rows of an address map: there are such rows if no address occurs twice, and only one list of them.
+-- The maximal runs of an address map: there are such runs if no address occurs twice, and only one list of them.
 use Rattle.std.proofs.Common.{◌≡◌, ℕ, suc, ◌+◌, ◌<◌, ◌≤◌, ◌↔◌, inl, inr, List, [], ◌∷◌, ◌++◌, length, Bool, true, false, refl, sym, ◌∙◌, ap, subst}
 use Rattle.std.proofs.Common.{arith, rules}
 use Rattle.std.specs.Prelude.{◌==◌, nat_lt, if◌then◌else◌}
 use Rattle.mufom_meaning.specs.declared.located.Run.{Run}
 use Rattle.mufom_meaning.proofs.Choices.{equal_numbers, of_lt, of_not_lt}
 use Rattle.mufom_meaning.proofs.Members.{In, In-Contains, Contains-In}
-use Rattle.mufom_meaning.specs.AddressMap.{Cell, cells_from, run_cells, AreApart, AreRowsOf}
+use Rattle.mufom_meaning.specs.AddressMap.{Cell, cells_from, run_cells, AreApart, AreRunsOf}
 
 -- cells by rising address, none below the number
 abbrev pub AreRising : ℕ → List Cell → Type 0
@@ -60,9 +60,9 @@ in_prefix a byte [] = record { address = a; bytes = byte ∷ [] } ∷ []
 in_prefix a byte (run ∷ runs) =
     if run.address == suc a then record { address = a; bytes = byte ∷ run.bytes } ∷ runs else record { address = a; bytes = byte ∷ [] } ∷ run ∷ runs
 
-abbrev rows_of : List Cell → List Run
-rows_of [] = []
-rows_of (cell ∷ cells) = in_prefix cell.0 cell.1 (rows_of cells)
+abbrev runs_of : List Cell → List Run
+runs_of [] = []
+runs_of (cell ∷ cells) = in_prefix cell.0 cell.1 (runs_of cells)
 
 unequal_numbers : (m n : ℕ) → (m == n) ≡ false → m ≡ n → ⊥
 unequal_numbers m n e f = let same : (m == n) ≡ true = search rules in cc
@@ -77,9 +77,9 @@ in_prefix-cells a byte (run ∷ runs) = by_case (run.address == suc a) refl wher
       ap (λ n. (a, byte) ∷ (cells_from n run.bytes ++ run_cells runs)) (sym same)
   by_case false e = refl
 
-rows_of-cells : (cells : List Cell) → run_cells (rows_of cells) ≡ cells
-rows_of-cells [] = refl
-rows_of-cells (cell ∷ cells) = in_prefix-cells cell.0 cell.1 (rows_of cells) ∙ ap (λ rest. cell ∷ rest) (rows_of-cells cells)
+runs_of-cells : (cells : List Cell) → run_cells (runs_of cells) ≡ cells
+runs_of-cells [] = refl
+runs_of-cells (cell ∷ cells) = in_prefix-cells cell.0 cell.1 (runs_of cells) ∙ ap (λ rest. cell ∷ rest) (runs_of-cells cells)
 
 in_prefix-apart : (from a byte : ℕ) (runs : List Run) → from ≤ a → AreApart (suc a) runs → AreApart from (in_prefix a byte runs)
 in_prefix-apart from a byte [] low h = let some : 0 < 1 = omega arith in (low, some, tt)
@@ -99,9 +99,9 @@ in_prefix-apart from a byte (run ∷ runs) low h = by_case (run.address == suc a
         above : suc a ≤ run.address → (run.address ≡ suc a → ⊥) → a + 1 + 1 ≤ run.address
         above h n = omega (arith, h, n)
 
-rows_of-apart : (from : ℕ) (cells : List Cell) → AreRising from cells → AreApart from (rows_of cells)
-rows_of-apart from [] h = tt
-rows_of-apart from (cell ∷ cells) h = in_prefix-apart from cell.0 cell.1 (rows_of cells) h.0 (rows_of-apart (suc cell.0) cells h.1)
+runs_of-apart : (from : ℕ) (cells : List Cell) → AreRising from cells → AreApart from (runs_of cells)
+runs_of-apart from [] h = tt
+runs_of-apart from (cell ∷ cells) h = in_prefix-apart from cell.0 cell.1 (runs_of cells) h.0 (runs_of-apart (suc cell.0) cells h.1)
 
 -- rows are the rows of their cells
 apart-lower : (a b : ℕ) (runs : List Run) → b ≤ a → AreApart a runs → AreApart b runs
@@ -124,21 +124,21 @@ in_prefix-near a byte bytes runs =
     ap (λ (b : Bool). if b then record { address = a; bytes = byte ∷ bytes } ∷ runs
     else record { address = a; bytes = byte ∷ [] } ∷ record { address = suc a; bytes = bytes } ∷ runs) same
 
-rows-run : (a byte : ℕ) (bytes : List ℕ) (runs : List Run) (rest : List Cell) → rows_of rest ≡ runs → AreApart (a + suc (length bytes) + 1) runs
-    → rows_of (cells_from a (byte ∷ bytes) ++ rest) ≡ record { address = a; bytes = byte ∷ bytes } ∷ runs
+rows-run : (a byte : ℕ) (bytes : List ℕ) (runs : List Run) (rest : List Cell) → runs_of rest ≡ runs → AreApart (a + suc (length bytes) + 1) runs
+    → runs_of (cells_from a (byte ∷ bytes) ++ rest) ≡ record { address = a; bytes = byte ∷ bytes } ∷ runs
 rows-run a byte [] runs rest e h = ap (in_prefix a byte) e ∙ in_prefix-far a byte runs h
 rows-run a byte (next ∷ bytes) runs rest e h =
     let end : a + suc (suc (length bytes)) + 1 ≡ suc a + suc (length bytes) + 1 = omega arith in
     ap (in_prefix a byte) (rows-run (suc a) next bytes runs rest e (subst (λ n. AreApart n runs) end h)) ∙ in_prefix-near a byte (next ∷ bytes) runs
 
-rows_of-run_cells : (from : ℕ) (runs : List Run) → AreApart from runs → rows_of (run_cells runs) ≡ runs
-rows_of-run_cells from [] h = refl
-rows_of-run_cells from (run ∷ runs) h = by_bytes run.bytes refl (rows_of-run_cells (run.address + length run.bytes + 1) runs h.2) where
-  by_bytes : (bytes : List ℕ) → run.bytes ≡ bytes → rows_of (run_cells runs) ≡ runs → rows_of (cells_from run.address run.bytes ++ run_cells runs) ≡ run ∷ runs
+runs_of-run_cells : (from : ℕ) (runs : List Run) → AreApart from runs → runs_of (run_cells runs) ≡ runs
+runs_of-run_cells from [] h = refl
+runs_of-run_cells from (run ∷ runs) h = by_bytes run.bytes refl (runs_of-run_cells (run.address + length run.bytes + 1) runs h.2) where
+  by_bytes : (bytes : List ℕ) → run.bytes ≡ bytes → runs_of (run_cells runs) ≡ runs → runs_of (cells_from run.address run.bytes ++ run_cells runs) ≡ run ∷ runs
   by_bytes [] e later = absurd (let none : length run.bytes ≡ 0 = ap length e in omega (arith, h.1, none))
   by_bytes (byte ∷ bytes) e later =
       let there : AreApart (run.address + suc (length bytes) + 1) runs = subst (λ bs. AreApart (run.address + length bs + 1) runs) e h.2 in
-      ap (λ bs. rows_of (cells_from run.address bs ++ run_cells runs)) e ∙ rows-run run.address byte bytes runs (run_cells runs) later there
+      ap (λ bs. runs_of (cells_from run.address bs ++ run_cells runs)) e ∙ rows-run run.address byte bytes runs (run_cells runs) later there
       ∙ (λ i. record { address = run.address; bytes = sym e i } ∷ runs)
 
 -- the cells of rows rise
@@ -159,12 +159,12 @@ run_cells-rise from (run ∷ runs) h =
     (rising-append run.address run.bytes (run_cells runs) (rising-lower (run.address + length run.bytes + 1) (run.address + length run.bytes)
     (run_cells runs) less later))
 
--- the maximal rows of an address map are one list
-pub rows_are_single : (cells : List Cell) (runs other : List Run) → AreRowsOf cells runs → AreRowsOf cells other → runs ≡ other
+-- the maximal runs of an address map are one list
+pub rows_are_single : (cells : List Cell) (runs other : List Run) → AreRunsOf cells runs → AreRunsOf cells other → runs ≡ other
 rows_are_single cells runs other h k =
-    sym (rows_of-run_cells 0 runs h.apart) ∙ ap rows_of (rising-equal 0 (run_cells runs) (run_cells other) (run_cells-rise 0 runs h.apart)
+    sym (runs_of-run_cells 0 runs h.apart) ∙ ap runs_of (rising-equal 0 (run_cells runs) (run_cells other) (run_cells-rise 0 runs h.apart)
     (run_cells-rise 0 other k.apart) same)
-    ∙ rows_of-run_cells 0 other k.apart where
+    ∙ runs_of-run_cells 0 other k.apart where
       same : (cell : Cell) → In cell (run_cells runs) ↔ In cell (run_cells other)
       same cell = (
         λ m. Contains-In cell (run_cells other) ((k.same cell).0 ((h.same cell).1 (In-Contains cell (run_cells runs) m))),
@@ -237,16 +237,16 @@ in_place-rises [] h = tt
 in_place-rises (cell ∷ cells) h = let low : 0 ≤ cell.0 = omega arith in
     placed_cell-rises cell 0 (in_place cells) low (in_place-rises cells h.1) (λ other m. h.0 other (in_place-In other cells m))
 
--- if no two cells have one address there are maximal rows
-pub rows_exist : (cells : List Cell) → HaveOwnAddresses cells → (runs : List Run) × AreRowsOf cells runs
+-- if no two cells have one address there are maximal runs
+pub rows_exist : (cells : List Cell) → HaveOwnAddresses cells → (runs : List Run) × AreRunsOf cells runs
 rows_exist cells h =
-    let back = rows_of-cells (in_place cells) in (
-      rows_of (in_place cells),
+    let back = runs_of-cells (in_place cells) in (
+      runs_of (in_place cells),
       record {
-        apart = rows_of-apart 0 (in_place cells) (in_place-rises cells h);
+        apart = runs_of-apart 0 (in_place cells) (in_place-rises cells h);
         same = λ cell. (
-          λ m. In-Contains cell (run_cells (rows_of (in_place cells))) (subst (In cell) (sym back) (In-in_place cell cells (Contains-In cell cells m))),
-          λ m. In-Contains cell cells (in_place-In cell cells (subst (In cell) back (Contains-In cell (run_cells (rows_of (in_place cells))) m))),
+          λ m. In-Contains cell (run_cells (runs_of (in_place cells))) (subst (In cell) (sym back) (In-in_place cell cells (Contains-In cell cells m))),
+          λ m. In-Contains cell cells (in_place-In cell cells (subst (In cell) back (Contains-In cell (run_cells (runs_of (in_place cells))) m))),
         );
       },
     )

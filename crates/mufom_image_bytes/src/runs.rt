@@ -4,7 +4,7 @@ ghost use Rattle.std.specs.Prelude.{◌≡◌, ◌+◌, ◌≤◌, length, IfOk}
 ghost use Rattle.std.specs.List.{All};
 ghost use Rattle.mufom_meaning.specs.AddressMap.{run_cells, AreApart};
 ghost use Rattle.mufom_image_bytes.specs.Chunks.{end_of_chunk, cells_of_chunks};
-ghost use Rattle.mufom_image_bytes.specs.Spread.{AreSpread, IsAmong, first_row, bytes_of_chunks};
+ghost use Rattle.mufom_image_bytes.specs.Spread.{AreSpread, IsAmong, first_run_length, bytes_of_chunks};
 
 use crate::chunk::Chunk;
 use mufom_meaning::Run;
@@ -20,7 +20,7 @@ fn end_of(chunk: &Chunk) -> u128
 
 // The number of chunks in the first run: the first chunk, and those that begin where the one before ends.
 fn run_length(chunks: &[Chunk]) -> usize
-    ensures count { result ≡ first_row chunks.now }
+    ensures count { result ≡ first_run_length chunks.now }
     ensures within { result ≤ length chunks.now }
 {
     let mut end: u128 = 0;
@@ -69,7 +69,7 @@ fn run_bytes(alloc: Global, chunks: &[Chunk], bytes: &[u8]) -> Result<Bytes, NoM
 }
 
 /// Returns the maximal runs of the bytes of chunks that are in order of address and do not overlap.
-pub fn maximal_rows(alloc: Global, chunks: &[Chunk], bytes: &[u8]) -> Result<List<Run>, NoMemory>
+pub fn maximal_runs(alloc: Global, chunks: &[Chunk], bytes: &[u8]) -> Result<List<Run>, NoMemory>
     requires spread { AreSpread 0 chunks.now }
     requires among { All (IsAmong bytes.now) chunks.now }
     ensures apart { IfOk result (λ runs. AreApart 0 runs) }

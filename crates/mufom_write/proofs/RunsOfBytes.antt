@@ -2,10 +2,10 @@
 use Rattle.std.proofs.Common.{◌≡◌, ℕ, ◌+◌, ◌-◌, ◌<◌, List, ◌++◌, length, drop, get_or, replicate, sym, ap, ◌∙◌}
 use Rattle.std.proofs.lemmas.List.{drop_more}
 use Rattle.mufom_meaning.specs.declared.located.Run.{Run}
-use Rattle.mufom_write.specs.Raw.{rows_from, run_end}
+use Rattle.mufom_write.specs.Raw.{runs_from, run_end}
 
 pub rows_next : (fill end : ℕ) (runs : List Run) (i : ℕ) (d run : Run) → i < length runs → run ≡ get_or runs i d
-    → rows_from fill end (drop i runs) ≡ (replicate (run.address - end) fill ++ run.bytes) ++ rows_from fill (run_end run) (drop (i + 1) runs)
+    → runs_from fill end (drop i runs) ≡ (replicate (run.address - end) fill ++ run.bytes) ++ runs_from fill (run_end run) (drop (i + 1) runs)
 rows_next fill end runs i d run inside is =
-    ap (rows_from fill end) (drop_more runs i d inside)
-    ∙ ap (λ (r : Run). (replicate (r.address - end) fill ++ r.bytes) ++ rows_from fill (run_end r) (drop (i + 1) runs)) (sym is)
+    ap (runs_from fill end) (drop_more runs i d inside)
+    ∙ ap (λ (r : Run). (replicate (r.address - end) fill ++ r.bytes) ++ runs_from fill (run_end r) (drop (i + 1) runs)) (sym is)

@@ -1,7 +1,7 @@
 use Rattle.std.proofs.Common.{take, drop, refl, ◌∙◌, ap, arith}
 use Rattle.mufom_image_bytes.specs.Spread.{bytes_of_chunks}
 use Rattle.mufom_image_bytes.proofs.SpreadLaws.{next_row}
-use Rattle.mufom_image_bytes.proofs.rows.maximal_rows.Goals as goal
+use Rattle.mufom_image_bytes.proofs.runs.maximal_runs.Goals as goal
 
 pub loop-rest-preserved : goal.loop-rest-preserved
 loop-rest-preserved c =
