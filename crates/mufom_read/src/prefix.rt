@@ -356,6 +356,7 @@ impl Prefix {
     }
 
     // Adds a record that has no error. `tree` is its expression.
+    #[inline(always)]
     fn add(
         &mut self,
         alloc: Global,
