@@ -313,7 +313,7 @@ def page_text():
     library = [tuple(it.rsplit(".", 1)) for it in reached.library | beside.library if "." in it]
     return "\n".join([
         "# What you have to trust", "",
-        "All definitions that are reached from the laws of `mufom_headline`, the contract of `run`, and the public laws of `mufom_command`,"
+        "This page lists all definitions that are reached from the laws of `mufom_headline`, the contract of `run`, and the public laws of `mufom_command`,"
         " `mufom_groups` and `mufom_make`. Anyone who reads them and trusts the toolchain knows what is proved; [how to read a contract](ARCHITECTURE.md#how-to-read-a-contract)"
         " explains the notation. `python3 tools/audit.py` writes this page; with `--check` it says whether the page is up to"
         " date.", "",

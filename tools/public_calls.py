@@ -74,9 +74,9 @@ def main():
     crates = re.findall(r"^([a-z_0-9]+):", read("crates.txt"), re.M)
     page = ["# Public calls", "",
             "Every public call, from the crate roots, written by `python3 tools/public_calls.py`. Each is proved to return if its conditions hold.",
-            "*Conditions* and *clauses* count the `requires` and `ensures` of its contract. A call with *memory* may run out of memory, and its",
-            "clauses say what is known after that. A call with *host* does I/O through the host that it is given, and returns an I/O error only if an error",
-            "counter increased.", ""]
+            "*Conditions* and *clauses* count the `requires` and `ensures` of its contract. A call with *memory* returns a type that has a case for",
+            "out of memory; most such calls allocate, and their clauses say what is known after that error. A call with *host* is given a host, or an output",
+            "to write to (a page over a host, or a text in memory). If it returns an I/O error, an error counter of the host increased.", ""]
     total, crates = 0, [it for it in crates if os.path.isfile(f"crates/{it}/src/lib.rt")]
     of_memory = errors_of_memory(crates)
     for crate in crates:
