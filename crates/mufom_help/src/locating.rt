@@ -212,7 +212,7 @@ pub const LOADED_TWICE: &str = "LoadedTwice: two bytes are loaded at one address
 
   refused: locate: LoadedTwice ADDR
 
-Two loads put a byte at the hexadecimal address ADDR, also if the two bytes are
+Two loads put a byte at the hexadecimal address ADDR, even if the two bytes are
 equal. Sections do not overlap here, so both loads belong to one section.
 
 Usual causes:

@@ -15,7 +15,8 @@ invariant_of-self c =
 
 pub add-requires-clause-new : goal.add-requires-clause-new
 add-requires-clause-new c =
-    others_lack c.args.index c.self.inside.row c.self.inside.others c.args.self.now (list_any-flipped c.args.index c.args.self.now ∙ c.requires.new) c.self.view_is
+    let lacks = list_any-flipped c.args.index c.args.self.now ∙ c.requires.new in
+    others_lack c.args.index c.self.inside.row c.self.inside.others c.args.self.now lacks c.self.view_is
 
 pub invariant_of-self-2 : goal.invariant_of-self-2
 invariant_of-self-2 c =
