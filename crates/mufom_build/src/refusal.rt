@@ -1,4 +1,4 @@
-//! Why no module is built from a text.
+//! The error of `build`.
 
 ghost use Rattle.std.specs.Prelude.{◌≡◌, ℕ};
 ghost use Rattle.mufom_module.specs.declared.module.Defect.{Defect};

@@ -25,7 +25,7 @@ fn weak(draft: &mut Draft, rt: &impl Abort, size: u64, default: u64) {
     draft.reference(rt, b"c", Some(Weak { size, default }));
 }
 
-// Two sections, each with a field of `c`, for which the two references request 4 and 6 bytes.
+// Two sections, each with a field of `c`, for which the two references request sizes of 4 and 6 bytes.
 fn asking(rt: &impl Abort, alloc: Global) -> Draft {
     let mut draft = Draft::new(alloc, 4);
     draft.section(rt, 4, None);

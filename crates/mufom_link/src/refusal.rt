@@ -1,4 +1,4 @@
-//! Why a list of modules cannot be linked.
+//! The error of `link` and `link_owned`.
 
 use mufom_meaning::Descriptor;
 use mufom_numbers::{Bytes, NoMemory};

@@ -22,7 +22,7 @@ pub fn listing(alloc: Global, object: &Module) -> Result<Bytes, NoMemory>
 /// allocates one chunk, and nothing for the text.
 ///
 /// `NoMemory` is returned before anything is printed. `Fault` is returned only if a print failed and the
-/// count of failed prints rose; a prefix of the listing may then be printed.
+/// host's count of failed writes rose; a prefix of the listing may then be printed.
 pub fn print_listing<H: Host>(alloc: Global, host: &mut H, object: &Module) -> Result<(), PrintStop>
     ensures done { OnOk result (GrowsBy (H.meaning host.old).out (H.meaning host.new).out (listing_text object.now)) }
     ensures fault { result ≡ Err PrintStop.Fault

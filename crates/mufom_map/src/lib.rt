@@ -4,7 +4,8 @@
 //! It uses `mufom_plan`, `mufom_place`, `mufom_meaning` and `mufom_located` for the addresses,
 //! `mufom_origins` for the modules from which entries come, and `mufom_text` for numbers and names in text
 //! and for printing. Its main clause is that of [`print_map`]: the output grows by exactly the text of the
-//! map; or a print failed, the count of failed prints rose, and the output grew by a prefix of that text.
+//! map; or a print failed, the host's count of failed writes rose, and the output grew by a prefix of that
+//! text.
 #![tactic(auto)]
 
 mod laws;

@@ -126,8 +126,8 @@ impl<'a> Lines for Map<'a> {
 ///
 /// No section name occurs twice in the plan, and it has fewer than 2^32 regions, as
 /// [`read_plan`](mufom_plan::read_plan) returns it. `NoMemory` is returned before anything is printed.
-/// `Fault` is returned only if a print failed and the count of failed prints rose; a prefix of the text may
-/// then be printed. The time grows as `n log n` with the number of sections, publics and regions.
+/// `Fault` is returned only if a print failed and the host's count of failed writes rose; a prefix of the
+/// text may then be printed. The time grows as `n log n` with the number of sections, publics and regions.
 pub fn print_map<H: Host>(
     alloc: Global,
     host: &mut H,

@@ -1,5 +1,6 @@
 -- Tokens are taken from the bytes of an expression, one after the other.
-use Rattle.std.proofs.Common.{◌≡◌, ℕ, ◌<◌, ◌≤◌, List, [], ◌∷◌, ◌++◌, length, drop, Some, refl, sym, ap, subst, ◌∙◌, arith, append_assoc}
+use Rattle.std.proofs.Common.{◌≡◌, ℕ, zero, suc, ◌<◌, ◌≤◌, ◌==◌, Bool, true, false, List, [], ◌∷◌, ◌++◌, length, drop, Some, refl, sym, ap, subst, ◌∙◌, arith, append_assoc}
+use Rattle.std.proofs.Common.{Result, Ok, Err, IfOk}
 use Rattle.std.proofs.lemmas.List.{append-nil, length-append, length-drop, drop_at}
 use Rattle.mufom_numbers.specs.declared.taken.Taken.{Taken}
 use Rattle.mufom_numbers.specs.declared.taken.Taken.TheVariants as taken
@@ -108,3 +109,22 @@ pub alone : (input : List ℕ) (token : Token) (used : ℕ) → (tree : Tree) ×
 alone input token used spells got all =
     let next = left_next input input [] token used (left_start input [] spells refl) (some_bytes input spells) got in
     left_none input (drop used input) (token ∷ []) next.left (omega (arith, length-drop used input))
+
+-- one more token is taken
+pub left_more : (input rest later : List ℕ) (built : List Token) (token : Token) → IsLeft input rest built → 0 < length rest
+    → (used : ℕ) × (token_at rest ≡ taken.Got token used) × (later ≡ drop used rest) → IsLeft input later (built ++ token ∷ [])
+left_more input rest later built token is some (used, got, same) =
+    subst (λ (l : List ℕ). IsLeft input l (built ++ token ∷ [])) (sym same) (left_next input rest built token used is some got).left
+
+-- a copy of a tree has the same bytes
+pub copy_spells : {E : Type 0} (copy : Result Tree E) (tree : Tree) (input : List ℕ) → SpellsTree tree input → IfOk copy (λ t. t ≡ tree)
+    → IfOk copy (λ t. SpellsTree t input)
+copy_spells (Ok t) tree input spells same = subst (λ (u : Tree). SpellsTree u input) (sym same) spells
+copy_spells (Err e) tree input spells same = tt
+
+-- what is not found empty has a byte
+pub some_left : (n : ℕ) (empty : Bool) → empty ≡ (n == 0) → empty ≡ false → 0 < n
+some_left zero empty is other = absurd (none (sym is ∙ other)) where
+  none : true ≡ false → ⊥
+  none e = cc
+some_left (suc n) empty is other = omega arith

@@ -1,6 +1,8 @@
 //! Builds an expression from the bytes of a record.
 
-ghost use Rattle.std.specs.Prelude.{◌≡◌, ◌<◌, ◌≤◌, [], ◌∷◌, ◌++◌, length, drop, IfOk, OnOk, Some};
+ghost use Rattle.std.specs.Prelude.{◌≡◌, ◌<◌, ◌≤◌, [], ◌∷◌, ◌++◌, ℕ, length, drop, IfOk, OnOk, Some};
+ghost use Rattle.std.specs.List.{AllByRecursion};
+ghost use Rattle.mufom_expr.specs.Terms.{the_term, LeaveOneTerm};
 ghost use Rattle.mufom_expr.specs.Tree.{Tree, tokens_of, IsInRange};
 ghost use Rattle.mufom_expr.specs.Spelled.{SpellsTree};
 ghost use Rattle.mufom_expr.specs.TokenAt.{token_at};
@@ -47,6 +49,7 @@ fn token_count(input: &[u8]) -> usize
 }
 
 // The expression of all tokens in the bytes.
+#[inline(never)]
 fn all_tokens(alloc: Global, input: &[u8]) -> Result<Postfix, NoMemory>
     requires { (tree : Tree) × SpellsTree tree input.now }
     ensures { IfOk result (λ p. SpellsTree p input.now) }
@@ -61,17 +64,46 @@ fn all_tokens(alloc: Global, input: &[u8]) -> Result<Postfix, NoMemory>
     Ok(Postfix::of(tokens))
 }
 
+// The token at the start of the input, which must be there, and the bytes after it.
+#[inline(always)]
+fn split_token(input: &[u8]) -> (Token, &[u8])
+    requires { BeginsWithToken (λ token. Unit {0}) input.now }
+    ensures token { (used : ℕ) × (token_at input.now ≡ Taken.Got result.0 used) × (result.1.now ≡ drop used input.now) }
+    ensures range { IsInRange result.0 }
+{
+    let (token, used) = first_token(input);
+    (token, after(input, used))
+}
+
+// The expression of these tokens, copied to a vector of their number.
+fn copied(alloc: Global, tokens: &[Token]) -> Result<Postfix, NoMemory>
+    requires one { LeaveOneTerm tokens.now }
+    requires few { length tokens.now ≤ 255 }
+    requires range { AllByRecursion IsInRange tokens.now }
+    ensures { IfOk result (λ p. p ≡ the_term tokens.now) }
+{
+    Ok(Postfix::of(Vec::from_slice(alloc, tokens)?))
+}
+
 /// Builds the expression that these bytes spell. They must be exactly the bytes of an expression, as those at
 /// the position of an expression in a [`Record`](crate::Record) are. The variables keep the indexes of the
-/// file. Does not allocate for an expression of one token.
+/// file. An expression of one token needs no allocation, any other exactly one.
 pub fn postfix_of(alloc: Global, input: &[u8]) -> Result<Postfix, NoMemory>
     requires { (tree : Tree) × SpellsTree tree input.now }
     ensures { IfOk result (λ p. SpellsTree p input.now) }
 {
-    let (token, used) = first_token(input);
-    if used == input.len() {
-        Ok(Postfix::single(token))
-    } else {
-        all_tokens(alloc, input)
+    // Most expressions have at most three tokens, which need not be counted first.
+    let (first, rest) = split_token(input);
+    if rest.is_empty() {
+        return Ok(Postfix::single(first));
     }
+    let (second, rest) = split_token(rest);
+    if rest.is_empty() {
+        return copied(alloc, &[first, second]);
+    }
+    let (third, rest) = split_token(rest);
+    if rest.is_empty() {
+        return copied(alloc, &[first, second, third]);
+    }
+    all_tokens(alloc, input)
 }

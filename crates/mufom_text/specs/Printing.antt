@@ -15,7 +15,7 @@ Adds old new before now held holds false true text = GrowsByPrefix old.out new.o
 Adds old new before now held holds true false text = ⊥
 Adds old new before now held holds true true text = new.out ≡ old.out
 
--- Text is added to a page. Nothing outside changes except the output and the count of failed prints.
+-- Text is added to a page. Nothing outside changes except the output and the count of failed writes.
 pub record Puts (old new : Meaning) (before now : Faults) (held holds : List ℕ) (had has : Bool) (text : List ℕ) : Type 0 where
   pub added : Adds old new before now held holds had has text
   pub stays : KeepsAllButOut old new

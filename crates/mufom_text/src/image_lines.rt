@@ -44,7 +44,7 @@ impl<'a> Lines for Image<'a> {
 /// 16 addresses with loaded bytes, the start, each public, and each debug address.
 ///
 /// `NoMemory` is returned before anything is printed. `Fault` is returned only if a print failed
-/// and the count of failed prints rose; a prefix of the text may then be printed.
+/// and the host's count of failed writes rose; a prefix of the text may then be printed.
 pub fn print_image<H: Host>(alloc: Global, host: &mut H, located: &Located) -> Result<(), PrintStop>
     ensures done { OnOk result (GrowsBy (H.meaning host.old).out (H.meaning host.new).out (image_text located.now)) }
     ensures fault { result ≡ Err PrintStop.Fault

@@ -7,8 +7,8 @@
 //! write lines are generic over one trait, [`Output`]. A page of a fixed size implements it and passes the
 //! text on to a host, so only [`text_bytes`] holds a whole text in memory. The main clauses are those of
 //! [`print_text`] and [`print_image`]: the output grows by exactly the text; or memory ran out before
-//! anything was printed; or a print failed, the count of failed prints rose, and the output grew by a prefix
-//! of the text.
+//! anything was printed; or a print failed, the host's count of failed writes rose, and the output grew by
+//! a prefix of the text.
 #![tactic(auto)]
 
 mod addresses;

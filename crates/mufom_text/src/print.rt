@@ -13,7 +13,7 @@ use thiserror::Error;
 /// Why a text was not printed whole.
 #[derive(Clone, Copy, Debug, PartialEq, Eq, Error)]
 pub enum PrintStop {
-    /// A print failed; the host's count of failed prints rose.
+    /// A print failed; the host's count of failed writes rose.
     #[error("a print failed")]
     Fault,
     /// Out of memory for the page.
@@ -58,7 +58,7 @@ fn print_all<H: Host, T: Lines>(room: Vec<u8>, host: &mut H, lines: &T) -> Resul
 /// Prints the lines, in chunks of about 65,536 bytes, the last of which may be shorter.
 ///
 /// `NoMemory` is returned before anything is printed. `Fault` is returned only if a print failed
-/// and the count of failed prints rose; a prefix of the text may then be printed.
+/// and the host's count of failed writes rose; a prefix of the text may then be printed.
 pub fn print_lines<H: Host, T: Lines>(
     alloc: Global,
     host: &mut H,

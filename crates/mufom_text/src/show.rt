@@ -56,7 +56,7 @@ impl<'a> Lines for ModuleText<'a> {
 /// Prints a text of the module, in chunks of about 65,536 bytes, the last of which may be shorter.
 ///
 /// `NoMemory` is returned before anything is printed. `Fault` is returned only if a print failed
-/// and the count of failed prints rose; a prefix of the text may then be printed.
+/// and the host's count of failed writes rose; a prefix of the text may then be printed.
 pub fn print_text<H: Host>(
     alloc: Global,
     host: &mut H,
@@ -80,7 +80,7 @@ pub fn print_text<H: Host>(
 /// Prints the summary of the module, in chunks of about 65,536 bytes, the last of which may be shorter.
 ///
 /// `NoMemory` is returned before anything is printed. `Fault` is returned only if a print failed
-/// and the count of failed prints rose; a prefix of the text may then be printed.
+/// and the host's count of failed writes rose; a prefix of the text may then be printed.
 pub fn print_module<H: Host>(alloc: Global, host: &mut H, object: &Module) -> Result<(), PrintStop>
     ensures done { OnOk result (GrowsBy (H.meaning host.old).out (H.meaning host.new).out (module_text object.now)) }
     ensures fault { result ≡ Err PrintStop.Fault

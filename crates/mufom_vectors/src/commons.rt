@@ -18,8 +18,8 @@ const NO_TRUTH: &[u8] =
 /// Both fields have the address after the sections.
 const ROOM: &str = "00000100: 00 00 01 08 00 00 01 08\n";
 
-/// Modules that request 4 and 6 bytes for `c`, one that defines it, one with a strong reference to it, and
-/// plans.
+/// Modules that request sizes of 4 and 6 bytes for `c`, one that defines it, one with a strong reference to
+/// it, and plans.
 const FILES: &[File] = &[
     (
         "a",
@@ -99,7 +99,7 @@ static RUNS: [Case; 8] = [
     },
 ];
 
-/// Modules that request 6 bytes of `c`, 4 of `d`, and 4 of `c`, and a plan.
+/// Modules that request sizes of 6 bytes for `c`, of 4 for `d`, and of 4 for `c`, and a plan.
 const TWO_NAMES: &[File] = &[
     (
         "x",

@@ -125,7 +125,7 @@ const TIGHT: &[u8] =
 const UNTRUE: &[u8] =
     b"[[region]]\nname = \"ram\"\nbase = 256\nsize = 64\nsections = [\"t\"]\ncommon = 1\n";
 
-/// Modules that request 4 and 6 bytes for `c`, and plans.
+/// Modules that request sizes of 4 and 6 bytes for `c`, and plans.
 const COMMONS: &[File] = &[
     (
         "a",

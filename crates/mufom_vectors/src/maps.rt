@@ -6,7 +6,8 @@ use crate::runs::{Case, File, Held, all_come_to};
 const RAM: &[u8] =
     b"[[region]]\nname = \"ram\"\nbase = 256\nsize = 64\nsections = [\"t\"]\ncommon = true\n";
 
-/// Two modules that request 4 and 6 bytes for `c`, the second with a public after its section, and a plan.
+/// Two modules that request sizes of 4 and 6 bytes for `c`, the second with a public after its section, and
+/// a plan.
 const FILES: &[File] = &[
     (
         "a",
