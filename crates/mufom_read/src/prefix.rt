@@ -428,8 +428,9 @@ impl Prefix {
             (prefixes.as_step (prefixes.size_of prefix) rest.now
             (record_at (mode_at prefix (as_location place) rest.now) rest.now)) rest.now self.new next) }
     {
-        match read_record(rest, self.mode(place, rest)) {
-            Ok((row, used)) => {
+        let mut row = Record::ModuleEnd;
+        match read_record(rest, self.mode(place, rest), &mut row) {
+            Ok(used) => {
                 let next = SeenRecord {
                     start: self.size,
                     row: &row,

@@ -3,6 +3,7 @@ pub mod Numbers
 pub mod Exact
 pub mod NumberLaws
 pub mod ListLaws
+pub mod InPlace
 pub mod TokenSteps
 pub mod ExpressionLaws
 pub mod RecordLaws

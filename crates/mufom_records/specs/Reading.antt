@@ -146,6 +146,11 @@ read (whole row) input at = Ok (row, at)
 read (refused back reason) input at = Err (Bad (at - back) reason)
 read (field f rest) input at = field_at f input at >>= λ x. read (rest x.0) input x.1
 
+-- a record that is stored in place, with the offset after it, or why there is none
+abbrev pub in_place : Record → Result ℕ Stop → Reading Record
+in_place row (Ok at) = Ok (row, at)
+in_place row (Err stop) = Err stop
+
 -- the result of reading at the start of the input
 abbrev pub as_taken : {X : Type 0} → Reading X → Taken X
 as_taken (Ok x) = taken.Got x.0 x.1

@@ -1,10 +1,11 @@
 //! Reads what may be in brackets: a field of an LR, and a start address.
 
 ghost use Rattle.std.specs.Prelude.{◌≡◌, ◌≤◌, length, IfOk, Some};
+ghost use Rattle.mufom_records.specs.declared.record.Record.{Record};
 ghost use Rattle.mufom_records.specs.declared.record.Record.TheVariants as r;
 ghost use Rattle.mufom_records.specs.Layouts as layouts;
 ghost use Rattle.mufom_records.specs.Parts.{HasParts, IsExpressionIn};
-ghost use Rattle.mufom_records.specs.Reading.{read};
+ghost use Rattle.mufom_records.specs.Reading.{in_place, read};
 
 use crate::expression::expression;
 use crate::fields::{bad, byte, count, field_size, letter, run};
@@ -25,113 +26,120 @@ fn kind_of(opening: u8) -> FieldKind
 }
 
 // Reads the closing bracket for this opening one. The record ends after it.
-fn closed_by(opening: u8, row: Record, input: &[u8], at: usize) -> Read
+fn closed_by(opening: u8, input: &[u8], at: usize) -> Read
     requires within { at ≤ length input.now }
-    requires parts { HasParts input.now row }
-    ensures exact { result ≡ read (layouts.closed_by opening (layouts.whole row)) input.now at }
-    ensures parts { IfOk result (λ r. HasParts input.now r.0) }
+    ensures exact { (row : Record) → in_place row result ≡ read (layouts.closed_by opening (layouts.whole row)) input.now at }
 {
     let (b, after) = byte(input, at)?;
     if b as u32 == opening as u32 + 1 {
-        Ok((row, after))
+        Ok(after)
     } else {
         Err(bad(at, Reason::BracketMismatch))
     }
 }
 
-fn sized_field(opening: u8, value: Span, input: &[u8], at: usize) -> Read
+fn sized_field(opening: u8, value: Span, input: &[u8], at: usize, row: &mut Record) -> Read
     requires within { at ≤ length input.now }
     requires part { IsExpressionIn input.now value }
-    ensures exact { result ≡ read (layouts.item_by_comma opening value (Some layouts.comma)) input.now at }
-    ensures parts { IfOk result (λ r. HasParts input.now r.0) }
+    ensures exact { in_place row.new result ≡ read (layouts.item_by_comma opening value (Some layouts.comma)) input.now at }
+    ensures parts { IfOk result (λ _. HasParts input.now row.new) }
 {
     let (size, at) = field_size(input, at)?;
-    let field = Record::FieldItem(kind_of(opening), value, Some(size));
-    closed_by(opening, field, input, at)
+    *row = Record::FieldItem(kind_of(opening), value, Some(size));
+    closed_by(opening, input, at)
 }
 
-fn field_by_comma(opening: u8, value: Span, comma: Option<u8>, input: &[u8], at: usize) -> Read
+fn field_by_comma(
+    opening: u8,
+    value: Span,
+    comma: Option<u8>,
+    input: &[u8],
+    at: usize,
+    row: &mut Record,
+) -> Read
     requires within { at ≤ length input.now }
     requires part { IsExpressionIn input.now value }
-    ensures exact { result ≡ read (layouts.item_by_comma opening value comma) input.now at }
-    ensures parts { IfOk result (λ r. HasParts input.now r.0) }
+    ensures exact { in_place row.new result ≡ read (layouts.item_by_comma opening value comma) input.now at }
+    ensures parts { IfOk result (λ _. HasParts input.now row.new) }
 {
     match comma {
         None => {
-            let field = Record::FieldItem(kind_of(opening), value, None);
-            closed_by(opening, field, input, at)
+            *row = Record::FieldItem(kind_of(opening), value, None);
+            closed_by(opening, input, at)
         }
-        Some(_) => sized_field(opening, value, input, at),
+        Some(_) => sized_field(opening, value, input, at, row),
     }
 }
 
-fn field_item(opening: u8, input: &[u8], at: usize) -> Read
+fn field_item(opening: u8, input: &[u8], at: usize, row: &mut Record) -> Read
     requires { at ≤ length input.now }
-    ensures exact { result ≡ read (layouts.item_by_bracket (Some opening)) input.now at }
-    ensures parts { IfOk result (λ r. HasParts input.now r.0) }
+    ensures exact { in_place row.new result ≡ read (layouts.item_by_bracket (Some opening)) input.now at }
+    ensures parts { IfOk result (λ _. HasParts input.now row.new) }
 {
     let (value, at) = expression(input, at)?;
     let (comma, at) = letter(&[codes::COMMA], input, at)?;
-    field_by_comma(opening, value, comma, input, at)
+    field_by_comma(opening, value, comma, input, at, row)
 }
 
-fn constant_item(input: &[u8], at: usize) -> Read
+fn constant_item(input: &[u8], at: usize, row: &mut Record) -> Read
     requires { at ≤ length input.now }
-    ensures exact { result ≡ read (layouts.constant r.ConstantItem) input.now at }
-    ensures parts { IfOk result (λ r. HasParts input.now r.0) }
+    ensures exact { in_place row.new result ≡ read (layouts.constant r.ConstantItem) input.now at }
+    ensures parts { IfOk result (λ _. HasParts input.now row.new) }
 {
     let (length, at) = count(input, at)?;
     let (bytes, at) = run(length, input, at)?;
-    Ok((Record::ConstantItem(bytes), at))
+    *row = Record::ConstantItem(bytes);
+    Ok(at)
 }
 
-fn item_by_bracket(opening: Option<u8>, input: &[u8], at: usize) -> Read
+fn item_by_bracket(opening: Option<u8>, input: &[u8], at: usize, row: &mut Record) -> Read
     requires { at ≤ length input.now }
-    ensures exact { result ≡ read (layouts.item_by_bracket opening) input.now at }
-    ensures parts { IfOk result (λ r. HasParts input.now r.0) }
+    ensures exact { in_place row.new result ≡ read (layouts.item_by_bracket opening) input.now at }
+    ensures parts { IfOk result (λ _. HasParts input.now row.new) }
 {
     match opening {
-        None => constant_item(input, at),
-        Some(opening) => field_item(opening, input, at),
+        None => constant_item(input, at, row),
+        Some(opening) => field_item(opening, input, at, row),
     }
 }
 
 /// Reads an item of an LR: literal bytes, or a field in brackets.
-pub(crate) fn item(input: &[u8], at: usize) -> Read
+pub(crate) fn item(input: &[u8], at: usize, row: &mut Record) -> Read
     requires { at ≤ length input.now }
-    ensures exact { result ≡ read layouts.item input.now at }
-    ensures parts { IfOk result (λ r. HasParts input.now r.0) }
+    ensures exact { in_place row.new result ≡ read layouts.item input.now at }
+    ensures parts { IfOk result (λ _. HasParts input.now row.new) }
 {
     let (opening, at) = letter(
         &[codes::OPEN_SIGNED, codes::OPEN_UNSIGNED, codes::OPEN_EITHER],
         input,
         at,
     )?;
-    item_by_bracket(opening, input, at)
+    item_by_bracket(opening, input, at, row)
 }
 
-fn start_by_bracket(opening: Option<u8>, input: &[u8], at: usize) -> Read
+fn start_by_bracket(opening: Option<u8>, input: &[u8], at: usize, row: &mut Record) -> Read
     requires { at ≤ length input.now }
-    ensures exact { result ≡ read (layouts.start_by_bracket opening) input.now at }
-    ensures parts { IfOk result (λ r. HasParts input.now r.0) }
+    ensures exact { in_place row.new result ≡ read (layouts.start_by_bracket opening) input.now at }
+    ensures parts { IfOk result (λ _. HasParts input.now row.new) }
 {
     let (value, at) = expression(input, at)?;
+    *row = Record::Start(value);
     match opening {
-        None => Ok((Record::Start(value), at)),
-        Some(opening) => closed_by(opening, Record::Start(value), input, at),
+        None => Ok(at),
+        Some(opening) => closed_by(opening, input, at),
     }
 }
 
 /// Reads a start address, with or without brackets.
-pub(crate) fn start_address(input: &[u8], at: usize) -> Read
+pub(crate) fn start_address(input: &[u8], at: usize, row: &mut Record) -> Read
     requires { at ≤ length input.now }
-    ensures exact { result ≡ read layouts.start_address input.now at }
-    ensures parts { IfOk result (λ r. HasParts input.now r.0) }
+    ensures exact { in_place row.new result ≡ read layouts.start_address input.now at }
+    ensures parts { IfOk result (λ _. HasParts input.now row.new) }
 {
     let (opening, at) = letter(
         &[codes::OPEN_SIGNED, codes::OPEN_UNSIGNED, codes::OPEN_EITHER],
         input,
         at,
     )?;
-    start_by_bracket(opening, input, at)
+    start_by_bracket(opening, input, at, row)
 }

@@ -9,7 +9,7 @@ ghost use Rattle.mufom_records.specs.Fields.{first_of};
 ghost use Rattle.mufom_records.specs.Layouts.{IsWholeRecord};
 ghost use Rattle.mufom_records.specs.Layouts as layouts;
 ghost use Rattle.mufom_records.specs.Parts.{HasParts};
-ghost use Rattle.mufom_records.specs.Reading.{read, record_at};
+ghost use Rattle.mufom_records.specs.Reading.{in_place, read, record_at};
 ghost use Rattle.mufom_records.specs.Faults.{IsFaulty, IsCutOffRecord};
 
 use crate::brackets::{item, start_address};
@@ -25,21 +25,21 @@ use crate::stop::Stop;
 use mufom_numbers::{Reason, Taken, codes};
 
 // The record after the byte E2, which a second byte selects.
-fn assigned(input: &[u8], at: usize) -> Read
+fn assigned(input: &[u8], at: usize, row: &mut Record) -> Read
     requires low { 1 ≤ at }
     requires within { at ≤ length input.now }
-    ensures exact { result ≡ read layouts.assigned input.now at }
-    ensures parts { IfOk result (λ r. HasParts input.now r.0) }
+    ensures exact { in_place row.new result ≡ read layouts.assigned input.now at }
+    ensures parts { IfOk result (λ _. HasParts input.now row.new) }
 {
     let (second, at) = byte(input, at)?;
     match second {
-        codes::LETTER_W => offset(input, at),
-        codes::LETTER_S => section_size(input, at),
-        codes::LETTER_L => section_base(input, at),
-        codes::LETTER_I => public_value(input, at),
-        codes::LETTER_N => debug_value(input, at),
-        codes::LETTER_P => set_counter(input, at),
-        codes::LETTER_G => start_address(input, at),
+        codes::LETTER_W => offset(input, at, row),
+        codes::LETTER_S => section_size(input, at, row),
+        codes::LETTER_L => section_base(input, at, row),
+        codes::LETTER_I => public_value(input, at, row),
+        codes::LETTER_N => debug_value(input, at, row),
+        codes::LETTER_P => set_counter(input, at, row),
+        codes::LETTER_G => start_address(input, at, row),
         codes::LETTER_A | codes::LETTER_B | codes::LETTER_F | codes::LETTER_M | codes::LETTER_R =>
             Err(bad(at - 2, Reason::UnsupportedRecord)),
         _ => Err(bad(at - 1, Reason::BadRecord)),
@@ -47,146 +47,154 @@ fn assigned(input: &[u8], at: usize) -> Read
 }
 
 // The record after the byte F1, which a second byte selects.
-fn note(input: &[u8], at: usize) -> Read
+fn note(input: &[u8], at: usize, row: &mut Record) -> Read
     requires { at ≤ length input.now }
-    ensures exact { result ≡ read layouts.any_note input.now at }
-    ensures parts { IfOk result (λ r. HasParts input.now r.0) }
+    ensures exact { in_place row.new result ≡ read layouts.any_note input.now at }
+    ensures parts { IfOk result (λ _. HasParts input.now row.new) }
 {
     let (second, at) = byte(input, at)?;
     match second {
-        codes::LETTER_I => public_note(input, at),
-        codes::LETTER_X => reference_note(input, at),
-        codes::LETTER_N => debug_note(input, at),
+        codes::LETTER_I => public_note(input, at, row),
+        codes::LETTER_X => reference_note(input, at, row),
+        codes::LETTER_N => debug_note(input, at, row),
         _ => Err(bad(at - 1, Reason::BadRecord)),
     }
 }
 
 // The record after its first byte, which is this code.
-fn coded(code: u8, input: &[u8], at: usize) -> Read
+fn coded(code: u8, input: &[u8], at: usize, row: &mut Record) -> Read
     requires low { 1 ≤ at }
     requires within { at ≤ length input.now }
-    ensures exact { result ≡ read (layouts.coded code) input.now at }
-    ensures parts { IfOk result (λ r. HasParts input.now r.0) }
+    ensures exact { in_place row.new result ≡ read (layouts.coded code) input.now at }
+    ensures parts { IfOk result (λ _. HasParts input.now row.new) }
 {
     match code {
-        codes::MODULE_BEGIN => module_begin(input, at),
-        codes::MODULE_END => Ok((Record::ModuleEnd, at)),
-        codes::ASSIGNMENT => assigned(input, at),
-        codes::RELOCATE => Ok((Record::Relocate, at)),
-        codes::SET_SECTION => set_section(input, at),
-        codes::SECTION_TYPE => section_type(input, at),
-        codes::SECTION_ALIGNMENT => alignment(input, at),
-        codes::PUBLIC_NAME => public_name(input, at),
-        codes::REFERENCE_NAME => reference_name(input, at),
-        codes::DESCRIPTOR => descriptor(input, at),
-        codes::CONSTANT => constant(input, at),
-        codes::DEBUG_NAME => debug_name(input, at),
-        codes::NOTE => note(input, at),
+        codes::MODULE_BEGIN => module_begin(input, at, row),
+        codes::MODULE_END => {
+            *row = Record::ModuleEnd;
+            Ok(at)
+        },
+        codes::ASSIGNMENT => assigned(input, at, row),
+        codes::RELOCATE => {
+            *row = Record::Relocate;
+            Ok(at)
+        },
+        codes::SET_SECTION => set_section(input, at, row),
+        codes::SECTION_TYPE => section_type(input, at, row),
+        codes::SECTION_ALIGNMENT => alignment(input, at, row),
+        codes::PUBLIC_NAME => public_name(input, at, row),
+        codes::REFERENCE_NAME => reference_name(input, at, row),
+        codes::DESCRIPTOR => descriptor(input, at, row),
+        codes::CONSTANT => constant(input, at, row),
+        codes::DEBUG_NAME => debug_name(input, at, row),
+        codes::NOTE => note(input, at, row),
         codes::TYPE => Err(bad(at - 1, Reason::UnsupportedRecord)),
-        codes::WEAK_REFERENCE => weak_reference(input, at),
-        codes::REPEAT => repeat(input, at),
-        codes::BLOCK_BEGIN => block_begin(input, at),
-        codes::BLOCK_END => block_end(input, at),
+        codes::WEAK_REFERENCE => weak_reference(input, at, row),
+        codes::REPEAT => repeat(input, at, row),
+        codes::BLOCK_BEGIN => block_begin(input, at, row),
+        codes::BLOCK_END => block_end(input, at, row),
         _ => Err(bad(at - 1, Reason::BadRecord)),
     }
 }
 
 // MB, the only record that may come first.
-fn header_begin(input: &[u8]) -> Read
-    ensures exact { result ≡ read (layouts.begins_with 1 MODULE_BEGIN layouts.module_begin) input.now 0 }
-    ensures parts { IfOk result (λ r. HasParts input.now r.0) }
+fn header_begin(input: &[u8], row: &mut Record) -> Read
+    ensures exact { in_place row.new result ≡ read (layouts.begins_with 1 MODULE_BEGIN layouts.module_begin) input.now 0 }
+    ensures parts { IfOk result (λ _. HasParts input.now row.new) }
 {
     let (code, at) = byte(input, 0)?;
     if code == codes::MODULE_BEGIN {
-        module_begin(input, at)
+        module_begin(input, at, row)
     } else {
         Err(bad(0, Reason::BadHeader))
     }
 }
 
 // AD, the only record that may come second.
-fn header_descriptor(input: &[u8]) -> Read
-    ensures exact { result ≡ read (layouts.begins_with 1 DESCRIPTOR layouts.descriptor) input.now 0 }
-    ensures parts { IfOk result (λ r. HasParts input.now r.0) }
+fn header_descriptor(input: &[u8], row: &mut Record) -> Read
+    ensures exact { in_place row.new result ≡ read (layouts.begins_with 1 DESCRIPTOR layouts.descriptor) input.now 0 }
+    ensures parts { IfOk result (λ _. HasParts input.now row.new) }
 {
     let (code, at) = byte(input, 0)?;
     if code == codes::DESCRIPTOR {
-        descriptor(input, at)
+        descriptor(input, at, row)
     } else {
         Err(bad(0, Reason::BadHeader))
     }
 }
 
-fn header_letter(part: u8, input: &[u8], at: usize) -> Read
+fn header_letter(part: u8, input: &[u8], at: usize, row: &mut Record) -> Read
     requires low { 1 ≤ at }
     requires within { at ≤ length input.now }
-    ensures exact { result ≡ read (layouts.begins_with 2 LETTER_W (layouts.numbered_offset part)) input.now at }
-    ensures parts { IfOk result (λ r. HasParts input.now r.0) }
+    ensures exact { in_place row.new result ≡ read (layouts.begins_with 2 LETTER_W (layouts.numbered_offset part)) input.now at }
+    ensures parts { IfOk result (λ _. HasParts input.now row.new) }
 {
     let (second, after) = byte(input, at)?;
     if second == codes::LETTER_W {
-        numbered_offset(part, input, after)
+        numbered_offset(part, input, after, row)
     } else {
         Err(bad(at - 1, Reason::BadHeader))
     }
 }
 
 // ASW with the offset of this part, the only record that may come at this point of the header.
-fn header_offset(part: u8, input: &[u8]) -> Read
-    ensures exact { result ≡ read (layouts.begins_with 1 ASSIGNMENT (layouts.begins_with 2 LETTER_W (layouts.numbered_offset part))) input.now 0 }
-    ensures parts { IfOk result (λ r. HasParts input.now r.0) }
+fn header_offset(part: u8, input: &[u8], row: &mut Record) -> Read
+    ensures exact { in_place row.new result ≡ read (layouts.begins_with 1 ASSIGNMENT (layouts.begins_with 2 LETTER_W (layouts.numbered_offset part))) input.now 0 }
+    ensures parts { IfOk result (λ _. HasParts input.now row.new) }
 {
     let (code, at) = byte(input, 0)?;
     if code == codes::ASSIGNMENT {
-        header_letter(part, input, at)
+        header_letter(part, input, at, row)
     } else {
         Err(bad(0, Reason::BadHeader))
     }
 }
 
-fn record(input: &[u8], mode: Mode) -> Read
-    ensures exact { result ≡ read (layouts.layout_of mode) input.now 0 }
-    ensures parts { IfOk result (λ r. HasParts input.now r.0) }
+fn record(input: &[u8], mode: Mode, row: &mut Record) -> Read
+    ensures exact { in_place row.new result ≡ read (layouts.layout_of mode) input.now 0 }
+    ensures parts { IfOk result (λ _. HasParts input.now row.new) }
 {
     match mode {
-        Mode::Begin => header_begin(input),
-        Mode::Descriptor => header_descriptor(input),
-        Mode::Offset(part) => header_offset(part, input),
+        Mode::Begin => header_begin(input, row),
+        Mode::Descriptor => header_descriptor(input, row),
+        Mode::Offset(part) => header_offset(part, input, row),
         Mode::Body => {
             let (code, at) = byte(input, 0)?;
-            coded(code, input, at)
+            coded(code, input, at, row)
         }
-        Mode::Items => item(input, 0),
+        Mode::Items => item(input, 0, row),
     }
 }
 
-/// Reads the record at the start of the input that is expected in this mode, and returns it with its length
-/// in bytes. Does not allocate.
+/// Reads the record at the start of the input that is expected in this mode, stores it through `row`, and
+/// returns its length in bytes. Does not allocate.
 ///
-/// This is [`next_record`] with a `Result`, for callers that use the record at once. The error is `More` if
-/// the input ends too early, and otherwise the first error from the left with its offset.
-pub fn read_record(input: &[u8], mode: Mode) -> Result<(Record, usize), Stop>
+/// This is [`next_record`] for callers that use the record at once: a record is large, and here it is not
+/// moved. The error is `More` if the input ends too early, and otherwise the first error from the left with
+/// its offset; `row` is then any record.
+pub fn read_record(input: &[u8], mode: Mode, row: &mut Record) -> Result<usize, Stop>
     // The bytes read are a prefix of the input, and form a complete record, given the byte that follows.
-    ensures whole { IfOk result (λ r. (r.1 ≤ length input.now)
-        × IsWholeRecord mode r.0 (take r.1 input.now) (first_of (drop r.1 input.now) None)) }
-    // If the input begins with a complete record, that record is returned.
-    ensures only { (row : Record) (text rest : List ℕ) → IsWholeRecord mode row text (first_of rest None) → input.now ≡ text ++ rest
-        → result ≡ Ok (row, length text) }
+    ensures whole { IfOk result (λ used. (used ≤ length input.now)
+        × IsWholeRecord mode row.new (take used input.now) (first_of (drop used input.now) None)) }
+    // If the input begins with a complete record, that record is stored.
+    ensures only { (stored : Record) (text rest : List ℕ) → IsWholeRecord mode stored text (first_of rest None) → input.now ≡ text ++ rest
+        → (result ≡ Ok (length text)) × (row.new ≡ stored) }
     ensures bad { (offset : ℕ) (reason : Reason) → (result ≡ Err (Stop.Bad offset reason)) ↔ IsFaulty mode input.now offset reason }
     ensures more { (result ≡ Err Stop.More) ↔ IsCutOffRecord mode input.now }
     // The positions in the record are within the input, and those of expressions are positions of expressions.
-    ensures parts { IfOk result (λ r. HasParts input.now r.0) }
-    ensures exact { result ≡ read (layouts.layout_of mode) input.now 0 }
+    ensures parts { IfOk result (λ _. HasParts input.now row.new) }
+    ensures exact { in_place row.new result ≡ read (layouts.layout_of mode) input.now 0 }
 {
-    record(input, mode)
+    record(input, mode, row)
 }
 
 fn next(input: &[u8], mode: Mode) -> Taken<Record>
     ensures exact { result ≡ record_at mode input.now }
     ensures parts { IfGot result (λ row used. HasParts input.now row) }
 {
-    match read_record(input, mode) {
-        Ok((record, used)) => Taken::Got(record, used),
+    let mut row = Record::ModuleEnd;
+    match read_record(input, mode, &mut row) {
+        Ok(used) => Taken::Got(row, used),
         Err(Stop::More) => Taken::More,
         Err(Stop::Bad { offset, reason }) => Taken::Bad { offset, reason },
     }

@@ -4,7 +4,7 @@ ghost use Rattle.std.specs.Prelude.{◌≡◌, ◌≤◌, length, IfOk};
 ghost use Rattle.mufom_records.specs.declared.record.Record.TheVariants as r;
 ghost use Rattle.mufom_records.specs.Layouts as layouts;
 ghost use Rattle.mufom_records.specs.Parts.{HasParts, LiesIn};
-ghost use Rattle.mufom_records.specs.Reading.{read};
+ghost use Rattle.mufom_records.specs.Reading.{in_place, read};
 
 use crate::expression::{expression, optional_expression};
 use crate::fields::{
@@ -15,54 +15,58 @@ use crate::record::{BlockTail, Record};
 use crate::stop::Stop;
 use mufom_numbers::{Reason, Span, codes};
 
-/// A record and the offset after it.
-pub(crate) type Read = Result<(Record, usize), Stop>;
+/// The offset after a record, which is stored through `row`.
+pub(crate) type Read = Result<usize, Stop>;
 
-pub(crate) fn module_begin(input: &[u8], at: usize) -> Read
+pub(crate) fn module_begin(input: &[u8], at: usize, row: &mut Record) -> Read
     requires { at ≤ length input.now }
-    ensures exact { result ≡ read layouts.module_begin input.now at }
-    ensures parts { IfOk result (λ r. HasParts input.now r.0) }
+    ensures exact { in_place row.new result ≡ read layouts.module_begin input.now at }
+    ensures parts { IfOk result (λ _. HasParts input.now row.new) }
 {
     let (processor, at) = string(input, at)?;
     let (name, at) = string(input, at)?;
-    Ok((Record::ModuleBegin(processor, name), at))
+    *row = Record::ModuleBegin(processor, name);
+    Ok(at)
 }
 
-pub(crate) fn descriptor(input: &[u8], at: usize) -> Read
+pub(crate) fn descriptor(input: &[u8], at: usize, row: &mut Record) -> Read
     requires { at ≤ length input.now }
-    ensures exact { result ≡ read layouts.descriptor input.now at }
-    ensures parts { IfOk result (λ r. HasParts input.now r.0) }
+    ensures exact { in_place row.new result ≡ read layouts.descriptor input.now at }
+    ensures parts { IfOk result (λ _. HasParts input.now row.new) }
 {
     let (bits, at) = number(input, at)?;
     let (maus, at) = number(input, at)?;
     let (order, at) = letter(&[codes::LETTER_L, codes::LETTER_M], input, at)?;
-    Ok((Record::Descriptor(bits, maus, order), at))
+    *row = Record::Descriptor(bits, maus, order);
+    Ok(at)
 }
 
-pub(crate) fn offset(input: &[u8], at: usize) -> Read
+pub(crate) fn offset(input: &[u8], at: usize, row: &mut Record) -> Read
     requires { at ≤ length input.now }
-    ensures exact { result ≡ read layouts.offset input.now at }
-    ensures parts { IfOk result (λ r. HasParts input.now r.0) }
+    ensures exact { in_place row.new result ≡ read layouts.offset input.now at }
+    ensures parts { IfOk result (λ _. HasParts input.now row.new) }
 {
     let (part, at) = number(input, at)?;
     let (value, at) = number(input, at)?;
-    Ok((Record::Offset(part, value), at))
+    *row = Record::Offset(part, value);
+    Ok(at)
 }
 
-pub(crate) fn numbered_offset(part: u8, input: &[u8], at: usize) -> Read
+pub(crate) fn numbered_offset(part: u8, input: &[u8], at: usize, row: &mut Record) -> Read
     requires { at ≤ length input.now }
-    ensures exact { result ≡ read (layouts.numbered_offset part) input.now at }
-    ensures parts { IfOk result (λ r. HasParts input.now r.0) }
+    ensures exact { in_place row.new result ≡ read (layouts.numbered_offset part) input.now at }
+    ensures parts { IfOk result (λ _. HasParts input.now row.new) }
 {
     let (part, at) = offset_number(part, input, at)?;
     let (value, at) = number(input, at)?;
-    Ok((Record::Offset(part, value), at))
+    *row = Record::Offset(part, value);
+    Ok(at)
 }
 
-fn named_section(i: u32, absolute: bool, input: &[u8], at: usize) -> Read
+fn named_section(i: u32, absolute: bool, input: &[u8], at: usize, row: &mut Record) -> Read
     requires { at ≤ length input.now }
-    ensures exact { result ≡ read (layouts.named_section i absolute) input.now at }
-    ensures parts { IfOk result (λ r. HasParts input.now r.0) }
+    ensures exact { in_place row.new result ≡ read (layouts.named_section i absolute) input.now at }
+    ensures parts { IfOk result (λ _. HasParts input.now row.new) }
 {
     let (purpose, at) = letter(
         &[codes::LETTER_P, codes::LETTER_D, codes::LETTER_R],
@@ -73,180 +77,194 @@ fn named_section(i: u32, absolute: bool, input: &[u8], at: usize) -> Read
     let (a, at) = optional_number(input, at)?;
     let (b, at) = optional_number(input, at)?;
     let (c, at) = optional_number(input, at)?;
-    Ok((Record::SectionType(i, absolute, purpose, name, a, b, c), at))
+    *row = Record::SectionType(i, absolute, purpose, name, a, b, c);
+    Ok(at)
 }
 
-fn absolute_section(i: u32, input: &[u8], at: usize) -> Read
+fn absolute_section(i: u32, input: &[u8], at: usize, row: &mut Record) -> Read
     requires low { 1 ≤ at }
     requires within { at ≤ length input.now }
-    ensures exact { result ≡ read (layouts.absolute_section i) input.now at }
-    ensures parts { IfOk result (λ r. HasParts input.now r.0) }
+    ensures exact { in_place row.new result ≡ read (layouts.absolute_section i) input.now at }
+    ensures parts { IfOk result (λ _. HasParts input.now row.new) }
 {
     let (second, after) = byte(input, at)?;
     if second == codes::LETTER_S {
-        named_section(i, true, input, after)
+        named_section(i, true, input, after, row)
     } else {
         Err(bad(at - 1, Reason::BadSectionType))
     }
 }
 
-pub(crate) fn section_type(input: &[u8], at: usize) -> Read
+pub(crate) fn section_type(input: &[u8], at: usize, row: &mut Record) -> Read
     requires { at ≤ length input.now }
-    ensures exact { result ≡ read layouts.section_type input.now at }
-    ensures parts { IfOk result (λ r. HasParts input.now r.0) }
+    ensures exact { in_place row.new result ≡ read layouts.section_type input.now at }
+    ensures parts { IfOk result (λ _. HasParts input.now row.new) }
 {
     let (i, at) = index(input, at)?;
     let (first, after) = byte(input, at)?;
     match first {
-        codes::LETTER_C => named_section(i, false, input, after),
-        codes::LETTER_A => absolute_section(i, input, after),
+        codes::LETTER_C => named_section(i, false, input, after, row),
+        codes::LETTER_A => absolute_section(i, input, after, row),
         _ => Err(bad(at, Reason::BadSectionType)),
     }
 }
 
-pub(crate) fn alignment(input: &[u8], at: usize) -> Read
+pub(crate) fn alignment(input: &[u8], at: usize, row: &mut Record) -> Read
     requires { at ≤ length input.now }
-    ensures exact { result ≡ read layouts.alignment input.now at }
-    ensures parts { IfOk result (λ r. HasParts input.now r.0) }
+    ensures exact { in_place row.new result ≡ read layouts.alignment input.now at }
+    ensures parts { IfOk result (λ _. HasParts input.now row.new) }
 {
     let (i, at) = index(input, at)?;
     let (value, at) = number(input, at)?;
     let (other, at) = optional_number(input, at)?;
-    Ok((Record::Alignment(i, value, other), at))
+    *row = Record::Alignment(i, value, other);
+    Ok(at)
 }
 
-pub(crate) fn section_size(input: &[u8], at: usize) -> Read
+pub(crate) fn section_size(input: &[u8], at: usize, row: &mut Record) -> Read
     requires { at ≤ length input.now }
-    ensures exact { result ≡ read (layouts.index_and_number r.SectionSize) input.now at }
-    ensures parts { IfOk result (λ r. HasParts input.now r.0) }
+    ensures exact { in_place row.new result ≡ read (layouts.index_and_number r.SectionSize) input.now at }
+    ensures parts { IfOk result (λ _. HasParts input.now row.new) }
 {
     let (i, at) = index(input, at)?;
     let (size, at) = number(input, at)?;
-    Ok((Record::SectionSize(i, size), at))
+    *row = Record::SectionSize(i, size);
+    Ok(at)
 }
 
-pub(crate) fn section_base(input: &[u8], at: usize) -> Read
+pub(crate) fn section_base(input: &[u8], at: usize, row: &mut Record) -> Read
     requires { at ≤ length input.now }
-    ensures exact { result ≡ read (layouts.index_and_number r.SectionBase) input.now at }
-    ensures parts { IfOk result (λ r. HasParts input.now r.0) }
+    ensures exact { in_place row.new result ≡ read (layouts.index_and_number r.SectionBase) input.now at }
+    ensures parts { IfOk result (λ _. HasParts input.now row.new) }
 {
     let (i, at) = index(input, at)?;
     let (base, at) = number(input, at)?;
-    Ok((Record::SectionBase(i, base), at))
+    *row = Record::SectionBase(i, base);
+    Ok(at)
 }
 
-pub(crate) fn public_name(input: &[u8], at: usize) -> Read
+pub(crate) fn public_name(input: &[u8], at: usize, row: &mut Record) -> Read
     requires { at ≤ length input.now }
-    ensures exact { result ≡ read (layouts.index_and_string r.PublicName) input.now at }
-    ensures parts { IfOk result (λ r. HasParts input.now r.0) }
+    ensures exact { in_place row.new result ≡ read (layouts.index_and_string r.PublicName) input.now at }
+    ensures parts { IfOk result (λ _. HasParts input.now row.new) }
 {
     let (i, at) = index(input, at)?;
     let (name, at) = string(input, at)?;
-    Ok((Record::PublicName(i, name), at))
+    *row = Record::PublicName(i, name);
+    Ok(at)
 }
 
-pub(crate) fn reference_name(input: &[u8], at: usize) -> Read
+pub(crate) fn reference_name(input: &[u8], at: usize, row: &mut Record) -> Read
     requires { at ≤ length input.now }
-    ensures exact { result ≡ read (layouts.index_and_string r.ReferenceName) input.now at }
-    ensures parts { IfOk result (λ r. HasParts input.now r.0) }
+    ensures exact { in_place row.new result ≡ read (layouts.index_and_string r.ReferenceName) input.now at }
+    ensures parts { IfOk result (λ _. HasParts input.now row.new) }
 {
     let (i, at) = index(input, at)?;
     let (name, at) = string(input, at)?;
-    Ok((Record::ReferenceName(i, name), at))
+    *row = Record::ReferenceName(i, name);
+    Ok(at)
 }
 
-pub(crate) fn debug_name(input: &[u8], at: usize) -> Read
+pub(crate) fn debug_name(input: &[u8], at: usize, row: &mut Record) -> Read
     requires { at ≤ length input.now }
-    ensures exact { result ≡ read (layouts.index_and_string r.DebugName) input.now at }
-    ensures parts { IfOk result (λ r. HasParts input.now r.0) }
+    ensures exact { in_place row.new result ≡ read (layouts.index_and_string r.DebugName) input.now at }
+    ensures parts { IfOk result (λ _. HasParts input.now row.new) }
 {
     let (i, at) = index(input, at)?;
     let (name, at) = string(input, at)?;
-    Ok((Record::DebugName(i, name), at))
+    *row = Record::DebugName(i, name);
+    Ok(at)
 }
 
-pub(crate) fn public_value(input: &[u8], at: usize) -> Read
+pub(crate) fn public_value(input: &[u8], at: usize, row: &mut Record) -> Read
     requires { at ≤ length input.now }
-    ensures exact { result ≡ read (layouts.index_and_expression r.PublicValue) input.now at }
-    ensures parts { IfOk result (λ r. HasParts input.now r.0) }
+    ensures exact { in_place row.new result ≡ read (layouts.index_and_expression r.PublicValue) input.now at }
+    ensures parts { IfOk result (λ _. HasParts input.now row.new) }
 {
     let (i, at) = index(input, at)?;
     let (value, at) = expression(input, at)?;
-    Ok((Record::PublicValue(i, value), at))
+    *row = Record::PublicValue(i, value);
+    Ok(at)
 }
 
-pub(crate) fn debug_value(input: &[u8], at: usize) -> Read
+pub(crate) fn debug_value(input: &[u8], at: usize, row: &mut Record) -> Read
     requires { at ≤ length input.now }
-    ensures exact { result ≡ read (layouts.index_and_expression r.DebugValue) input.now at }
-    ensures parts { IfOk result (λ r. HasParts input.now r.0) }
+    ensures exact { in_place row.new result ≡ read (layouts.index_and_expression r.DebugValue) input.now at }
+    ensures parts { IfOk result (λ _. HasParts input.now row.new) }
 {
     let (i, at) = index(input, at)?;
     let (value, at) = expression(input, at)?;
-    Ok((Record::DebugValue(i, value), at))
+    *row = Record::DebugValue(i, value);
+    Ok(at)
 }
 
-pub(crate) fn set_counter(input: &[u8], at: usize) -> Read
+pub(crate) fn set_counter(input: &[u8], at: usize, row: &mut Record) -> Read
     requires { at ≤ length input.now }
-    ensures exact { result ≡ read (layouts.index_and_expression r.SetPc) input.now at }
-    ensures parts { IfOk result (λ r. HasParts input.now r.0) }
+    ensures exact { in_place row.new result ≡ read (layouts.index_and_expression r.SetPc) input.now at }
+    ensures parts { IfOk result (λ _. HasParts input.now row.new) }
 {
     let (i, at) = index(input, at)?;
     let (value, at) = expression(input, at)?;
-    Ok((Record::SetPc(i, value), at))
+    *row = Record::SetPc(i, value);
+    Ok(at)
 }
 
-pub(crate) fn public_note(input: &[u8], at: usize) -> Read
+pub(crate) fn public_note(input: &[u8], at: usize, row: &mut Record) -> Read
     requires { at ≤ length input.now }
-    ensures exact { result ≡ read (layouts.note r.PublicNote) input.now at }
-    ensures parts { IfOk result (λ r. HasParts input.now r.0) }
+    ensures exact { in_place row.new result ≡ read (layouts.note r.PublicNote) input.now at }
+    ensures parts { IfOk result (λ _. HasParts input.now row.new) }
 {
     let (i, at) = index(input, at)?;
     let (type_index, at) = number(input, at)?;
     let (attribute, at) = number(input, at)?;
     let (more, at) = numbers::<4>(input, at)?;
-    Ok((Record::PublicNote(i, type_index, attribute, more), at))
+    *row = Record::PublicNote(i, type_index, attribute, more);
+    Ok(at)
 }
 
-pub(crate) fn reference_note(input: &[u8], at: usize) -> Read
+pub(crate) fn reference_note(input: &[u8], at: usize, row: &mut Record) -> Read
     requires { at ≤ length input.now }
-    ensures exact { result ≡ read (layouts.note r.ReferenceNote) input.now at }
-    ensures parts { IfOk result (λ r. HasParts input.now r.0) }
+    ensures exact { in_place row.new result ≡ read (layouts.note r.ReferenceNote) input.now at }
+    ensures parts { IfOk result (λ _. HasParts input.now row.new) }
 {
     let (i, at) = index(input, at)?;
     let (type_index, at) = number(input, at)?;
     let (attribute, at) = number(input, at)?;
     let (more, at) = numbers::<4>(input, at)?;
-    Ok((Record::ReferenceNote(i, type_index, attribute, more), at))
+    *row = Record::ReferenceNote(i, type_index, attribute, more);
+    Ok(at)
 }
 
-pub(crate) fn debug_note(input: &[u8], at: usize) -> Read
+pub(crate) fn debug_note(input: &[u8], at: usize, row: &mut Record) -> Read
     requires { at ≤ length input.now }
-    ensures exact { result ≡ read layouts.debug_note input.now at }
-    ensures parts { IfOk result (λ r. HasParts input.now r.0) }
+    ensures exact { in_place row.new result ≡ read layouts.debug_note input.now at }
+    ensures parts { IfOk result (λ _. HasParts input.now row.new) }
 {
     let (i, at) = index(input, at)?;
     let (type_index, at) = number(input, at)?;
     let (attribute, at) = debug_attribute(input, at)?;
     let (more, at) = numbers::<4>(input, at)?;
-    Ok((Record::DebugNote(i, type_index, attribute, more), at))
+    *row = Record::DebugNote(i, type_index, attribute, more);
+    Ok(at)
 }
 
-pub(crate) fn weak_reference(input: &[u8], at: usize) -> Read
+pub(crate) fn weak_reference(input: &[u8], at: usize, row: &mut Record) -> Read
     requires { at ≤ length input.now }
-    ensures exact { result ≡ read layouts.weak_reference input.now at }
-    ensures parts { IfOk result (λ r. HasParts input.now r.0) }
+    ensures exact { in_place row.new result ≡ read layouts.weak_reference input.now at }
+    ensures parts { IfOk result (λ _. HasParts input.now row.new) }
 {
     let (i, at) = index(input, at)?;
     let (size, at) = number(input, at)?;
     let (default, at) = optional_number(input, at)?;
-    Ok((Record::WeakReference(i, size, default), at))
+    *row = Record::WeakReference(i, size, default);
+    Ok(at)
 }
 
-fn scope_begin(kind: u64, size: u64, name: Span, input: &[u8], at: usize) -> Read
+fn scope_begin(kind: u64, size: u64, name: Span, input: &[u8], at: usize, row: &mut Record) -> Read
     requires within { at ≤ length input.now }
     requires name { LiesIn input.now name }
-    ensures exact { result ≡ read (layouts.scope_begin kind size name) input.now at }
-    ensures parts { IfOk result (λ r. HasParts input.now r.0) }
+    ensures exact { in_place row.new result ≡ read (layouts.scope_begin kind size name) input.now at }
+    ensures parts { IfOk result (λ _. HasParts input.now row.new) }
 {
     let (stack, at) = number(input, at)?;
     let (type_index, at) = number(input, at)?;
@@ -256,27 +274,33 @@ fn scope_begin(kind: u64, size: u64, name: Span, input: &[u8], at: usize) -> Rea
         type_index,
         offset,
     };
-    Ok((Record::BlockBegin(kind, size, name, tail), at))
+    *row = Record::BlockBegin(kind, size, name, tail);
+    Ok(at)
 }
 
-fn source_begin(kind: u64, size: u64, name: Span, input: &[u8], at: usize) -> Read
+fn source_begin(kind: u64, size: u64, name: Span, input: &[u8], at: usize, row: &mut Record) -> Read
     requires within { at ≤ length input.now }
     requires name { LiesIn input.now name }
-    ensures exact { result ≡ read (layouts.source_begin kind size name) input.now at }
-    ensures parts { IfOk result (λ r. HasParts input.now r.0) }
+    ensures exact { in_place row.new result ≡ read (layouts.source_begin kind size name) input.now at }
+    ensures parts { IfOk result (λ _. HasParts input.now row.new) }
 {
     let (more, at) = numbers::<6>(input, at)?;
-    Ok((
-        Record::BlockBegin(kind, size, name, BlockTail::Source(more)),
-        at,
-    ))
+    *row = Record::BlockBegin(kind, size, name, BlockTail::Source(more));
+    Ok(at)
 }
 
-fn section_begin(kind: u64, size: u64, name: Span, input: &[u8], at: usize) -> Read
+fn section_begin(
+    kind: u64,
+    size: u64,
+    name: Span,
+    input: &[u8],
+    at: usize,
+    row: &mut Record,
+) -> Read
     requires within { at ≤ length input.now }
     requires name { LiesIn input.now name }
-    ensures exact { result ≡ read (layouts.section_begin kind size name) input.now at }
-    ensures parts { IfOk result (λ r. HasParts input.now r.0) }
+    ensures exact { in_place row.new result ≡ read (layouts.section_begin kind size name) input.now at }
+    ensures parts { IfOk result (λ _. HasParts input.now row.new) }
 {
     let (section_type, at) = number(input, at)?;
     let (section, at) = index(input, at)?;
@@ -286,82 +310,100 @@ fn section_begin(kind: u64, size: u64, name: Span, input: &[u8], at: usize) -> R
         section,
         offset,
     };
-    Ok((Record::BlockBegin(kind, size, name, tail), at))
+    *row = Record::BlockBegin(kind, size, name, tail);
+    Ok(at)
 }
 
-fn block_by_kind(kind: u64, size: u64, name: Span, input: &[u8], at: usize) -> Read
+fn block_by_kind(
+    kind: u64,
+    size: u64,
+    name: Span,
+    input: &[u8],
+    at: usize,
+    row: &mut Record,
+) -> Read
     requires within { at ≤ length input.now }
     requires name { LiesIn input.now name }
-    ensures exact { result ≡ read (layouts.block_by_kind kind size name) input.now at }
-    ensures parts { IfOk result (λ r. HasParts input.now r.0) }
+    ensures exact { in_place row.new result ≡ read (layouts.block_by_kind kind size name) input.now at }
+    ensures parts { IfOk result (λ _. HasParts input.now row.new) }
 {
     match kind {
-        3 => Ok((Record::BlockBegin(kind, size, name, BlockTail::Module), at)),
-        5 => source_begin(kind, size, name, input, at),
-        11 => section_begin(kind, size, name, input, at),
-        _ => scope_begin(kind, size, name, input, at),
+        3 => {
+            *row = Record::BlockBegin(kind, size, name, BlockTail::Module);
+            Ok(at)
+        },
+        5 => source_begin(kind, size, name, input, at, row),
+        11 => section_begin(kind, size, name, input, at, row),
+        _ => scope_begin(kind, size, name, input, at, row),
     }
 }
 
-pub(crate) fn block_begin(input: &[u8], at: usize) -> Read
+pub(crate) fn block_begin(input: &[u8], at: usize, row: &mut Record) -> Read
     requires { at ≤ length input.now }
-    ensures exact { result ≡ read layouts.block_begin input.now at }
-    ensures parts { IfOk result (λ r. HasParts input.now r.0) }
+    ensures exact { in_place row.new result ≡ read layouts.block_begin input.now at }
+    ensures parts { IfOk result (λ _. HasParts input.now row.new) }
 {
     let (kind, at) = block_kind(input, at)?;
     let (size, at) = number(input, at)?;
     let (name, at) = string(input, at)?;
-    block_by_kind(kind, size, name, input, at)
+    block_by_kind(kind, size, name, input, at, row)
 }
 
-pub(crate) fn block_end(input: &[u8], at: usize) -> Read
+pub(crate) fn block_end(input: &[u8], at: usize, row: &mut Record) -> Read
     requires { at ≤ length input.now }
-    ensures exact { result ≡ read layouts.block_end input.now at }
-    ensures parts { IfOk result (λ r. HasParts input.now r.0) }
+    ensures exact { in_place row.new result ≡ read layouts.block_end input.now at }
+    ensures parts { IfOk result (λ _. HasParts input.now row.new) }
 {
     let (value, at) = optional_expression(input, at)?;
-    Ok((Record::BlockEnd(value), at))
+    *row = Record::BlockEnd(value);
+    Ok(at)
 }
 
-pub(crate) fn set_section(input: &[u8], at: usize) -> Read
+pub(crate) fn set_section(input: &[u8], at: usize, row: &mut Record) -> Read
     requires { at ≤ length input.now }
-    ensures exact { result ≡ read layouts.set_section input.now at }
-    ensures parts { IfOk result (λ r. HasParts input.now r.0) }
+    ensures exact { in_place row.new result ≡ read layouts.set_section input.now at }
+    ensures parts { IfOk result (λ _. HasParts input.now row.new) }
 {
     let (i, at) = index(input, at)?;
-    Ok((Record::SetSection(i), at))
+    *row = Record::SetSection(i);
+    Ok(at)
 }
 
-pub(crate) fn constant(input: &[u8], at: usize) -> Read
+pub(crate) fn constant(input: &[u8], at: usize, row: &mut Record) -> Read
     requires { at ≤ length input.now }
-    ensures exact { result ≡ read (layouts.constant r.Constant) input.now at }
-    ensures parts { IfOk result (λ r. HasParts input.now r.0) }
+    ensures exact { in_place row.new result ≡ read (layouts.constant r.Constant) input.now at }
+    ensures parts { IfOk result (λ _. HasParts input.now row.new) }
 {
     let (length, at) = count(input, at)?;
     let (bytes, at) = run(length, input, at)?;
-    Ok((Record::Constant(bytes), at))
+    *row = Record::Constant(bytes);
+    Ok(at)
 }
 
-fn repeat_constant(times: u64, input: &[u8], at: usize) -> Read
+fn repeat_constant(times: u64, input: &[u8], at: usize, row: &mut Record) -> Read
     requires { at ≤ length input.now }
-    ensures exact { result ≡ read (layouts.constant (r.RepeatConstant times)) input.now at }
-    ensures parts { IfOk result (λ r. HasParts input.now r.0) }
+    ensures exact { in_place row.new result ≡ read (layouts.constant (r.RepeatConstant times)) input.now at }
+    ensures parts { IfOk result (λ _. HasParts input.now row.new) }
 {
     let (length, at) = count(input, at)?;
     let (bytes, at) = run(length, input, at)?;
-    Ok((Record::RepeatConstant(times, bytes), at))
+    *row = Record::RepeatConstant(times, bytes);
+    Ok(at)
 }
 
-pub(crate) fn repeat(input: &[u8], at: usize) -> Read
+pub(crate) fn repeat(input: &[u8], at: usize, row: &mut Record) -> Read
     requires { at ≤ length input.now }
-    ensures exact { result ≡ read layouts.repeat input.now at }
-    ensures parts { IfOk result (λ r. HasParts input.now r.0) }
+    ensures exact { in_place row.new result ≡ read layouts.repeat input.now at }
+    ensures parts { IfOk result (λ _. HasParts input.now row.new) }
 {
     let (times, at) = number(input, at)?;
     let (code, after) = byte(input, at)?;
     match code {
-        codes::CONSTANT => repeat_constant(times, input, after),
-        codes::RELOCATE => Ok((Record::RepeatRelocate(times), after)),
+        codes::CONSTANT => repeat_constant(times, input, after, row),
+        codes::RELOCATE => {
+            *row = Record::RepeatRelocate(times);
+            Ok(after)
+        },
         _ => Err(bad(at, Reason::BadRecord)),
     }
 }

@@ -16,14 +16,15 @@ use Rattle.mufom_read.proofs.stepping.Judge.{taken-judged, taken_length}
 use Rattle.mufom_read.proofs.prefix.Prefix.read.Goals as goal
 
 pub take-requires-clause-own : goal.take-requires-clause-own
-take-requires-clause-own c = subst (λ (b : List ℕ). HasParts b c.in-Ok.row) (sym c.prefix_of.ensures) (got-own _ _ _ _ c.in-Ok.ensures.whole.1)
+take-requires-clause-own c =
+    subst (λ (b : List ℕ). HasParts b c.read_record.new.row) (sym c.prefix_of.ensures) (got-own _ _ _ _ c.in-Ok.ensures.whole.1)
 
 pub take-requires-clause-placed : goal.take-requires-clause-placed
 take-requires-clause-placed c =
     let prefix = c.requires.known.0 in
     let rest = c.args.rest.now in
     got-placed prefix c.args.place rest _ _ _
-    (subst (λ (m : Mode). IsWholeRecord m c.in-Ok.row (take c.in-Ok.used rest) (first_of (drop c.in-Ok.used rest) None))
+    (subst (λ (m : Mode). IsWholeRecord m c.read_record.new.row (take c.in-Ok.used rest) (first_of (drop c.in-Ok.used rest) None))
     (c.mode.ensures prefix c.requires.known.1) c.in-Ok.ensures.whole.1)
 
 pub overflow_add-result : goal.overflow_add-result
@@ -35,12 +36,13 @@ pub returns-in-Ok : goal.returns-in-Ok
 returns-in-Ok c = if_ok _ _ c.take.result (λ done taken. λ prefix is at.
     let rest = c.args.rest.now in
     let within = c.in-Ok.ensures.whole.0 in
-    taken-judged prefix rest (record_at (mode_at prefix (as_location c.args.place) rest) rest) c.in-Ok.row c.in-Ok.used c.args.self.now.size _ _ done
+    let row = c.read_record.new.row in
+    taken-judged prefix rest (record_at (mode_at prefix (as_location c.args.place) rest) rest) row c.in-Ok.used c.args.self.now.size _ _ done
     (sym (ap (λ r. as_taken r) c.in-Ok.ensures.exact ∙ ap (λ (m : Mode). record_at m rest) (c.mode.ensures prefix is)))
     within
     (subst (λ k. 0 < k) (taken_length c.in-Ok.used rest within) (got-some _ _ _ _ c.in-Ok.ensures.whole.1))
     is.size
-    (ap (λ b. as_record c.in-Ok.row b) c.prefix_of.ensures)
+    (ap (λ b. as_record row b) c.prefix_of.ensures)
     (taken prefix is at)) c.take.ensures
 
 pub returns-in-Err-More : goal.returns-in-Err-More
