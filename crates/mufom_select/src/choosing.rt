@@ -1,8 +1,8 @@
 //! Chooses the members that a link needs, with one worklist.
 
-ghost use Rattle.std.specs.Prelude.{◌≡◌, ◌<◌, ◌^◌, [], ◌∷◌, length, option_to_list, IfSome, IfOk, OnOk};
+ghost use Rattle.std.specs.Prelude.{◌≡◌, ◌<◌, ◌^◌, [], ◌∷◌, length, option_to_list, IfOk, OnOk};
 ghost use Rattle.mufom_meaning.specs.Selection.{IsSelected};
-ghost use Rattle.mufom_select.specs.Choice.{needed_in, all_needed_in, choice, with_member, with_members, positions_from, with_publics};
+ghost use Rattle.mufom_select.specs.Choice.{needed_in, all_needed_in, choice, with_members, positions_from, with_publics};
 ghost use Rattle.mufom_select.specs.Choice.{with_providers, IsWithin};
 ghost use Rattle.mufom_select.specs.Underway.{IsStart, IsUnderway};
 
@@ -12,45 +12,32 @@ use mufom_names::{NameIndex, Reference};
 use mufom_numbers::{List, NoMemory};
 use std::alloc::Global;
 
-// The member that the reference needs, if it is strong and the roots do not define its name.
-fn needed(defined: &NameIndex<'_>, providers: &NameIndex<'_>, reference: &Reference) -> Option<u32>
-    ensures { result ≡ needed_in defined.now providers.now reference.now }
-{
-    if reference.weak.is_some() {
-        return None;
-    }
-    let name = reference.name.as_slice();
-    if defined.find(name).is_some() {
-        return None;
-    }
-    providers.find(name)
-}
-
-// Marks a member and appends it to the order, unless it is marked already.
-fn mark(member: u32, marks: &mut [bool], order: &mut List<u32>) -> Result<(), NoMemory>
-    requires { member < length marks.old }
-    ensures { OnOk result (choice marks.new order.new ≡ with_member (choice marks.old order.old) member) }
-{
-    if !marks[member as usize] {
-        order.push(member)?;
-        marks[member as usize] = true;
-    }
-    Ok(())
-}
-
-// Marks the member that the reference needs, if it needs one.
+// Marks the member that the reference needs, if it needs one, and appends it to the order. If the first member
+// that defines the name is marked already, nothing changes, whether or not the roots define the name too.
 fn mark_needed(
-    needed: Option<u32>,
+    defined: &NameIndex<'_>,
+    providers: &NameIndex<'_>,
+    reference: &Reference,
     marks: &mut [bool],
     order: &mut List<u32>,
 ) -> Result<(), NoMemory>
-    requires { IfSome needed (λ member. member < length marks.old) }
-    ensures { OnOk result (choice marks.new order.new ≡ with_members (choice marks.old order.old) (option_to_list needed)) }
+    requires { IsWithin providers.now (length marks.old) }
+    ensures { let needed = option_to_list (needed_in defined.now providers.now reference.now) in
+        OnOk result (choice marks.new order.new ≡ with_members (choice marks.old order.old) needed) }
 {
-    match needed {
-        Some(member) => mark(member, marks, order),
-        None => Ok(()),
+    if reference.weak.is_some() {
+        return Ok(());
     }
+    let name = reference.name.as_slice();
+    let Some(member) = providers.find(name) else {
+        return Ok(());
+    };
+    if marks[member as usize] || defined.find(name).is_some() {
+        return Ok(());
+    }
+    order.push(member)?;
+    marks[member as usize] = true;
+    Ok(())
 }
 
 // Marks the members that the references need, and appends each new one to the order.
@@ -66,7 +53,7 @@ fn choose(
         OnOk result (choice marks.new order.new ≡ with_members (choice marks.old order.old) all) }
 {
     for reference in references {
-        mark_needed(needed(defined, providers, reference), marks, order)?;
+        mark_needed(defined, providers, reference, marks, order)?;
     }
     Ok(())
 }

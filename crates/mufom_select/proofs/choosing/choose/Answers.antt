@@ -13,7 +13,6 @@ loop-reference-preserved c =
     let after = all_needed_in c.args.defined.now c.args.providers.now (take (i + 1) references) in
     let step =
     c.in_ok-mark_needed.ensures
-    ∙ ap (λ m. with_members (choice c.loop-reference.marks c.loop-reference.order) (option_to_list m)) c.needed.ensures
     ∙ ap (λ s. with_members s (option_to_list (needed_in c.args.defined.now c.args.providers.now c.reference-item.result))) c.loop-reference.invariant.0
     ∙ ap (λ (r : Reference). with_members (with_members start before) (option_to_list (needed_in c.args.defined.now c.args.providers.now r)))
     c.reference-item.is
