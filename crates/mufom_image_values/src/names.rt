@@ -51,6 +51,18 @@ fn add_name<'a>(index: &mut NameIndex<'a>, name: &'a [u8], count: u32) -> Result
     }
 }
 
+// The seed of an index of the names of the commons: it is computed from the names that are added, and from
+// no others.
+fn seed_of_commons(publics: &NameIndex<'_>, references: &[Reference]) -> HashSeed {
+    let mut seed = HashSeed::new();
+    for reference in references {
+        if asks(publics, reference) {
+            seed.add_name(reference.name.as_slice());
+        }
+    }
+    seed
+}
+
 /// Returns an index of the names of the commons, each once, in the order in which references first request
 /// them.
 pub(crate) fn index_of_commons<'a>(
@@ -61,9 +73,7 @@ pub(crate) fn index_of_commons<'a>(
     requires { length references.now < 2 ^ 32 }
     ensures { IfOk result (λ index. index ≡ numbered_from 0 (asked_after publics.now [] references.now)) }
 {
-    let mut seed = HashSeed::new();
-    seed.add_references(references);
-    let mut index = NameIndex::new(alloc, seed);
+    let mut index = NameIndex::new(alloc, seed_of_commons(publics, references));
     let mut count = 0;
     for reference in references {
         if asks(publics, reference) {

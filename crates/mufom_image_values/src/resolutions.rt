@@ -44,10 +44,12 @@ fn resolution_of(
     ensures { result ≡ resolution_by (position_of publics.now reference.now.name) (position_of commons.now reference.now.name) reference.now.weak }
 {
     let name = reference.name.as_slice();
-    match (publics.find(name), commons.find(name)) {
-        (Some(position), _) => Resolution::Public(position),
-        (None, Some(position)) => Resolution::Common(position),
-        (None, None) => unresolved(reference.weak),
+    if let Some(position) = publics.find(name) {
+        return Resolution::Public(position);
+    }
+    match commons.find(name) {
+        Some(position) => Resolution::Common(position),
+        None => unresolved(reference.weak),
     }
 }
 
