@@ -41,6 +41,12 @@ variable_token (Some letter) (Got n used) = if nat_lt n (2 ^ 32) then Got (Var l
 variable_token (Some letter) More = More
 variable_token (Some letter) (Bad offset reason) = Bad 1 BadNumber
 
+-- the variable with a letter and the index that was read
+abbrev pub with_letter : Letter → Taken ℕ → Taken Token
+with_letter letter (Got n used) = Got (Var letter n) used
+with_letter letter More = More
+with_letter letter (Bad offset reason) = Bad offset reason
+
 -- reads the token at the start of the input: the token and the length of its spelling in bytes, More, or an error
 abbrev pub token_at : List ℕ → Taken Token
 token_at [] = More

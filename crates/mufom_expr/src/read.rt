@@ -2,10 +2,11 @@
 
 ghost use Rattle.std.specs.Prelude.{◌≡◌, ◌↔◌, ◌≤◌, ◌+◌, ℕ, List, ◌++◌, length, take, Some};
 ghost use Rattle.mufom_numbers.specs.Spelling.{IfGot, IfBad, number_at};
+ghost use Rattle.mufom_expr.specs.declared.token.Letter.{Letter};
 ghost use Rattle.mufom_expr.specs.declared.token.Token.{Token};
 ghost use Rattle.mufom_expr.specs.Codes.{letter_of, function_of};
 ghost use Rattle.mufom_expr.specs.Spelled.{SpellsToken, IsCutOffToken, BeginsWith, IsLeftOutFunction, IsLeftOutLetter, HasBadIndex};
-ghost use Rattle.mufom_expr.specs.TokenAt.{token_at, variable_token};
+ghost use Rattle.mufom_expr.specs.TokenAt.{token_at, variable_token, with_letter};
 
 use crate::token::{Function, Letter, Token};
 use mufom_numbers::{Reason, Taken, codes, read_number};
@@ -128,19 +129,24 @@ fn variable(letter: Letter, rest: &[u8]) -> Taken<Token>
     {
         return Taken::Got(Token::Var(letter, *index as u32), 2);
     }
-    variable_of_number(letter, rest)
+    match long_index(rest) {
+        Taken::Got(index, used) => Taken::Got(Token::Var(letter, index), used),
+        Taken::More => Taken::More,
+        Taken::Bad { offset, reason } => Taken::Bad { offset, reason },
+    }
 }
 
-// The variable with this letter, whose index is the number that comes next.
+// The index of a variable, which is the number that comes next, and the length of the variable's spelling. The caller
+// makes the token of it: a token that is returned from here would have to be moved.
 #[inline(never)]
-fn variable_of_number(letter: Letter, rest: &[u8]) -> Taken<Token>
-    ensures exact { result ≡ variable_token (Some letter) (number_at rest.now) }
+fn long_index(rest: &[u8]) -> Taken<u32>
+    ensures exact { (letter : Letter) → variable_token (Some letter) (number_at rest.now) ≡ with_letter letter result }
     ensures place { IfBad result (λ offset. offset ≤ 1) }
 {
     match read_number(rest) {
         Taken::Got(n, used) => {
             if n < 1 << 32 {
-                Taken::Got(Token::Var(letter, n as u32), used + 1)
+                Taken::Got(n as u32, used + 1)
             } else {
                 Taken::Bad {
                     offset: 1,
