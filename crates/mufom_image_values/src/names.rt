@@ -51,8 +51,8 @@ fn add_name<'a>(index: &mut NameIndex<'a>, name: &'a [u8], count: u32) -> Result
     }
 }
 
-// The seed of an index of the names of the commons: it is computed from the names that are added, and from
-// no others.
+// The seed of the index of the commons' names. It is computed only from the names that are added to the index. The
+// test is made again when they are added, which costs less than a list of them.
 fn seed_of_commons(publics: &NameIndex<'_>, references: &[Reference]) -> HashSeed {
     let mut seed = HashSeed::new();
     for reference in references {

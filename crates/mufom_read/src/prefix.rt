@@ -428,6 +428,7 @@ impl Prefix {
             (prefixes.as_step (prefixes.size_of prefix) rest.now
             (record_at (mode_at prefix (as_location place) rest.now) rest.now)) rest.now self.new next) }
     {
+        // Any record: `read_record` stores the one that it reads here.
         let mut row = Record::ModuleEnd;
         match read_record(rest, self.mode(place, rest), &mut row) {
             Ok(used) => {

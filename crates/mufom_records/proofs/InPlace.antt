@@ -4,7 +4,8 @@ use Rattle.mufom_records.specs.declared.record.Record.{Record}
 use Rattle.mufom_records.specs.declared.stop.Stop.{Stop}
 use Rattle.mufom_records.specs.Reading.{Reading, in_place}
 
-pub ok_in_place : (P : Record × ℕ → Type 0) (row : Record) (result : Result ℕ Stop) → IfOk (in_place row result) P → IfOk result (λ used. P (row, used))
+pub ok_in_place : (P : Record × ℕ → Type 0) (row : Record) (result : Result ℕ Stop) → IfOk (in_place row result) P
+    → IfOk result (λ used. P (row, used))
 ok_in_place P row (Ok used) holds = holds
 ok_in_place P row (Err stop) holds = tt
 

@@ -1,7 +1,8 @@
 -- Tokens are taken from the bytes of an expression, one after the other.
-use Rattle.std.proofs.Common.{◌≡◌, ℕ, zero, suc, ◌<◌, ◌≤◌, ◌==◌, Bool, true, false, List, [], ◌∷◌, ◌++◌, length, drop, Some, refl, sym, ap, subst, ◌∙◌, arith, append_assoc}
+use Rattle.std.proofs.Common.{◌≡◌, ℕ, zero, suc, ◌<◌, ◌≤◌, ◌==◌, Bool, true, false, List, [], ◌∷◌, ◌++◌, length, drop, Some}
+use Rattle.std.proofs.Common.{refl, sym, ap, subst, ◌∙◌, arith, append_assoc}
 use Rattle.std.proofs.Common.{Result, Ok, Err, IfOk}
-use Rattle.std.proofs.lemmas.List.{append-nil, length-append, length-drop, drop_at}
+use Rattle.std.proofs.lemmas.List.{append-nil, length-append, drop_at}
 use Rattle.mufom_numbers.specs.declared.taken.Taken.{Taken}
 use Rattle.mufom_numbers.specs.declared.taken.Taken.TheVariants as taken
 use Rattle.mufom_expr.specs.declared.token.Token.{Token}
@@ -103,18 +104,16 @@ some_bytes [] spells = let whole = left_none [] [] [] (left_start [] [] spells r
   no_terms : leaves [] ≡ Some 1 → ⊥
   no_terms e = cc
 
--- a token whose bytes are all bytes of a tree is that tree
-pub alone : (input : List ℕ) (token : Token) (used : ℕ) → (tree : Tree) × SpellsTree tree input → token_at input ≡ taken.Got token used → used
-    ≡ length input → Whole input (token ∷ [])
-alone input token used spells got all =
-    let next = left_next input input [] token used (left_start input [] spells refl) (some_bytes input spells) got in
-    left_none input (drop used input) (token ∷ []) next.left (omega (arith, length-drop used input))
-
 -- one more token is taken
 pub left_more : (input rest later : List ℕ) (built : List Token) (token : Token) → IsLeft input rest built → 0 < length rest
     → (used : ℕ) × (token_at rest ≡ taken.Got token used) × (later ≡ drop used rest) → IsLeft input later (built ++ token ∷ [])
 left_more input rest later built token is some (used, got, same) =
     subst (λ (l : List ℕ). IsLeft input l (built ++ token ∷ [])) (sym same) (left_next input rest built token used is some got).left
+
+-- the first token is taken
+pub left_one : (input later : List ℕ) (token : Token) → (tree : Tree) × SpellsTree tree input
+    → (used : ℕ) × (token_at input ≡ taken.Got token used) × (later ≡ drop used input) → IsLeft input later (token ∷ [])
+left_one input later token spells taken = left_more input input later [] token (left_start input [] spells refl) (some_bytes input spells) taken
 
 -- a copy of a tree has the same bytes
 pub copy_spells : {E : Type 0} (copy : Result Tree E) (tree : Tree) (input : List ℕ) → SpellsTree tree input → IfOk copy (λ t. t ≡ tree)
@@ -122,7 +121,7 @@ pub copy_spells : {E : Type 0} (copy : Result Tree E) (tree : Tree) (input : Lis
 copy_spells (Ok t) tree input spells same = subst (λ (u : Tree). SpellsTree u input) (sym same) spells
 copy_spells (Err e) tree input spells same = tt
 
--- what is not found empty has a byte
+-- a list that is not empty has at least one byte
 pub some_left : (n : ℕ) (empty : Bool) → empty ≡ (n == 0) → empty ≡ false → 0 < n
 some_left zero empty is other = absurd (none (sym is ∙ other)) where
   none : true ≡ false → ⊥

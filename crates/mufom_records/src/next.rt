@@ -73,12 +73,12 @@ fn coded(code: u8, input: &[u8], at: usize, row: &mut Record) -> Read
         codes::MODULE_END => {
             *row = Record::ModuleEnd;
             Ok(at)
-        },
+        }
         codes::ASSIGNMENT => assigned(input, at, row),
         codes::RELOCATE => {
             *row = Record::Relocate;
             Ok(at)
-        },
+        }
         codes::SET_SECTION => set_section(input, at, row),
         codes::SECTION_TYPE => section_type(input, at, row),
         codes::SECTION_ALIGNMENT => alignment(input, at, row),
@@ -139,7 +139,8 @@ fn header_letter(part: u8, input: &[u8], at: usize, row: &mut Record) -> Read
 
 // ASW with the offset of this part, the only record that may come at this point of the header.
 fn header_offset(part: u8, input: &[u8], row: &mut Record) -> Read
-    ensures exact { in_place row.new result ≡ read (layouts.begins_with 1 ASSIGNMENT (layouts.begins_with 2 LETTER_W (layouts.numbered_offset part))) input.now 0 }
+    ensures exact { let layout = layouts.begins_with 1 ASSIGNMENT (layouts.begins_with 2 LETTER_W (layouts.numbered_offset part)) in
+        in_place row.new result ≡ read layout input.now 0 }
     ensures parts { IfOk result (λ _. HasParts input.now row.new) }
 {
     let (code, at) = byte(input, 0)?;
@@ -169,9 +170,9 @@ fn record(input: &[u8], mode: Mode, row: &mut Record) -> Read
 /// Reads the record at the start of the input that is expected in this mode, stores it through `row`, and
 /// returns its length in bytes. Does not allocate.
 ///
-/// This is [`next_record`] for callers that use the record at once: a record is large, and here it is not
-/// moved. The error is `More` if the input ends too early, and otherwise the first error from the left with
-/// its offset; `row` is then any record.
+/// This is [`next_record`] for callers that use the record at once. A record is large; storing it through
+/// `row` avoids moving it. The error is `More` if the input ends too early, and otherwise the first error
+/// from the left with its offset. After an error, `row` may hold any record.
 pub fn read_record(input: &[u8], mode: Mode, row: &mut Record) -> Result<usize, Stop>
     // The bytes read are a prefix of the input, and form a complete record, given the byte that follows.
     ensures whole { IfOk result (λ used. (used ≤ length input.now)
@@ -192,6 +193,7 @@ fn next(input: &[u8], mode: Mode) -> Taken<Record>
     ensures exact { result ≡ record_at mode input.now }
     ensures parts { IfGot result (λ row used. HasParts input.now row) }
 {
+    // Any record: `read_record` stores the one that it reads here.
     let mut row = Record::ModuleEnd;
     match read_record(input, mode, &mut row) {
         Ok(used) => Taken::Got(row, used),

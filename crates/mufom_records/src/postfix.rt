@@ -75,7 +75,7 @@ fn split_token(input: &[u8]) -> (Token, &[u8])
     (token, after(input, used))
 }
 
-// The expression of these tokens, copied to a vector of their number.
+// Builds the expression from a copy of these tokens, in a vector of exactly that size.
 fn copied(alloc: Global, tokens: &[Token]) -> Result<Postfix, NoMemory>
     requires one { LeaveOneTerm tokens.now }
     requires few { length tokens.now ≤ 255 }
@@ -87,7 +87,7 @@ fn copied(alloc: Global, tokens: &[Token]) -> Result<Postfix, NoMemory>
 
 /// Builds the expression that these bytes spell. They must be exactly the bytes of an expression, as those at
 /// the position of an expression in a [`Record`](crate::Record) are. The variables keep the indexes of the
-/// file. An expression of one token needs no allocation, any other exactly one.
+/// file. An expression of one token allocates nothing; any other makes one allocation.
 pub fn postfix_of(alloc: Global, input: &[u8]) -> Result<Postfix, NoMemory>
     requires { (tree : Tree) × SpellsTree tree input.now }
     ensures { IfOk result (λ p. SpellsTree p input.now) }

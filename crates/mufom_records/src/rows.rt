@@ -15,7 +15,7 @@ use crate::record::{BlockTail, Record};
 use crate::stop::Stop;
 use mufom_numbers::{Reason, Span, codes};
 
-/// The offset after a record, which is stored through `row`.
+/// The offset after a record that was stored through `row`, or why there is none.
 pub(crate) type Read = Result<usize, Stop>;
 
 pub(crate) fn module_begin(input: &[u8], at: usize, row: &mut Record) -> Read
@@ -331,7 +331,7 @@ fn block_by_kind(
         3 => {
             *row = Record::BlockBegin(kind, size, name, BlockTail::Module);
             Ok(at)
-        },
+        }
         5 => source_begin(kind, size, name, input, at, row),
         11 => section_begin(kind, size, name, input, at, row),
         _ => scope_begin(kind, size, name, input, at, row),
@@ -403,7 +403,7 @@ pub(crate) fn repeat(input: &[u8], at: usize, row: &mut Record) -> Read
         codes::RELOCATE => {
             *row = Record::RepeatRelocate(times);
             Ok(after)
-        },
+        }
         _ => Err(bad(at, Reason::BadRecord)),
     }
 }

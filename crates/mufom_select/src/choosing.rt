@@ -12,8 +12,8 @@ use mufom_names::{NameIndex, Reference};
 use mufom_numbers::{List, NoMemory};
 use std::alloc::Global;
 
-// Marks the member that the reference needs, if it needs one, and appends it to the order. If the first member
-// that defines the name is marked already, nothing changes, whether or not the roots define the name too.
+// Marks the member that the reference needs, if any, and appends it to the order. If the first member that defines
+// the name is marked already, the roots' names are not looked at: nothing would change either way.
 fn mark_needed(
     defined: &NameIndex<'_>,
     providers: &NameIndex<'_>,

@@ -23,7 +23,7 @@ fn kind_text(kind: FieldKind) -> &'static [u8]
     }
 }
 
-// A line `bytes` with at least one byte, without its end.
+// Writes a `bytes` line with at least one byte, without the line end.
 fn some_bytes<K: Output>(out: &mut K, bytes: &[u8])
     ensures { K.takes out.old out.new (((codes "bytes " ++ decimal (length bytes.now)) ++ codes " ") ++ hex_bytes bytes.now) }
 {

@@ -13,8 +13,8 @@ returns-clause-whole c =
     let input = c.args.input.now in
     let mode = c.args.mode in
     let fits = are_bytes input (λ i. omega (arith, c.type_inv.input i)) in
-    ok_in_place (λ r. (r.1 ≤ length input) × IsWholeRecord mode r.0 (take r.1 input) (first_of (drop r.1 input) None)) c.record.new.row c.record.result
-    (rw c.record.ensures.exact (read_at-whole mode input fits))
+    ok_in_place (λ r. (r.1 ≤ length input) × IsWholeRecord mode r.0 (take r.1 input) (first_of (drop r.1 input) None))
+    c.record.new.row c.record.result (rw c.record.ensures.exact (read_at-whole mode input fits))
 
 pub returns-clause-only : goal.returns-clause-only
 returns-clause-only c = λ stored text rest is split.
