@@ -14,6 +14,10 @@ use mufom_names::{HashSeed, NameIndex, Public};
 use mufom_numbers::Bytes;
 use std::alloc::Global;
 
+/// The greatest number of names in an index that needs no seed of its own. So few names cannot cost much time,
+/// even if all of them collide.
+pub(crate) const FEW_NAMES: usize = 16;
+
 // The descriptor of a module.
 fn descriptor_of(entry: &Module) -> Descriptor
     ensures maus { result.maus ≡ entry.now.maus }
@@ -103,9 +107,12 @@ fn public_count(list: &[Module]) -> usize
     count
 }
 
-// The seed of an index of all public names of the list.
-fn seed_of_publics(list: &[Module]) -> HashSeed {
+// The seed of an index of all public names of the list, of which there are `count`.
+fn seed_of_publics(list: &[Module], count: usize) -> HashSeed {
     let mut seed = HashSeed::new();
+    if count <= FEW_NAMES {
+        return seed;
+    }
     for module in list {
         seed.add_publics(module.parts().names.publics.as_slice());
     }
@@ -120,8 +127,9 @@ pub(crate) fn index_publics<'a>(
     requires { length (public_names list.now) < 2 ^ 32 }
     ensures { MatchResult result (λ index. IsIndexed [] 0 (public_names list.now) index) (λ e. IsRefusedName [] 0 (public_names list.now) e) }
 {
-    let seed = seed_of_publics(list);
-    let mut index = NameIndex::with_capacity(alloc, seed, public_count(list))?;
+    let count = public_count(list);
+    let seed = seed_of_publics(list, count);
+    let mut index = NameIndex::with_capacity(alloc, seed, count)?;
     let mut first = 0;
     for module in list {
         let publics = module.parts().names.publics.as_slice();

@@ -7,11 +7,34 @@ ghost use Rattle.mufom_names.specs.Keys.{IsShortReference};
 ghost use Rattle.mufom_meaning.specs.Joined.{position_of as place_of, same_reference};
 ghost use Rattle.mufom_link.specs.References.{merged_with, kept_with, kept_after, target_in, targets_after, keyed};
 
+use crate::facts::FEW_NAMES;
 use mufom_copies::copy_reference;
 use mufom_expr::Letter;
+use mufom_module::Module;
 use mufom_names::{HashSeed, KeyIndex, NameIndex, Reference, reference_key};
 use mufom_numbers::{List, NoMemory};
 use std::alloc::Global;
+
+/// How many references the modules have, or `usize::MAX` if there are more.
+pub(crate) fn reference_count(list: &[Module]) -> usize {
+    let mut count: usize = 0;
+    for entry in list {
+        count = count.saturating_add(entry.parts().names.references.len());
+    }
+    count
+}
+
+// The seed of an index of the references of the modules.
+fn seed_of(list: &[Module]) -> HashSeed {
+    let mut seed = HashSeed::new();
+    if reference_count(list) <= FEW_NAMES {
+        return seed;
+    }
+    for entry in list {
+        seed.add_references(entry.parts().names.references.as_slice());
+    }
+    seed
+}
 
 /// The references that a link keeps so far: of equal ones the first.
 #[derive(Drop)]
@@ -22,13 +45,13 @@ pub(crate) struct References {
 }
 
 impl References {
-    // None yet. The keys are hashed from this seed.
-    pub(crate) fn new(alloc: Global, seed: HashSeed) -> References
+    // None yet.
+    pub(crate) fn new(alloc: Global) -> References
         ensures kept { result.kept ≡ [] }
         ensures keys { result.keys ≡ [] }
     {
         References {
-            keys: KeyIndex::new(alloc, seed),
+            keys: KeyIndex::new(alloc, HashSeed::new()),
             kept: List::new(alloc),
         }
     }
@@ -61,11 +84,24 @@ impl References {
         Ok(next)
     }
 
-    // The variable that replaces the reference in the link. If no public has its name, the
-    // reference is kept.
+    // Before the first reference is kept, makes the index of keys anew, with a seed of all references of the
+    // modules. A link that keeps none needs no seed.
+    fn begin(&mut self, alloc: Global, list: &[Module])
+        requires { self.old.keys ≡ keyed self.old.kept }
+        ensures kept { self.new.kept ≡ self.old.kept }
+        ensures keys { self.new.keys ≡ keyed self.old.kept }
+    {
+        if self.kept.is_empty() {
+            self.keys = KeyIndex::new(alloc, seed_of(list));
+        }
+    }
+
+    // The variable that replaces the reference of one of the modules in the link. If no public has its name,
+    // the reference is kept.
     fn target(
         &mut self,
         alloc: Global,
+        list: &[Module],
         publics: &NameIndex<'_>,
         reference: &Reference,
     ) -> Result<(Letter, u32), NoMemory>
@@ -80,14 +116,18 @@ impl References {
     {
         match publics.find(reference.name.as_slice()) {
             Some(position) => Ok((Letter::I, position)),
-            None => Ok((Letter::X, self.merge(alloc, reference)?)),
+            None => {
+                self.begin(alloc, list);
+                Ok((Letter::X, self.merge(alloc, reference)?))
+            }
         }
     }
 
-    // Adds the variables that replace the references in the link, in order.
+    // Adds the variables that replace references of one of the modules in the link, in order.
     pub(crate) fn resolve(
         &mut self,
         alloc: Global,
+        list: &[Module],
         publics: &NameIndex<'_>,
         references: &[Reference],
         targets: &mut List<(Letter, u32)>,
@@ -102,7 +142,7 @@ impl References {
         ensures keys { OnOk result (self.new.keys ≡ keyed self.new.kept) }
     {
         for reference in references {
-            targets.push(self.target(alloc, publics, reference)?)?;
+            targets.push(self.target(alloc, list, publics, reference)?)?;
         }
         Ok(())
     }

@@ -9,11 +9,11 @@ ghost use Rattle.mufom_link.specs.Refusals.{IsRefusalOf};
 ghost use Rattle.mufom_link.specs.References.{AreResolved};
 
 use crate::facts::{first_mismatch, index_publics, start_count};
-use crate::references::References;
+use crate::references::{References, reference_count};
 use crate::refusal::LinkRefusal;
 use mufom_expr::Letter;
 use mufom_module::Module;
-use mufom_names::{HashSeed, NameIndex, Reference};
+use mufom_names::{NameIndex, Reference};
 use mufom_numbers::{List, NoMemory};
 use std::alloc::Global;
 
@@ -26,24 +26,6 @@ pub(crate) struct Resolved {
     pub kept: List<Reference>,
 }
 
-// How many references the modules have, to reserve memory for their variables.
-fn reference_count(list: &[Module]) -> usize {
-    let mut count: usize = 0;
-    for entry in list {
-        count = count.saturating_add(entry.parts().names.references.len());
-    }
-    count
-}
-
-// The seed of an index of all references of the modules.
-fn seed_of_references(list: &[Module]) -> HashSeed {
-    let mut seed = HashSeed::new();
-    for entry in list {
-        seed.add_references(entry.parts().names.references.as_slice());
-    }
-    seed
-}
-
 // Resolves the references of the modules, given an index of all their publics.
 fn resolved_by(
     alloc: Global,
@@ -54,11 +36,11 @@ fn resolved_by(
     requires light { total_weight list.now < 2 ^ 32 }
     ensures { IfOk result (λ all. AreResolved list.now all.targets all.kept) }
 {
-    let mut references = References::new(alloc, seed_of_references(list));
+    let mut references = References::new(alloc);
     let mut targets = List::with_capacity(alloc, reference_count(list))?;
     for entry in list {
         let own = entry.parts().names.references.as_slice();
-        references.resolve(alloc, publics, own, &mut targets)?;
+        references.resolve(alloc, list, publics, own, &mut targets)?;
     }
     Ok(Resolved {
         targets,
