@@ -9,6 +9,7 @@ ghost use Rattle.mufom_module.specs.Bare.{bare_parts};
 ghost use Rattle.mufom_numbers.specs.declared.limits.TheConstants.{MOST_MODULES};
 ghost use Rattle.mufom_make.specs.Generated.{code_section, entry_at, loads_at, made_plan, module_at, name_at, next_value, references_at};
 
+use arrayvec::ArrayString;
 use itoa::Buffer;
 use mufom_expr::{Builder, ExprFault, FieldKind, Function, Letter, Postfix, Token};
 use mufom_loads::{Item, Load};
@@ -17,7 +18,6 @@ use mufom_names::{Public, Reference};
 use mufom_numbers::{Bytes, List, NoMemory};
 use mufom_plan::{Plan, Region};
 use mufom_sections::{Purpose, Section};
-use smallvec::SmallVec;
 use std::alloc::Global;
 
 // The size of a module's section, in addressable units.
@@ -43,12 +43,14 @@ const FIRST_BASE: u64 = 4096;
 
 // The name that consists of a letter and a number in decimal.
 fn name_at(alloc: Global, letter: &str, number: u32) -> Result<Bytes, NoMemory>
+    requires { length letter.now ≡ 1 }
     ensures { IfOk result (λ name. name ≡ name_at letter.now number) }
 {
     let mut digits = Buffer::new();
-    let mut name: SmallVec<u8, 16> = SmallVec::from_slice(alloc, letter.as_bytes())?;
-    name.extend_from_slice(digits.format(number).as_bytes())?;
-    Bytes::from_slice(alloc, name.as_slice())
+    let mut name: ArrayString<16> = ArrayString::new();
+    name.push_str(letter);
+    name.push_str(digits.format(number));
+    Bytes::from_slice(alloc, name.as_bytes())
 }
 
 // The one section of a module.
