@@ -98,6 +98,9 @@ fn command_text(rt: &impl Abort, alloc: Global, command: &Command) -> String {
     if command.no_debug {
         text.push_str(" no_debug").expect(rt, "memory");
     }
+    if command.gnu {
+        text.push_str(" gnu").expect(rt, "memory");
+    }
     if command.listing {
         text.push_str(" listing").expect(rt, "memory");
     }
@@ -128,7 +131,7 @@ fn gives(rt: &impl Abort, alloc: Global, line: &str, want: &str) {
 }
 
 // Lines and the commands that they give, with files by their numbers.
-static COMMANDS: [(&str, &str); 27] = [
+static COMMANDS: [(&str, &str); 29] = [
     // Files in their order.
     ("show a", "Show 0:a"),
     ("dump a", "Dump 0:a"),
@@ -137,6 +140,8 @@ static COMMANDS: [(&str, &str); 27] = [
     ("show --no-debug a", "Show no_debug 0:a"),
     ("check a --no-debug b", "Check no_debug 0:a 1:b"),
     ("check a b --no-debug", "Check no_debug 0:a 1:b"),
+    ("check --gnu a --no-debug", "Check no_debug gnu 0:a"),
+    ("addr --gnu --at 0 a", "Addr gnu 0:a"),
     // Two dashes end the options, and one dash names a file.
     ("check -- --no-debug -x", "Check 0:--no-debug 1:-x"),
     ("check - a", "Check 0:- 1:a"),

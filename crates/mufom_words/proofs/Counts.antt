@@ -414,16 +414,16 @@ count-rows_after c names words mild =
 -- ---- the commands
 
 app_for-mild : (f : Form) → AreMild (built (app_for f)).top.rules
-app_for-mild form.Show = (inl refl, (inl refl, (inr (refl, refl, refl, refl), tt)))
-app_for-mild form.Check = (inl refl, (inr (refl, refl, refl, refl), tt))
-app_for-mild form.Link = (inl refl, (inl refl, (inl refl, (inr (refl, refl, refl, refl), tt))))
-app_for-mild form.Locate = (inl refl, (inl refl, (inl refl, (inl refl, (inr (refl, refl, refl, refl), tt)))))
-app_for-mild form.Dump = (inl refl, (inl refl, (inl refl, (inr (refl, refl, refl, refl), tt))))
-app_for-mild form.Map = (inl refl, (inl refl, (inl refl, (inr (refl, refl, refl, refl), tt))))
+app_for-mild form.Show = (inl refl, (inl refl, (inl refl, (inr (refl, refl, refl, refl), tt))))
+app_for-mild form.Check = (inl refl, (inl refl, (inr (refl, refl, refl, refl), tt)))
+app_for-mild form.Link = (inl refl, (inl refl, (inl refl, (inl refl, (inr (refl, refl, refl, refl), tt)))))
+app_for-mild form.Locate = (inl refl, (inl refl, (inl refl, (inl refl, (inl refl, (inr (refl, refl, refl, refl), tt))))))
+app_for-mild form.Dump = (inl refl, (inl refl, (inl refl, (inl refl, (inr (refl, refl, refl, refl), tt)))))
+app_for-mild form.Map = (inl refl, (inl refl, (inl refl, (inl refl, (inr (refl, refl, refl, refl), tt)))))
 app_for-mild form.Make = (inr (refl, refl, refl, refl), tt)
-app_for-mild form.Addr = (inl refl, (inl refl, (inr (refl, refl, refl, refl), tt)))
-app_for-mild form.Bin = (inl refl, (inl refl, (inl refl, (inl refl, (inl refl, (inr (refl, refl, refl, refl), tt))))))
-app_for-mild form.Txt = (inl refl, (inl refl, (inl refl, (inl refl, (inr (refl, refl, refl, refl), tt)))))
+app_for-mild form.Addr = (inl refl, (inl refl, (inl refl, (inr (refl, refl, refl, refl), tt))))
+app_for-mild form.Bin = (inl refl, (inl refl, (inl refl, (inl refl, (inl refl, (inl refl, (inr (refl, refl, refl, refl), tt)))))))
+app_for-mild form.Txt = (inl refl, (inl refl, (inl refl, (inl refl, (inl refl, (inr (refl, refl, refl, refl), tt))))))
 app_for-mild form.FromTxt = (inl refl, (inl refl, (inr (refl, refl, refl, refl), tt)))
 app_for-mild form.Build = (inl refl, (inr (refl, refl, refl, refl), tt))
 

@@ -29,6 +29,7 @@ abbrev of_files : Verb → Bool → List Text → Command
 of_files v no_debug files = record {
   verb = v;
   no_debug = no_debug;
+  gnu = false;
   name = None;
   out = None;
   plan = None;
@@ -212,6 +213,7 @@ count_before_limit = refl
 abbrev none_given : Given
 none_given = record {
   no_debug = false;
+  gnu = false;
   name = None;
   plan = None;
   out = None;
@@ -302,6 +304,20 @@ two_texts = refl
 
 no_maus : (maus_of (codes "04") ≡ None) × (maus_of (codes "0") ≡ None) × (maus_of (codes "9") ≡ None) × (maus_of [] ≡ None)
 no_maus = (refl, refl, refl, refl)
+
+-- ---- files of GNU binutils
+
+both_forms : given form.Show (codes "show" ∷ codes "--gnu" ∷ codes "a" ∷ []) ≡ record none_given { gnu = true }
+unfolding clap_on_literals
+both_forms = refl
+
+an_address_in_them : given form.Addr (codes "addr" ∷ codes "--at=0" ∷ codes "--gnu" ∷ codes "a" ∷ []) ≡ record none_given { gnu = true; at = Some (codes "0") }
+unfolding clap_on_literals
+an_address_in_them = refl
+
+no_such_listing : answer_of (codes "build" ∷ codes "--gnu" ∷ codes "-oc" ∷ codes "a" ∷ []) ≡ Err (stop.Usage fault.BadWords)
+unfolding clap_on_literals
+no_such_listing = refl
 
 -- ---- what is kept
 

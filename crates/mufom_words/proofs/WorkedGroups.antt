@@ -19,6 +19,7 @@ abbrev dumps : Command
 dumps = record {
   verb = verb.Dump;
   no_debug = false;
+  gnu = false;
   name = None;
   out = None;
   plan = None;

@@ -20,6 +20,7 @@ flat_list c selected = roots c ++ map (λ member. length (roots c) + member) sel
 pub record AreAlike (c d : Command) : Type 0 where
   pub verb : c.verb ≡ d.verb
   pub no_debug : c.no_debug ≡ d.no_debug
+  pub gnu : c.gnu ≡ d.gnu
   pub name : c.name ≡ d.name
   pub out : c.out ≡ d.out
   pub plan : c.plan ≡ d.plan

@@ -126,6 +126,7 @@ abbrev pub command_by : Usage → Given → Command
 command_by u g = record {
   verb = u.verb;
   no_debug = g.no_debug;
+  gnu = g.gnu;
   name = g.name;
   out = g.out;
   plan = g.plan;

@@ -23,6 +23,7 @@ abbrev pub explain_command : Command
 explain_command = record {
   verb = verb.Explain;
   no_debug = false;
+  gnu = false;
   name = None;
   out = None;
   plan = None;

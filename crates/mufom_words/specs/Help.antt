@@ -40,6 +40,7 @@ abbrev pub own_command : Verb → Text → Command
 own_command v text = record {
   verb = v;
   no_debug = false;
+  gnu = false;
   name = None;
   out = None;
   plan = None;

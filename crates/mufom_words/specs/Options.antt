@@ -27,40 +27,40 @@ pub record Usage : Type 0 where
   pub operands : Operands
 
 abbrev pub usage_of : Form → Usage
-usage_of form.Show = record { verb = verb.Show; name = codes "show"; settings = setting.NoDebug ∷ setting.Listing ∷ []; operands = operands.OneFile }
-usage_of form.Check = record { verb = verb.Check; name = codes "check"; settings = setting.NoDebug ∷ []; operands = operands.SomeFiles }
+usage_of form.Show = record { verb = verb.Show; name = codes "show"; settings = setting.NoDebug ∷ setting.Gnu ∷ setting.Listing ∷ []; operands = operands.OneFile }
+usage_of form.Check = record { verb = verb.Check; name = codes "check"; settings = setting.NoDebug ∷ setting.Gnu ∷ []; operands = operands.SomeFiles }
 usage_of form.Link =
-    record { verb = verb.Link; name = codes "link"; settings = setting.NoDebug ∷ setting.Name ∷ setting.Out ∷ []; operands = operands.GroupedFiles }
+    record { verb = verb.Link; name = codes "link"; settings = setting.NoDebug ∷ setting.Gnu ∷ setting.Name ∷ setting.Out ∷ []; operands = operands.GroupedFiles }
 usage_of form.Locate = record {
   verb = verb.Locate;
   name = codes "locate";
-  settings = setting.NoDebug ∷ setting.Plan ∷ setting.Keep ∷ setting.Out ∷ [];
+  settings = setting.NoDebug ∷ setting.Gnu ∷ setting.Plan ∷ setting.Keep ∷ setting.Out ∷ [];
   operands = operands.GroupedFiles;
 }
 usage_of form.Dump = record {
   verb = verb.Dump;
   name = codes "dump";
-  settings = setting.NoDebug ∷ setting.Plan ∷ setting.Keep ∷ [];
+  settings = setting.NoDebug ∷ setting.Gnu ∷ setting.Plan ∷ setting.Keep ∷ [];
   operands = operands.GroupedFiles;
 }
 usage_of form.Map = record {
   verb = verb.Map;
   name = codes "map";
-  settings = setting.NoDebug ∷ setting.Plan ∷ setting.Keep ∷ [];
+  settings = setting.NoDebug ∷ setting.Gnu ∷ setting.Plan ∷ setting.Keep ∷ [];
   operands = operands.GroupedFiles;
 }
 usage_of form.Make = record { verb = verb.Make; name = codes "make"; settings = []; operands = operands.OneCount }
-usage_of form.Addr = record { verb = verb.Addr; name = codes "addr"; settings = setting.Plan ∷ setting.At ∷ []; operands = operands.GroupedFiles }
+usage_of form.Addr = record { verb = verb.Addr; name = codes "addr"; settings = setting.Gnu ∷ setting.Plan ∷ setting.At ∷ []; operands = operands.GroupedFiles }
 usage_of form.Bin = record {
   verb = verb.Bin;
   name = codes "bin";
-  settings = setting.NoDebug ∷ setting.Plan ∷ setting.Keep ∷ setting.Fill ∷ setting.Out ∷ [];
+  settings = setting.NoDebug ∷ setting.Gnu ∷ setting.Plan ∷ setting.Keep ∷ setting.Fill ∷ setting.Out ∷ [];
   operands = operands.GroupedFiles;
 }
 usage_of form.Txt = record {
   verb = verb.Txt;
   name = codes "txt";
-  settings = setting.NoDebug ∷ setting.Plan ∷ setting.Keep ∷ setting.Out ∷ [];
+  settings = setting.NoDebug ∷ setting.Gnu ∷ setting.Plan ∷ setting.Keep ∷ setting.Out ∷ [];
   operands = operands.GroupedFiles;
 }
 usage_of form.FromTxt = record { verb = verb.FromTxt; name = codes "fromtxt"; settings = setting.Maus ∷ setting.Out ∷ []; operands = operands.OneFile }
@@ -145,6 +145,7 @@ explains _ = false
 -- the name by which `clap` knows the option
 abbrev pub id_of : Setting → Text
 id_of setting.NoDebug = codes "no_debug"
+id_of setting.Gnu = codes "gnu"
 id_of setting.Name = codes "name"
 id_of setting.Plan = codes "plan"
 id_of setting.Out = codes "out"
@@ -154,10 +155,11 @@ id_of setting.Fill = codes "fill"
 id_of setting.Maus = codes "maus"
 id_of setting.Keep = codes "keep"
 
--- `--no-debug`, `--name NAME`, `--plan PLAN`, `-o OUT` (required), `--listing`, `--at ADDRESS` (required),
+-- `--no-debug`, `--gnu`, `--name NAME`, `--plan PLAN`, `-o OUT` (required), `--listing`, `--at ADDRESS` (required),
 -- `--fill BYTE`, `--maus N` and `--keep NAME`
 abbrev pub rule_for : Setting → Rule
 rule_for setting.NoDebug = record (new_rule (id_of setting.NoDebug)) { long = Some (codes "no-debug"); action = Some SetTrue }
+rule_for setting.Gnu = record (new_rule (id_of setting.Gnu)) { long = Some (codes "gnu"); action = Some SetTrue }
 rule_for setting.Name = record (new_rule (id_of setting.Name)) { long = Some (codes "name") }
 rule_for setting.Plan = record (new_rule (id_of setting.Plan)) { long = Some (codes "plan") }
 rule_for setting.Out = record (new_rule (id_of setting.Out)) { short = Some 111; required = true }
@@ -205,6 +207,7 @@ operands_of rows = unwrap_or (all_of (codes "files") rows) []
 -- what the arguments give
 pub record Given : Type 0 where
   pub no_debug : Bool
+  pub gnu : Bool
   pub name : Option Text
   pub plan : Option Text
   pub out : Option Text
@@ -219,6 +222,7 @@ pub record Given : Type 0 where
 abbrev pub given_by : Form → List Row → Given
 given_by f rows = record {
   no_debug = is_true (value_in (usage_of f).settings rows setting.NoDebug);
+  gnu = is_true (value_in (usage_of f).settings rows setting.Gnu);
   name = value_in (usage_of f).settings rows setting.Name;
   plan = value_in (usage_of f).settings rows setting.Plan;
   out = value_in (usage_of f).settings rows setting.Out;

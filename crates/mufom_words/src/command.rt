@@ -87,6 +87,8 @@ pub struct Command {
     pub verb: Verb,
     /// `--no-debug`: the debug parts are skipped.
     pub no_debug: bool,
+    /// `--gnu`: the forms in which GNU binutils writes modules are accepted too.
+    pub gnu: bool,
     /// `--name`: the name of the linked module.
     pub name: Option<Bytes>,
     /// `-o`: the file to write. It is `Some` if and only if the command writes one.

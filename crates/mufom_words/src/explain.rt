@@ -33,6 +33,7 @@ fn explain_command(alloc: Global) -> Command
     Command {
         verb: Verb::Explain,
         no_debug: false,
+        gnu: false,
         name: None,
         out: None,
         plan: None,

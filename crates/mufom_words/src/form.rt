@@ -103,22 +103,35 @@ impl Form {
         ensures { result.now ≡ (usage_of self).settings }
     {
         match self {
-            Form::Show => &[Setting::NoDebug, Setting::Listing],
-            Form::Check => &[Setting::NoDebug],
-            Form::Link => &[Setting::NoDebug, Setting::Name, Setting::Out],
-            Form::Locate => &[Setting::NoDebug, Setting::Plan, Setting::Keep, Setting::Out],
-            Form::Dump => &[Setting::NoDebug, Setting::Plan, Setting::Keep],
-            Form::Map => &[Setting::NoDebug, Setting::Plan, Setting::Keep],
+            Form::Show => &[Setting::NoDebug, Setting::Gnu, Setting::Listing],
+            Form::Check => &[Setting::NoDebug, Setting::Gnu],
+            Form::Link => &[Setting::NoDebug, Setting::Gnu, Setting::Name, Setting::Out],
+            Form::Locate => &[
+                Setting::NoDebug,
+                Setting::Gnu,
+                Setting::Plan,
+                Setting::Keep,
+                Setting::Out,
+            ],
+            Form::Dump => &[Setting::NoDebug, Setting::Gnu, Setting::Plan, Setting::Keep],
+            Form::Map => &[Setting::NoDebug, Setting::Gnu, Setting::Plan, Setting::Keep],
             Form::Make => &[],
-            Form::Addr => &[Setting::Plan, Setting::At],
+            Form::Addr => &[Setting::Gnu, Setting::Plan, Setting::At],
             Form::Bin => &[
                 Setting::NoDebug,
+                Setting::Gnu,
                 Setting::Plan,
                 Setting::Keep,
                 Setting::Fill,
                 Setting::Out,
             ],
-            Form::Txt => &[Setting::NoDebug, Setting::Plan, Setting::Keep, Setting::Out],
+            Form::Txt => &[
+                Setting::NoDebug,
+                Setting::Gnu,
+                Setting::Plan,
+                Setting::Keep,
+                Setting::Out,
+            ],
             Form::FromTxt => &[Setting::Maus, Setting::Out],
             Form::Build => &[Setting::Out],
         }

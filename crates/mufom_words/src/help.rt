@@ -60,6 +60,7 @@ fn own_command(alloc: Global, verb: Verb, text: &'static str) -> Command
     Command {
         verb,
         no_debug: false,
+        gnu: false,
         name: None,
         out: None,
         plan: None,

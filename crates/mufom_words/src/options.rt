@@ -14,6 +14,8 @@ use std::alloc::{AllocError, Global};
 pub(crate) enum Setting {
     /// `--no-debug`
     NoDebug,
+    /// `--gnu`
+    Gnu,
     /// `--name NAME`
     Name,
     /// `--plan PLAN`
@@ -39,6 +41,7 @@ impl Setting {
     {
         match self {
             Setting::NoDebug => "no_debug",
+            Setting::Gnu => "gnu",
             Setting::Name => "name",
             Setting::Plan => "plan",
             Setting::Out => "out",
@@ -59,6 +62,9 @@ fn option_of<'a>(alloc: Global, setting: Setting) -> Arg<'a>
     match setting {
         Setting::NoDebug => Arg::new(alloc, "no_debug")
             .long("no-debug")
+            .action(ArgAction::SetTrue),
+        Setting::Gnu => Arg::new(alloc, "gnu")
+            .long("gnu")
             .action(ArgAction::SetTrue),
         Setting::Name => Arg::new(alloc, "name").long("name"),
         Setting::Plan => Arg::new(alloc, "plan").long("plan"),

@@ -178,6 +178,7 @@ fn command_from(
     Ok(Command {
         verb: form.verb(),
         no_debug: is_given(matches, form, Setting::NoDebug),
+        gnu: is_given(matches, form, Setting::Gnu),
         name,
         out,
         plan,
