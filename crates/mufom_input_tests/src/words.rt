@@ -6,8 +6,8 @@ use mufom_words::{Command, Mark, commands_are_sound, read_words, trees_are_spell
 use std::alloc::Global;
 use std::process::Abort;
 
-// The words of a line, with one blank between each two.
-fn words_of(rt: &impl Abort, alloc: Global, line: &str) -> Vec<String> {
+/// The words of a line, with one blank between each two.
+pub(crate) fn words_of(rt: &impl Abort, alloc: Global, line: &str) -> Vec<String> {
     let mut words = Vec::new(alloc);
     for word in line.split(' ') {
         let word = word.to_string(alloc).expect(rt, "memory");

@@ -10,3 +10,4 @@ mod WorkedGroups
 mod Hexadecimal
 mod HelpLaws
 pub mod ExplainGiven
+mod WorkedFaulty

@@ -5,5 +5,6 @@ pub mod Tree
 pub mod Help
 pub mod Explain
 pub mod Answer
+pub mod Faulty
 pub mod Sound
 pub mod Alike

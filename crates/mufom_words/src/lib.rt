@@ -9,6 +9,7 @@
 mod command;
 mod count;
 mod explain;
+mod faulty;
 mod form;
 mod found;
 mod help;
@@ -16,10 +17,13 @@ mod laws;
 mod operands;
 mod options;
 mod read;
+mod roles;
 mod stop;
 mod values;
 
 pub use command::{Command, HelpText, Mark, Verb};
+pub use faulty::{FaultyArgument, faulty_argument};
 pub use laws::{commands_are_sound, trees_are_spelled};
+pub use options::Setting;
 pub use read::read_words;
 pub use stop::{UsageFault, WordsStop};

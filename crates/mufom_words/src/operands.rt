@@ -36,7 +36,8 @@ pub(crate) enum Walk {
     Members { any: bool },
 }
 
-fn file_word(word: &str) -> FileWord
+/// The kind of an operand.
+pub(crate) fn file_word(word: &str) -> FileWord
     ensures { result ≡ word_of word.now }
 {
     match word {
@@ -92,8 +93,8 @@ fn step_in_tree(depth: u32, opened: bool, any: bool, word: FileWord) -> Result<W
     }
 }
 
-// The state after an operand, or the error in it.
-fn step(walk: Walk, word: FileWord) -> Result<Walk, UsageFault>
+/// The state after an operand, or the error in it.
+pub(crate) fn step(walk: Walk, word: FileWord) -> Result<Walk, UsageFault>
     requires { depth_in walk < 2 ^ 32 - 1 }
     ensures value { result ≡ next_walk walk word }
     ensures depth { IfOk result (λ next. depth_in next ≤ depth_in walk + 1) }

@@ -3,6 +3,7 @@
 ghost use Rattle.std.specs.Prelude.{◌≡◌, IfOk, false};
 ghost use Rattle.clap.specs.Simple.{app_of};
 ghost use Rattle.clap.specs.Walk.{rule_of};
+ghost use Rattle.mufom_words.specs.Faulty.{is_flag, is_required, is_short, spelling_of};
 ghost use Rattle.mufom_words.specs.Options.{app_for, id_of, operands_rule, rule_for};
 
 use crate::form::Form;
@@ -11,7 +12,7 @@ use std::alloc::{AllocError, Global};
 
 /// An option of a command.
 #[derive(Clone, Copy, Debug, PartialEq, Eq)]
-pub(crate) enum Setting {
+pub enum Setting {
     /// `--no-debug`
     NoDebug,
     /// `--gnu`
@@ -35,6 +36,54 @@ pub(crate) enum Setting {
 }
 
 impl Setting {
+    /// The option as it is written in front of its value, for example `--plan` or `-o`.
+    pub fn spelling(self) -> &'static str
+        ensures { result.now ≡ spelling_of self }
+    {
+        match self {
+            Setting::NoDebug => "--no-debug",
+            Setting::Gnu => "--gnu",
+            Setting::Name => "--name",
+            Setting::Plan => "--plan",
+            Setting::Out => "-o",
+            Setting::Listing => "--listing",
+            Setting::At => "--at",
+            Setting::Fill => "--fill",
+            Setting::Maus => "--maus",
+            Setting::Keep => "--keep",
+        }
+    }
+
+    /// Whether the option takes no value.
+    pub(crate) fn is_flag(self) -> bool
+        ensures { result ≡ is_flag self }
+    {
+        match self {
+            Setting::NoDebug | Setting::Gnu | Setting::Listing => true,
+            _ => false,
+        }
+    }
+
+    /// Whether the option has a short name, which its value may follow directly.
+    pub(crate) fn is_short(self) -> bool
+        ensures { result ≡ is_short self }
+    {
+        match self {
+            Setting::Out => true,
+            _ => false,
+        }
+    }
+
+    /// Whether the option must be given.
+    pub(crate) fn is_required(self) -> bool
+        ensures { result ≡ is_required self }
+    {
+        match self {
+            Setting::Out | Setting::At => true,
+            _ => false,
+        }
+    }
+
     /// The name by which `clap` knows the option.
     pub(crate) fn id(self) -> &'static str
         ensures { result.now ≡ id_of self }
