@@ -1,6 +1,8 @@
 -- The host in memory: its state, exactly which of its calls fail, and its state after each call.
 use Rattle.std.specs.Prelude.{ℕ, ◌+◌, min, nat_lt, Bool, not, ◌||◌, if◌then◌else◌, List, [], ◌++◌, length, drop, Option, Some, None, is_some}
 use Rattle.mufom_host.specs.World.{NamedFile, Meaning, Faults, one_more, optional, with_bytes}
+use Rattle.mufom_host.specs.declared.cause.Cause.{Cause}
+use Rattle.mufom_host.specs.declared.cause.Cause.TheVariants as cause
 use Rattle.mufom_host.specs.Revealed.{revealed}
 use Rattle.mufom_host.specs.Kept.{names_with, has_file, is_listed, bytes_after, has_any, passes_file}
 
@@ -24,6 +26,8 @@ pub record Memory : Type 0 where
   pub fail_writes : List ℕ
   pub read_number : ℕ
   pub write_number : ℕ
+  -- the cause of the last failed call
+  pub cause : Cause
 
 -- a new host: no file is open or made, nothing is printed, and all counts are 0
 abbrev pub fresh : List NamedFile → List ℕ → List ℕ → ℕ → Memory
@@ -42,6 +46,7 @@ fresh files fail_reads fail_writes room = record {
   fail_writes = fail_writes;
   read_number = 0;
   write_number = 0;
+  cause = cause.Unknown;
 }
 
 -- a host in memory reveals its whole state, and its files if they hold bytes (numbers below 256)
@@ -69,13 +74,17 @@ abbrev pub write_called : Memory → Memory
 write_called m = record m { write_number = one_more m.write_number }
 
 abbrev pub read_failed : Memory → Memory
-read_failed m = record m { read_number = one_more m.read_number; faults = record m.faults { reads = one_more m.faults.reads } }
+read_failed m = record m { read_number = one_more m.read_number; faults = record m.faults { reads = one_more m.faults.reads }; cause = cause.Unknown }
 
 abbrev pub write_failed : Memory → Memory
-write_failed m = record m { write_number = one_more m.write_number; faults = record m.faults { writes = one_more m.faults.writes } }
+write_failed m = record m { write_number = one_more m.write_number; faults = record m.faults { writes = one_more m.faults.writes }; cause = cause.Unknown }
 
 abbrev pub complaint_failed : Memory → Memory
-complaint_failed m = record m { write_number = one_more m.write_number; faults = record m.faults { complaints = one_more m.faults.complaints } }
+complaint_failed m = record m {
+  write_number = one_more m.write_number;
+  faults = record m.faults { complaints = one_more m.faults.complaints };
+  cause = cause.Unknown;
+}
 
 -- the next open or read is in the list of the calls that fail; is_failing_write says the same of the next other call
 abbrev pub is_failing_read : Memory → Bool
@@ -93,10 +102,14 @@ after_read m size = if is_failing_read m then read_failed m else record (read_ca
 abbrev pub open_fails : Memory → List ℕ → Bool
 open_fails m name = is_failing_read m || (not (is_some (names_with m.room m.opened name)) || not (has_file name m.files))
 
+-- why an open of this name failed: no file has it, or a host in memory cannot tell
+abbrev pub open_cause : Memory → List ℕ → Cause
+open_cause m name = if has_file name m.files then cause.Unknown else cause.NoFile
+
 abbrev pub after_open : Memory → List ℕ → Memory
 after_open m name =
     if open_fails m name
-    then record (read_failed m) { opened = names_with m.room m.opened name }
+    then record (read_failed m) { opened = names_with m.room m.opened name; cause = open_cause m name }
     else record (read_called m) { opened = names_with m.room m.opened name; left = bytes_after name m.files m.left }
 
 -- the call is listed to fail, or the file being made has no room for the chunk

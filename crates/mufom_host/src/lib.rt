@@ -8,6 +8,7 @@
 #![tactic(auto)]
 
 mod block;
+mod cause;
 mod counts;
 mod laws;
 mod making;
@@ -16,6 +17,7 @@ mod real;
 mod world;
 
 pub use block::Block;
+pub use cause::Cause;
 pub use laws::modest_calls_never_fail;
 pub use memory::MemHost;
 pub use real::RealHost;

@@ -6,8 +6,8 @@ mod files;
 mod names;
 mod output;
 
-ghost use Rattle.std.specs.Prelude.{◌≡◌, ◌||◌, min, length, IfOk, is_err, option_map};
-ghost use Rattle.mufom_host.specs.World.{optional, HasCause, AtMost, Reads, Opens, Writes, Creates, Finishes, Grows, KeepsAllButLeft};
+ghost use Rattle.std.specs.Prelude.{◌≡◌, ◌≤◌, ◌||◌, min, length, IfOk, is_err, option_map};
+ghost use Rattle.mufom_host.specs.World.{one_more, optional, HasCause, AtMost, Reads, Opens, Writes, Creates, Finishes, Grows, KeepsAllButLeft};
 ghost use Rattle.mufom_host.specs.World.{KeepsAllButOpened, KeepsAllButMaking, KeepsAllButCreated, KeepsAllButMade, KeepsAllButOut, KeepsAllButErr};
 ghost use Rattle.mufom_host.specs.World.{KeepsAllButReads, KeepsAllButWrites, KeepsAllButComplaints};
 ghost use Rattle.mufom_host.specs.Memory.{memory_meaning, memory_faults, fresh, is_failing_read, is_failing_write, after_read, open_fails};
@@ -15,7 +15,7 @@ ghost use Rattle.mufom_host.specs.Memory.{after_open, write_fails, after_write, 
 ghost use Rattle.mufom_host.specs.Memory.{after_complain};
 
 use crate::counts::Counts;
-use crate::{Failed, Host, Sink, Source, World};
+use crate::{Cause, Failed, Host, Sink, Source, World};
 use buffer::Buffer;
 use calls::Calls;
 use files::Files;
@@ -49,6 +49,7 @@ pub struct MemHost {
     reads: Calls,
     writes: Calls,
     counts: Counts,
+    cause: Cause,
 }
 
 impl Model for MemHost {
@@ -73,6 +74,7 @@ impl Model for MemHost {
       fail_writes = h.writes.failing;
       read_number = h.reads.number;
       write_number = h.writes.number;
+      cause = h.cause;
     } };
 
     ghost invariant = { λ h. HasOneRoom h.out.room h.err.room h.output.room h.opened.room h.created.room };
@@ -91,6 +93,7 @@ impl Drop for MemHost {
             reads: _,
             writes: _,
             counts: _,
+            cause: _,
         } = self;
     }
 }
@@ -125,7 +128,29 @@ impl MemHost {
             reads: Calls::new(fail_reads),
             writes: Calls::new(fail_writes),
             counts: Counts::none(),
+            cause: Cause::Unknown,
         })
+    }
+
+    // Counts a failed open or read, and keeps its cause.
+    fn read_failed(&mut self, cause: Cause) -> Failed
+        ensures after { self.new ≡ record self.old { faults = record self.old.faults { reads = one_more self.old.faults.reads }; cause = cause } }
+        ensures later { self.old.faults.reads ≤ self.new.faults.reads }
+    {
+        self.cause = cause;
+        self.counts.read_failed()
+    }
+
+    // Counts a failed call that makes a file or prints.
+    fn write_failed(&mut self) -> Failed
+        ensures after { self.new ≡ record self.old {
+          faults = record self.old.faults { writes = one_more self.old.faults.writes };
+          cause = Cause.Unknown;
+        } }
+        ensures later { self.old.faults.writes ≤ self.new.faults.writes }
+    {
+        self.cause = Cause::Unknown;
+        self.counts.write_failed()
     }
 
     /// The name and the bytes of the finished file, or `None` if no file is finished.
@@ -183,7 +208,7 @@ impl Source for MemHost {
         ensures after { self.new ≡ after_read self.old (length buffer.new) }
     {
         if self.reads.fails() {
-            return Err(self.counts.read_failed());
+            return Err(self.read_failed(Cause::Unknown));
         }
         Ok(self.files.read(buffer))
     }
@@ -203,7 +228,7 @@ impl Sink for MemHost {
         ensures after { self.new ≡ after_write self.old chunk.now }
     {
         if self.writes.fails() || !self.output.has_room_for(chunk.len()) {
-            return Err(self.counts.write_failed());
+            return Err(self.write_failed());
         }
         self.output.add(chunk);
         Ok(chunk.len())
@@ -223,9 +248,13 @@ impl Host for MemHost {
     {
         let fails = self.reads.fails();
         let is_known = self.opened.add(name.as_bytes());
-        if fails || !is_known || !self.files.open(name) {
-            return Err(self.counts.read_failed());
+        if !self.files.has(name) {
+            return Err(self.read_failed(Cause::NoFile));
         }
+        if fails || !is_known {
+            return Err(self.read_failed(Cause::Unknown));
+        }
+        let _ = self.files.open(name);
         Ok(())
     }
 
@@ -242,7 +271,7 @@ impl Host for MemHost {
         let fails = self.writes.fails();
         let is_known = self.created.add(name.as_bytes());
         if fails || !is_known || self.output.is_made() {
-            return Err(self.counts.write_failed());
+            return Err(self.write_failed());
         }
         self.output.create(name.as_bytes());
         Ok(())
@@ -259,7 +288,7 @@ impl Host for MemHost {
         ensures after { self.new ≡ after_finish self.old }
     {
         if self.writes.fails() {
-            return Err(self.counts.write_failed());
+            return Err(self.write_failed());
         }
         self.output.finish();
         Ok(())
@@ -276,7 +305,7 @@ impl Host for MemHost {
         ensures after { self.new ≡ after_print self.old text.now }
     {
         if self.writes.fails() || !self.out.has_room_for(text.len()) {
-            return Err(self.counts.write_failed());
+            return Err(self.write_failed());
         }
         self.out.add(text);
         Ok(())
@@ -293,9 +322,16 @@ impl Host for MemHost {
         ensures after { self.new ≡ after_complain self.old text.now }
     {
         if self.writes.fails() || !self.err.has_room_for(text.len()) {
+            self.cause = Cause::Unknown;
             return Err(self.counts.complaint_failed());
         }
         self.err.add(text);
         Ok(())
+    }
+
+    fn cause(&self) -> Cause
+        ensures { result ≡ self.now.cause }
+    {
+        self.cause
     }
 }

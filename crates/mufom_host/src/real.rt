@@ -4,10 +4,10 @@ ghost use Rattle.std.specs.Prelude.{◌≡◌};
 
 use crate::counts::Counts;
 use crate::making::{Making, NotWritten};
-use crate::{Failed, Host, Sink, Source, World};
+use crate::{Cause, Failed, Host, Sink, Source, World};
 use std::fs;
 use std::fs::File;
-use std::io::{ErrorKind, Read, Write};
+use std::io::{Error, ErrorKind, Read, Write};
 use std::marker::Model;
 
 /// The host of the files and standard streams of the process. It is trusted code, and reveals no content.
@@ -26,6 +26,17 @@ pub struct RealHost {
     input: Option<File>,
     output: Option<Making>,
     counts: Counts,
+    cause: Cause,
+}
+
+// The cause that an error of the system tells.
+fn cause_of(error: &Error) -> Cause {
+    match error.kind() {
+        ErrorKind::NotFound => Cause::NoFile,
+        ErrorKind::IsADirectory => Cause::Folder,
+        ErrorKind::PermissionDenied => Cause::NoPermission,
+        _ => Cause::Unknown,
+    }
 }
 
 impl Model for RealHost {
@@ -58,6 +69,7 @@ impl RealHost {
             input: None,
             output: None,
             counts: Counts::none(),
+            cause: Cause::Unknown,
         }
     }
 }
@@ -71,9 +83,13 @@ impl Source for RealHost {
             match file.read(buffer) {
                 Ok(count) => return Ok(count),
                 Err(error) if error.kind() == ErrorKind::Interrupted => {}
-                Err(_) => break,
+                Err(error) => {
+                    self.cause = cause_of(&error);
+                    return Err(self.counts.read_failed());
+                }
             }
         }
+        self.cause = Cause::Unknown;
         Err(self.counts.read_failed())
     }
 }
@@ -97,7 +113,10 @@ impl Host for RealHost {
                 self.input = Some(file);
                 Ok(())
             }
-            Err(_) => Err(self.counts.read_failed()),
+            Err(error) => {
+                self.cause = cause_of(&error);
+                Err(self.counts.read_failed())
+            }
         }
     }
 
@@ -133,5 +152,9 @@ impl Host for RealHost {
             Ok(()) => Ok(()),
             Err(_) => Err(self.counts.complaint_failed()),
         }
+    }
+
+    fn cause(&self) -> Cause {
+        self.cause
     }
 }

@@ -5,6 +5,7 @@ ghost use Rattle.mufom_host.specs.World.{Meaning, Faults, RevealsTogether, HasCa
 ghost use Rattle.mufom_host.specs.World.{WritesAll, KeepsAllButLeft, KeepsAllButOpened, KeepsAllButMaking, KeepsAllButCreated, KeepsAllButMade};
 ghost use Rattle.mufom_host.specs.World.{KeepsAllButOut, KeepsAllButErr, KeepsAllButReads, KeepsAllButWrites, KeepsAllButComplaints};
 
+use crate::Cause;
 use thiserror::Error;
 
 /// The error of a host's call: the call failed, and its count of errors rose.
@@ -100,6 +101,9 @@ pub trait Host: Source + Sink {
         ensures stays { KeepsAllButErr (Self.meaning self.old) (Self.meaning self.new) }
         ensures cause { HasCause (Self.faults self.old).complaints (Self.faults self.new).complaints result }
         ensures counts { KeepsAllButComplaints (Self.faults self.old) (Self.faults self.new) };
+
+    /// The cause of the last failed call, for messages. No clause binds it: a host tells what it knows.
+    fn cause(&self) -> Cause;
 }
 
 /// Writes all of the bytes, in as many calls as the sink needs.

@@ -58,6 +58,16 @@ impl Files {
         }
     }
 
+    /// Whether there is a file with this name.
+    pub fn has(&self, name: &str) -> bool
+        ensures { result ≡ has_file name.now self.now.files }
+    {
+        let Some(_) = position_of(self.files.as_slice(), name) else {
+            return false;
+        };
+        true
+    }
+
     /// Opens the first file with this name, and returns whether there is one. If there is none, nothing
     /// changes.
     pub fn open(&mut self, name: &str) -> bool
