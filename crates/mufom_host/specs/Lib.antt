@@ -1,5 +1,6 @@
 pub mod World
 pub mod Spans
+pub mod Streams
 pub mod Counts
 pub mod Real
 pub mod Revealed

@@ -11,9 +11,9 @@ mod block;
 mod cause;
 mod counts;
 mod laws;
-mod making;
 mod memory;
 mod real;
+mod streams;
 mod world;
 
 pub use block::Block;

@@ -3,40 +3,31 @@
 ghost use Rattle.std.specs.Prelude.{◌≡◌};
 
 use crate::counts::Counts;
-use crate::making::{Making, NotWritten};
+use crate::streams::{Making, NotWritten, cause_of, pass_on, take_from};
 use crate::{Cause, Failed, Host, Sink, Source, World};
 use std::fs;
 use std::fs::File;
-use std::io::{Error, ErrorKind, Read, Write};
 use std::marker::Model;
 
-/// The host of the files and standard streams of the process. It is trusted code, and reveals no content.
+/// The host of the files and standard streams of the process. It reveals no content.
 ///
 /// [`print`](Host::print) and [`complain`](Host::complain) pass their whole text on to the system before
 /// they return, so that nothing is left to print when the program ends: give them large chunks.
 /// [`write`](Sink::write) gathers bytes and passes them on in blocks of up to 65,536 bytes, and
 /// [`finish`](Host::finish) passes on the last one. So the failure of a block may be reported by a later call
 /// than the one that wrote its bytes, at the latest by `finish`. The file then keeps a prefix of what was
-/// written, and can't be finished any more. Each call that returns [`Failed`] is counted as an error. For
-/// this host it is proved only that a failed call has raised its count; tests check that files and streams
-/// hold what was written.
+/// written, and can't be finished any more. Each call that returns [`Failed`] is counted as an error.
+///
+/// How bytes reach a file or a stream, and how they are read, is proved over any writer and reader whose
+/// contents are known (`streams.rt`). What is trusted is that the system's files and streams are such writers
+/// and readers, and that the calls below use the file that they name.
 #[derive(Drop)]
 pub struct RealHost {
     rt: HostRuntime,
     input: Option<File>,
-    output: Option<Making>,
+    output: Option<Making<File>>,
     counts: Counts,
     cause: Cause,
-}
-
-// The cause that an error of the system tells.
-fn cause_of(error: &Error) -> Cause {
-    match error.kind() {
-        ErrorKind::NotFound => Cause::NoFile,
-        ErrorKind::IsADirectory => Cause::Folder,
-        ErrorKind::PermissionDenied => Cause::NoPermission,
-        _ => Cause::Unknown,
-    }
 }
 
 impl Model for RealHost {
@@ -79,18 +70,13 @@ impl Source for RealHost {
         let Some(file) = &mut self.input else {
             return Ok(0);
         };
-        for _ in 0..u64::MAX {
-            match file.read(buffer) {
-                Ok(count) => return Ok(count),
-                Err(error) if error.kind() == ErrorKind::Interrupted => {}
-                Err(error) => {
-                    self.cause = cause_of(&error);
-                    return Err(self.counts.read_failed());
-                }
+        match take_from(file, buffer) {
+            Ok(count) => Ok(count),
+            Err(cause) => {
+                self.cause = cause;
+                Err(self.counts.read_failed())
             }
         }
-        self.cause = Cause::Unknown;
-        Err(self.counts.read_failed())
     }
 }
 
@@ -141,16 +127,16 @@ impl Host for RealHost {
     }
 
     fn print(&mut self, text: &[u8]) -> Result<(), Failed> {
-        match self.rt.stdout().write_all(text) {
+        match pass_on(&mut self.rt.stdout(), text) {
             Ok(()) => Ok(()),
-            Err(_) => Err(self.counts.write_failed()),
+            Err(NotWritten) => Err(self.counts.write_failed()),
         }
     }
 
     fn complain(&mut self, text: &[u8]) -> Result<(), Failed> {
-        match self.rt.stderr().write_all(text) {
+        match pass_on(&mut self.rt.stderr(), text) {
             Ok(()) => Ok(()),
-            Err(_) => Err(self.counts.complaint_failed()),
+            Err(NotWritten) => Err(self.counts.complaint_failed()),
         }
     }
 
