@@ -22,7 +22,7 @@ try_page() {
 import re, shutil, subprocess, sys, textwrap, time
 
 # Tools that a machine may lack, and what a command that needs them mentions.
-TOOLS = {"srec_cat": r"srec_cat|\.srec\b", "xxd": r"\bxxd\b", "make": r"^make\b"}
+TOOLS = {"srec_cat": r"srec_cat|\.srec\b|^make .*\bsrec\b", "xxd": r"\bxxd\b", "make": r"^make\b"}
 lacking = [mention for tool, mention in TOOLS.items() if not shutil.which(tool)]
 # TODO: remove these two lines once the program has --gnu.
 if subprocess.run(["mufom", "explain", "check", "--gnu", "x"], stdout=subprocess.PIPE).stdout.startswith(b"usage: bad words"):
