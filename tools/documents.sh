@@ -1,8 +1,8 @@
 #!/usr/bin/env bash
 # Checks the documents against the built program and the sources:  bash tools/documents.sh PROGRAM
 #
-# It runs each example of the README, the guide, the commands and the errors, and checks the names that `help` knows and
-# whether the generated pages are up to date. The last line is 'N passed, N failed'; the status is 0 if nothing failed.
+# It runs each example of the README, the guide and the other pages, and checks the names that `help` knows, the links between
+# the pages, and whether the generated pages are up to date. The last line is 'N passed, N failed'; the status is 0 if nothing failed.
 set -u
 : "${1:?the built program is missing: bash tools/documents.sh PROGRAM}"
 program=$(readlink -f "$1")
@@ -20,6 +20,7 @@ try() {
 try bash examples/try.sh "$program"
 try python3 tools/refusals.py "$program"
 try python3 tools/help_topics.py
+try python3 tools/links.py
 try python3 tools/real_host.py "$program"
 try python3 tools/audit.py --check
 try python3 tools/public_calls.py --check
