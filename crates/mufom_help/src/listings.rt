@@ -166,8 +166,8 @@ pub const ATTRIBUTE: &str = "Attribute: a note of a debug name has an unknown at
 
   refused: listing: Attribute
 
-The number after `attribute` in a line `note` of a debug name is none that a
-module can have there.
+The number after `attribute` in a line `note` of a debug name must be 1, 2, 3,
+4, 5, 7, 8 or 10.
 
 What to do:
   - Compare the line with those of a module that can be read:
@@ -176,7 +176,7 @@ What to do:
 ";
 
 /// The text of `help Nesting`.
-pub const NESTING: &str = "Nesting: a block that has no end address has one
+pub const NESTING: &str = "Nesting: a module or source block has an address at its end
 
   refused: listing: Nesting
 
@@ -198,8 +198,8 @@ pub const WEIGHT: &str = "Weight: the module is too large
 
   refused: listing: Weight
 
-The parts of the module, counted with the records that a file of it would have,
-come to 2^32 bytes or more.
+The records of the module, as they would be in its file, have 2^32 bytes or
+more.
 
 What to do:
   - Make several modules, and link them when they are located.

@@ -43,8 +43,8 @@ Usual causes:
 
 What to do:
   - Put `explain` before the command: it names section N and its file, and how
-    far the sections of region R reach above its base. A common is named in the
-    same way: it is space that weak references with a size request.
+    far the sections of region R reach above its base. A common is memory for a
+    variable that modules request and none defines.
   - Make the region larger, or list some names in a region that has space.
   - Remove what is not needed.
 ";
@@ -67,7 +67,7 @@ Usual causes:
 What to do:
   - Put `explain` before the command: it names both sections and their files. A
     section with `base` in its line has a base address of its own. A common is
-    named in the same way: it is space that weak references with a size request.
+    memory for a variable that modules request and none defines.
   - Move one of them: change its address in the source, or `base` and `size` of
     the region so that they begin after the other.
 ";

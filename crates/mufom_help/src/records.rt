@@ -204,8 +204,8 @@ pub const TOO_LONG: &str = "TooLong: an expression, a plan or a raw image is lon
   refused: plan: TooLong
     The file of the plan has more than 65,536 bytes. The usual cause is that
     --plan names another file than was meant. Check the name. If the plan is
-    really that long, remove its comments, and list the names of sections only
-    where * does not serve.
+    really that long, remove its comments, and list * in place of names of
+    sections.
 
   refused: bin: TooLong COUNT
     The raw image would have COUNT bytes, more than 67,108,864, since it goes

@@ -281,9 +281,9 @@ pub const BLOCK_NESTING: &str = "BlockNesting: debug blocks are not opened and c
 
   refused: file N at OFFSET: BlockNesting
 
-In file N, counted from 0, the record at OFFSET closes a debug block where none
-is open, or closes with an expression a block of kind 3 or 5, which has none;
-or it opens a block that is still open at the end of the debug part.
+In file N, counted from 0, the record at OFFSET closes a debug block while none
+is open; or it closes a block of kind 3 or 5 with an expression, which only
+other kinds have; or it opens a block that is never closed.
 
 Usual causes:
   - The compiler writes blocks in a way that this program does not read.
