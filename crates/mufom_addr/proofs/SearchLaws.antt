@@ -12,7 +12,8 @@ use Rattle.mufom_addr.specs.declared.search.Search.{Search}
 use Rattle.mufom_addr.specs.Entries.{Entry, block, note, value}
 use Rattle.mufom_addr.specs.Greatest.{first_greatest}
 use Rattle.mufom_addr.specs.AddressHit.{Function, function_begin, function_between, functions_of, innermost, is_around, line_at, line_given, line_of}
-use Rattle.mufom_addr.specs.AddressHit.{lines_after, nearest, number_of}
+use Rattle.mufom_addr.specs.AddressHit.{lines_after, nearest}
+use Rattle.mufom_expr.specs.Numbers.{number_of}
 use Rattle.mufom_addr.specs.Search.{HasSeen, SeesMore, function_held, line_held, number_for, or_greater, with_function, with_line}
 use Rattle.mufom_addr.proofs.GreatestLaws.{first_greatest-push}
 

@@ -1,7 +1,8 @@
 -- The function and the line at an address.
 use Rattle.std.specs.Prelude.{ℕ, ◌==◌, ◌&&◌, Bool, List, [], ◌∷◌, ◌++◌, filter, option_map, Option, Some, None, nat_le, if◌then◌else◌}
 use Rattle.std.specs.Option.{option_or}
-use Rattle.mufom_expr.specs.Tree.{Tree, number, variable, one, two}
+use Rattle.mufom_expr.specs.Tree.{Tree}
+use Rattle.mufom_expr.specs.Numbers.{number_of}
 use Rattle.mufom_names.specs.declared.name.Note.{Note}
 use Rattle.mufom_debug.specs.declared.item.BlockHead.{BlockHead}
 use Rattle.mufom_debug.specs.declared.item.BlockHead.TheVariants as heads
@@ -12,13 +13,6 @@ use Rattle.mufom_addr.specs.declared.hit.LineHit.{LineHit}
 use Rattle.mufom_addr.specs.declared.hit.Hit.{Hit}
 use Rattle.mufom_addr.specs.Entries.{Entry, block, note, value, outermost, entries_of}
 use Rattle.mufom_addr.specs.Greatest.{first_greatest}
-
--- the number that a located expression consists of; 0 for any other expression, which no located item has
-abbrev pub number_of : Tree → ℕ
-number_of (number n) = n
-number_of (variable l p) = 0
-number_of (one f a) = 0
-number_of (two f a b) = 0
 
 -- ---- functions
 

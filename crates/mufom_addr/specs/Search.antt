@@ -1,18 +1,11 @@
 -- The state of a search for a function and a line, and the items that it has seen.
 use Rattle.std.specs.Prelude.{◌≡◌, ℕ, List, [], ◌∷◌, ◌++◌, Option, Some, None, option_map, slice_index_or, reverse, nat_lt, nat_le, if◌then◌else◌}
-use Rattle.mufom_expr.specs.declared.token.Token.{Token}
-use Rattle.mufom_expr.specs.declared.token.Token.TheVariants.{Number}
 use Rattle.mufom_addr.specs.declared.hit.LineHit.{LineHit}
 use Rattle.mufom_addr.specs.declared.search.FoundFunction.{FoundFunction}
 use Rattle.mufom_addr.specs.declared.search.FoundLine.{FoundLine}
 use Rattle.mufom_addr.specs.declared.search.Search.{Search}
 use Rattle.mufom_addr.specs.Entries.{Entry}
 use Rattle.mufom_addr.specs.AddressHit.{Function, innermost, is_around, nearest, line_of}
-
--- the value of a single number token
-abbrev pub number_in : List Token → ℕ
-number_in (Number n ∷ []) = n
-number_in _ = 0
 
 abbrev pub function_held : FoundFunction → Function
 function_held f = record { depth = f.depth; hit = record { kind = f.kind; name = f.name.now; begin = f.begin; «end» = f.«end» } }

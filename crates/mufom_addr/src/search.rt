@@ -2,14 +2,14 @@
 
 ghost use Rattle.std.specs.Prelude.{◌≡◌, ◌≤◌, ◌+◌, ◌==◌, ◌<◌, [], ◌∷◌, ◌++◌, ℕ, List, option_map, option_to_list, OnOk, IfOk, if◌then◌else◌};
 ghost use Rattle.mufom_debug.specs.Marks.{depth_of, marks_of, marks_of_item};
-ghost use Rattle.mufom_addr.specs.AddressHit.{function_begin, function_between, hit_among, is_around, line_given, number_of};
+ghost use Rattle.mufom_addr.specs.AddressHit.{function_begin, function_between, hit_among, is_around, line_given};
 ghost use Rattle.mufom_addr.specs.Entries.{Around, Entry, block as block_entry, entries_of, entries_of_item, note as note_entry, source_within};
 ghost use Rattle.mufom_addr.specs.Entries.{value as value_entry};
-ghost use Rattle.mufom_addr.specs.Search.{HasSeen, SeesMore, function_held, line_held, number_for, number_in, or_greater, with_function, with_line};
+ghost use Rattle.mufom_addr.specs.Search.{HasSeen, SeesMore, function_held, line_held, number_for, or_greater, with_function, with_line};
 
 use crate::hit::{FunctionHit, Hit, LineHit};
 use mufom_debug::{Block, BlockHead, DebugItem};
-use mufom_expr::{Postfix, Token};
+use mufom_expr::Postfix;
 use mufom_names::Note;
 use mufom_numbers::{Bytes, NoMemory};
 use std::alloc::Global;
@@ -50,23 +50,6 @@ pub(crate) struct Search<'a> {
 
 // ---- single items
 
-// The value of a single number token; 0 for any other tokens.
-fn number_in(tokens: &[Token]) -> u64
-    ensures { result ≡ number_in tokens.now }
-{
-    match tokens {
-        [Token::Number(value)] => *value,
-        _ => 0,
-    }
-}
-
-// The number that a located expression consists of.
-fn number_of(expression: &Postfix) -> u64
-    ensures { result ≡ number_of expression.now }
-{
-    number_in(expression.tokens())
-}
-
 // The expression of the first address of a function; `None` for other blocks.
 fn function_begin(head: &BlockHead) -> Option<&Postfix>
     ensures { option_map (λ begin. begin.now) result ≡ function_begin head.now }
@@ -91,8 +74,8 @@ fn function_in<'a>(block: &'a Block, depth: u32) -> Option<FoundFunction<'a>>
             depth,
             kind: block.head.kind(),
             name: block.name.as_slice(),
-            begin: number_of(begin),
-            end: number_of(end),
+            begin: begin.number_or_zero(),
+            end: end.number_or_zero(),
         }),
         _ => None,
     }
@@ -239,7 +222,7 @@ impl<'a> Search<'a> {
         ensures { SeesMore (value_entry (option_map (λ s. s.now) source.entry) name value.now ∷ []) self.old self.new }
     {
         if let Some(line) = number_for(&self.line_numbers, name) {
-            let address = number_of(value);
+            let address = value.number_or_zero();
             let found = FoundLine {
                 line,
                 address,

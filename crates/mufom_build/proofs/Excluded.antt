@@ -1,6 +1,6 @@
 -- A text from which a module is built, or which lists parts with a defect, is not refused.
 use Rattle.std.proofs.Common.{List, ◌≡◌, ℕ, Some, None, length, [], sym, ap, subst, ◌∙◌, append-nil}
-use Rattle.mufom_text.proofs.Counted.{few_marks}
+use Rattle.mufom_text.proofs.FewMarks.{few_marks}
 use Rattle.mufom_text.specs.Words.{Text}
 use Rattle.mufom_module.specs.declared.module.Parts.{Parts}
 use Rattle.mufom_module.specs.declared.module.Defect.{Defect}

@@ -34,7 +34,7 @@ use Rattle.mufom_module.specs.Defects.{IsValid}
 use Rattle.mufom_plan.specs.Names.{has_name}
 use Rattle.mufom_prune.specs.Kept.{IsKept}
 use Rattle.mufom_prune.specs.Pruned.{remains}
-use Rattle.mufom_prune_laws.proofs.Single.{kept_is_single}
+use Rattle.mufom_prune.proofs.Single.{kept_is_single}
 use Rattle.mufom_groups.specs.Work.{Reached, gives, stops, Work, ◌>>=◌, one_with, sure, with_stops, IsSingle}
 use Rattle.mufom_groups.proofs.Singles.{joined-single, linked-single}
 use Rattle.mufom_groups.proofs.Works.{sure-single, stop_at-single, one_with-single, nowhere-single, stops-single, then-single}

@@ -14,4 +14,4 @@ pub use debug::{ExpressionMap, copy_debug_items, map_debug_items};
 pub use entries::{
     copy_bytes, copy_load, copy_note, copy_notes, copy_public, copy_reference, copy_section,
 };
-pub use module::copy_module;
+pub use module::{copy_module, copy_sections};

@@ -13,7 +13,8 @@ use mufom_numbers::{List, NoMemory};
 use mufom_sections::Section;
 use std::alloc::Global;
 
-fn copy_sections(alloc: Global, sections: &[Section]) -> Result<List<Section>, NoMemory>
+/// Copies of sections, in their order. The only error is out of memory.
+pub fn copy_sections(alloc: Global, sections: &[Section]) -> Result<List<Section>, NoMemory>
     ensures { IfOk result (λ copies. copies ≡ sections.now) }
 {
     let mut copies = List::with_capacity(alloc, sections.len())?;

@@ -9,7 +9,7 @@ use Rattle.std.proofs.lemmas.List.Elements.{filter_more}
 use Rattle.std.proofs.lemmas.List.FromFn.{get_or-enumerate_from, length-enumerate_from}
 use Rattle.std.proofs.lemmas.Option.{slice_get-get_or, slice_get_within}
 use Rattle.mufom_origins.specs.Origins.{FileModule}
-use Rattle.mufom_meaning.proofs.Choices.{some_same}
+use Rattle.mufom_numbers.proofs.Choices.{some_same}
 use Rattle.mufom_image_values.proofs.CommonLaws.{find-first, find-never}
 use Rattle.mufom_image_values.proofs.TokenLoops.{below_more}
 use Rattle.mufom_explain.specs.declared.modules.FlatModule.{FlatModule}

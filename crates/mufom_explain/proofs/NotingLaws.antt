@@ -5,7 +5,7 @@ use Rattle.std.specs.Prelude.{◌==◌, slice_get, if◌then◌else◌}
 use Rattle.std.specs.List.{AllByRecursion}
 use Rattle.std.specs.Str.{bytes_eq}
 use Rattle.mufom_module.specs.declared.module.Parts.{Parts}
-use Rattle.mufom_meaning.proofs.Choices.{equal_numbers}
+use Rattle.mufom_numbers.proofs.Choices.{equal_numbers}
 use Rattle.mufom_explain.specs.declared.mention.Mention.{Mention}
 use Rattle.mufom_explain.specs.declared.mention.MentionKind.{MentionKind}
 use Rattle.mufom_explain.specs.declared.mention.MentionKind.TheVariants as kinds

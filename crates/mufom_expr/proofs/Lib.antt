@@ -9,3 +9,4 @@ pub mod TokenLaws
 pub mod TokensBack
 pub mod ValueLaws
 pub mod Divisors
+pub mod NumberLaws

@@ -12,3 +12,4 @@ pub mod Spelled
 pub mod TokenAt
 pub mod Held
 pub mod Kept
+pub mod Numbers

@@ -8,6 +8,7 @@ ghost use Rattle.mufom_expr.specs.Terms.{the_term, LeaveOneTerm};
 ghost use Rattle.mufom_expr.specs.Value.{value_at, variables_of, with_variables, divides_by_zero};
 ghost use Rattle.mufom_expr.specs.Mentions.{variables_in};
 ghost use Rattle.mufom_expr.specs.Held.{tokens_held};
+ghost use Rattle.mufom_expr.specs.Numbers.{number_in, number_of};
 ghost use Rattle.mufom_expr.specs.Renamed.{renamed_token, renamed_tokens};
 
 use crate::env::{Env, VarMap};
@@ -123,6 +124,13 @@ impl Postfix {
         self.tokens.as_slice()
     }
 
+    /// The value of an expression that is a single number; 0 for any other. Does not allocate.
+    pub fn number_or_zero(&self) -> u64
+        ensures { result ≡ number_of self.now }
+    {
+        number_in(self.tokens())
+    }
+
     /// The value modulo 2 to the width, which is 8 to 64 bits, or `None` if a variable of the expression
     /// has no value or a divisor is 0. Does not allocate.
     pub fn value<E: Env>(&self, env: &E, width: u32) -> Option<u64>
@@ -200,6 +208,16 @@ impl Postfix {
         ensures { IsTrue result ↔ (self.now ≡ other.now) }
     {
         self.tokens.as_slice() == other.tokens.as_slice()
+    }
+}
+
+// The value of a single number token; 0 for any other tokens.
+fn number_in(tokens: &[Token]) -> u64
+    ensures { result ≡ number_in tokens.now }
+{
+    match tokens {
+        [Token::Number(value)] => *value,
+        _ => 0,
     }
 }
 

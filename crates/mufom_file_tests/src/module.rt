@@ -8,7 +8,7 @@ use crate::small::{CODE, small};
 use mufom_debug::{BlockHead, DebugItem};
 use mufom_expr::{FieldKind, Function, Letter, Postfix, Token};
 use mufom_loads::{Item, Load};
-use mufom_module::{Defect, Parts, assemble};
+use mufom_module::{Defect, Parts, assemble, current_after};
 use mufom_names::Public;
 use mufom_numbers::{Bytes, List};
 use std::alloc::Global;
@@ -41,6 +41,15 @@ fn a_module_has_its_parts_and_weight(rt: HostRuntime) {
     assert_eq!(rt; module.weight(), 298);
     assert_eq!(rt; module.parts().name.as_slice(), &b"A"[..]);
     assert_eq!(rt; load_count(module.into_parts()), 3);
+}
+
+#[test]
+fn a_section_is_current_until_another_is_chosen(rt: HostRuntime) {
+    let value = constant(&rt, rt.alloc(), 2);
+    let counter = Load::SetPc { section: 7, value };
+    assert_eq!(rt; current_after(None, &counter), None);
+    assert_eq!(rt; current_after(Some(3), &counter), Some(3));
+    assert_eq!(rt; current_after(Some(3), &Load::SetSection(4)), Some(4));
 }
 
 // Blocks, each in the one before it.

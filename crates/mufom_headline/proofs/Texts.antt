@@ -14,7 +14,7 @@ use Rattle.mufom_meaning.specs.declared.located.Run.{Run}
 use Rattle.mufom_meaning.specs.Absolute.{no_regions}
 use Rattle.mufom_meaning.specs.Facts.{LocateFact}
 use Rattle.mufom_meaning.specs.Location.{IsLocation}
-use Rattle.mufom_meaning.proofs.Choices.{not_lt}
+use Rattle.mufom_numbers.proofs.Choices.{not_lt}
 use Rattle.mufom_titxt.specs.TextModules.{HaveModule, HaveText, text_parts}
 use Rattle.mufom_titxt.specs.Texts.{IsTxtOf}
 use Rattle.mufom_titxt.specs.Written.{txt_text}

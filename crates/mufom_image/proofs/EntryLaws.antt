@@ -25,7 +25,7 @@ use Rattle.mufom_meaning.specs.Readings.{readings, public_reading, mark_reading}
 use Rattle.mufom_meaning.specs.Valued.{HaveValues}
 use Rattle.mufom_meaning.specs.Values.{Setting, setting, value}
 use Rattle.mufom_meaning.specs.Walk.{start_trees, debug_trees}
-use Rattle.mufom_meaning.proofs.Choices.{some_same}
+use Rattle.mufom_numbers.proofs.Choices.{some_same}
 use Rattle.mufom_meaning.proofs.Members.{In, at-In, In-map, In-flat_map}
 use Rattle.mufom_meaning.proofs.Unfolding.{readings-publics, readings-starts, readings-debug}
 use Rattle.mufom_meaning.proofs.values.ValueLaws.{values_exist}

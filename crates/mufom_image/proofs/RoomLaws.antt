@@ -15,7 +15,7 @@ use Rattle.mufom_module.specs.declared.module.Parts.{Parts}
 use Rattle.mufom_plan.specs.Names.{has_name}
 use Rattle.mufom_meaning.specs.Flat.{distinct, is_common, common_size, public_names, unresolved_references, commons}
 use Rattle.mufom_meaning.specs.Placed.{greatest_size, common_section, common_sections}
-use Rattle.mufom_meaning.proofs.Choices.{some_same}
+use Rattle.mufom_numbers.proofs.Choices.{some_same}
 use Rattle.mufom_meaning.proofs.Distinct.{filter-append, IsDistinct-distinct}
 use Rattle.mufom_image_values.specs.declared.resolutions.Resolution.TheVariants as resolutions
 use Rattle.mufom_image_values.specs.Names.{place_in, with_name, asks}

@@ -9,7 +9,7 @@ use Rattle.std.proofs.lemmas.List.Sorted.{sum_by-IsPermutation}
 use Rattle.mufom_place.specs.Facts.{◌or_else◌}
 use Rattle.mufom_meaning.specs.Facts.{loaded_twice}
 use Rattle.mufom_meaning.specs.Walk.{counted_from, has_number, first_twice}
-use Rattle.mufom_meaning.proofs.Choices.{equal_numbers, of_lt, is_lt, of_not_lt, not_lt}
+use Rattle.mufom_numbers.proofs.Choices.{equal_numbers, of_lt, is_lt, of_not_lt, not_lt}
 use Rattle.mufom_meaning.proofs.Members.{In}
 use Rattle.mufom_meaning.proofs.Names.{get-skip}
 use Rattle.mufom_meaning.proofs.Tests.{of_le, le_of}

@@ -9,7 +9,7 @@ use Rattle.std.proofs.lemmas.List.Elements.{All-head, All-tail, All-nil, All-con
 use Rattle.std.proofs.lemmas.List.Sorted.{Contains-permutation, length_permutation}
 use Rattle.mufom_meaning.specs.declared.located.Run.{Run}
 use Rattle.mufom_meaning.specs.AddressMap.{Cell, cells_from, run_cells, AreApart}
-use Rattle.mufom_meaning.proofs.Choices.{equal_numbers, of_not_lt}
+use Rattle.mufom_numbers.proofs.Choices.{equal_numbers, of_not_lt}
 use Rattle.mufom_meaning.proofs.Members.{In, In-Contains, Contains-In, In-flat_map, flat_map-In}
 use Rattle.mufom_meaning.specs.Walk.{counted_from}
 use Rattle.mufom_image_bytes.specs.declared.chunk.Chunk.{Chunk}

@@ -21,7 +21,7 @@ use Rattle.mufom_meaning.specs.Values.{Setting, value, has_zero_divisor}
 use Rattle.mufom_meaning.specs.Walk.{zero_divisor_at, overflow_at, field_fact, step_fact, item_fact, base_number, size_at, counted_from, has_number}
 use Rattle.mufom_meaning.specs.Walk.{outside_at, first_twice, addresses_at, loaded_addresses}
 use Rattle.mufom_meaning.proofs.Members.{In, In-append}
-use Rattle.mufom_meaning.proofs.Choices.{equal_numbers, of_not_lt, of_not_le}
+use Rattle.mufom_numbers.proofs.Choices.{equal_numbers, of_not_lt, of_not_le}
 use Rattle.mufom_meaning.proofs.Tests.{chosen_none, either_false}
 use Rattle.mufom_meaning.proofs.Unfolding.{counter-set, counter-item}
 use Rattle.mufom_meaning.proofs.facts.Answers.{or_else_none}

@@ -12,3 +12,8 @@ loaded_cells l = cells_of_chunks l.bytes.items (l.chunks.items ++ l.last ∷ [])
 pub record IsTiled (l : Loaded) : Type 0 where
   pub chunks : AreConsecutive 0 l.chunks.items l.last.start
   pub last : l.last.start + l.last.count ≡ length l.bytes.items
+
+-- the same bytes at the same addresses, in the same order
+pub record HasSameCells (old new : Loaded) : Type 0 where
+  pub tiled : IsTiled new
+  pub cells : loaded_cells new ≡ loaded_cells old

@@ -2,7 +2,6 @@
 
 ghost use Rattle.std.specs.Prelude.{◌≡◌, ◌≤◌, ◌<◌, ◌^◌, map, filter, length, option_map, None, IfOk, OnOk};
 ghost use Rattle.std.specs.List.{All};
-ghost use Rattle.mufom_module.specs.Contents.{current_after as current_section};
 ghost use Rattle.mufom_image_bytes.specs.Chunks.{cells_of_chunks, AreConsecutive};
 ghost use Rattle.mufom_image_bytes.specs.Loaded.{IsTiled};
 ghost use Rattle.mufom_image_bytes.specs.Walks.{has_bytes, first_counters as base_residues, IsNarrow, HasNarrowItems};
@@ -15,6 +14,7 @@ use crate::values::Values;
 use crate::walk::{Walk, counter_of, load_item, set_counter};
 use mufom_expr::Postfix;
 use mufom_loads::{Item, Load, item_length};
+use mufom_module::current_after;
 use mufom_numbers::NoMemory;
 use std::alloc::Global;
 
@@ -165,16 +165,6 @@ fn load_one<V: Values>(
             ),
             None => Ok(None),
         },
-    }
-}
-
-// The section that is the current one after a load.
-fn current_after(current: Option<u32>, load: &Load) -> Option<u32>
-    ensures { result ≡ current_section current load.now }
-{
-    match load {
-        Load::SetSection(section) => Some(*section),
-        _ => current,
     }
 }
 

@@ -11,7 +11,7 @@ use Rattle.mufom_module.specs.Defects.{IsValid}
 use Rattle.mufom_module.specs.Written.{weight}
 use Rattle.mufom_module.specs.Weights.{mark_weight}
 use Rattle.mufom_module.proofs.WeightLaws.{weight-sum}
-use Rattle.mufom_meaning.proofs.Choices.{of_not_le, of_not_lt}
+use Rattle.mufom_numbers.proofs.Choices.{of_not_le, of_not_lt}
 use Rattle.mufom_meaning.proofs.NoDefects.{no_defect}
 
 optional : (o : Option Tree) → length (option_to_list o) ≤ 1

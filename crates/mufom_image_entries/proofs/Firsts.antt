@@ -11,7 +11,7 @@ use Rattle.mufom_meaning.specs.Facts.{zero_divisor}
 use Rattle.mufom_meaning.specs.Flat.{Sited}
 use Rattle.mufom_meaning.specs.Values.{Setting, has_zero_divisor}
 use Rattle.mufom_meaning.specs.Walk.{SitedTree, debug_fact, start_fact}
-use Rattle.mufom_meaning.proofs.Choices.{mapped_some}
+use Rattle.mufom_numbers.proofs.Choices.{mapped_some}
 use Rattle.mufom_meaning.proofs.Tests.{enumerate_get, get_enumerate}
 use Rattle.mufom_image_values.proofs.CircleLaws.{none_first, one_first}
 use Rattle.mufom_image_entries.specs.Valued.{IsFirstDivision}

@@ -21,7 +21,7 @@ use Rattle.mufom_meaning.specs.Values.{Setting, setting}
 use Rattle.mufom_meaning.specs.Cycles.{mentioned, is_or_leads, leads_within, leads_from, IsOnCycle, is_on_cycle}
 use Rattle.mufom_meaning.specs.Facts.{cycle}
 use Rattle.mufom_meaning.specs.LocateAnswer.{cycle_at}
-use Rattle.mufom_meaning.proofs.Choices.{mapped_some}
+use Rattle.mufom_numbers.proofs.Choices.{mapped_some}
 use Rattle.mufom_meaning.proofs.Members.{In, In-at, passes-In, Contains-In, In-Contains}
 use Rattle.mufom_meaning.proofs.Tests.{either}
 use Rattle.mufom_meaning.proofs.facts.Answers.{first_some_none, find_at}

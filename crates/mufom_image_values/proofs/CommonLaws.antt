@@ -12,7 +12,7 @@ use Rattle.mufom_names.specs.Index.{position_of, numbered_from}
 use Rattle.mufom_module.specs.declared.module.Parts.{Parts}
 use Rattle.mufom_plan.specs.Names.{has_name}
 use Rattle.mufom_meaning.specs.Flat.{distinct, is_common, common_size, same_common, public_names, flat_references, unresolved_references, commons, common_names}
-use Rattle.mufom_meaning.proofs.Choices.{equal_numbers}
+use Rattle.mufom_numbers.proofs.Choices.{equal_numbers}
 use Rattle.mufom_meaning.proofs.Members.{In, In-at, at-In, map-In, distinct-In, filter-In}
 use Rattle.mufom_meaning.proofs.facts.Answers.{find_at, find_none}
 use Rattle.mufom_image_values.specs.declared.resolutions.Resolution.{Resolution}

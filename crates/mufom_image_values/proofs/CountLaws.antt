@@ -5,7 +5,7 @@ use Rattle.mufom_module.specs.declared.module.Defect.TheVariants as kinds
 use Rattle.mufom_module.specs.Defects.{IsValid}
 use Rattle.mufom_module.specs.Written.{weight}
 use Rattle.mufom_module.proofs.EntryCounts.{publics-count, references-count}
-use Rattle.mufom_meaning.proofs.Choices.{of_not_le}
+use Rattle.mufom_numbers.proofs.Choices.{of_not_le}
 use Rattle.mufom_meaning.proofs.NoDefects.{no_defect}
 
 weighs : (m : Parts) → IsValid m → weight m < 2 ^ 32

@@ -11,7 +11,7 @@ use Rattle.mufom_meaning.specs.Facts.{zero_divisor}
 use Rattle.mufom_meaning.specs.Flat.{SitedPublic}
 use Rattle.mufom_meaning.specs.Values.{value, has_zero_divisor}
 use Rattle.mufom_meaning.specs.Walk.{public_fact}
-use Rattle.mufom_meaning.proofs.Choices.{mapped_some}
+use Rattle.mufom_numbers.proofs.Choices.{mapped_some}
 use Rattle.mufom_meaning.proofs.values.Causes.{zero_divisor-none}
 use Rattle.mufom_image_values.specs.declared.surroundings.Evaluation.{Evaluation}
 use Rattle.mufom_image_values.specs.declared.surroundings.Evaluation.TheVariants as evaluations

@@ -22,7 +22,7 @@ use Rattle.mufom_meaning.specs.Flat.{SitedPublic, first_named, flat_publics}
 use Rattle.mufom_meaning.specs.Values.{Setting}
 use Rattle.mufom_meaning.specs.Cycles.{mentioned, mentioned_reference}
 use Rattle.mufom_meaning.proofs.Members.{In, In-at, Contains-In, In-flat_map, flat_map-In}
-use Rattle.mufom_meaning.proofs.Choices.{mapped_some}
+use Rattle.mufom_numbers.proofs.Choices.{mapped_some}
 use Rattle.mufom_meaning.proofs.WithoutDefect.{public_inside}
 use Rattle.mufom_image_values.specs.declared.resolutions.Resolution.{Resolution}
 use Rattle.mufom_image_values.specs.declared.resolutions.Resolution.TheVariants as resolutions

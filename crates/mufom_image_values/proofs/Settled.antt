@@ -15,7 +15,7 @@ use Rattle.mufom_meaning.specs.Values.{Setting, Valuation, valuation_of, value}
 use Rattle.mufom_meaning.specs.Facts.{duplicate}
 use Rattle.mufom_meaning.specs.Stands.{LinkFactStands}
 use Rattle.mufom_meaning.specs.Valued.{IsMentionedIn}
-use Rattle.mufom_meaning.proofs.Choices.{some_same}
+use Rattle.mufom_numbers.proofs.Choices.{some_same}
 use Rattle.mufom_meaning.proofs.Members.{In, Contains-In, In-Contains}
 use Rattle.mufom_meaning.proofs.values.Ends.{EndsWithin, all_end}
 use Rattle.mufom_meaning.proofs.values.Named.{single_name, leads_from-bases}

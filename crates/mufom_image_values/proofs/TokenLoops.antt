@@ -7,7 +7,7 @@ use Rattle.std.proofs.lemmas.List.{take_more}
 use Rattle.std.proofs.lemmas.Grind.{flat_map-append}
 use Rattle.mufom_expr.specs.declared.token.Token.{Token}
 use Rattle.mufom_meaning.proofs.Members.{In, In-Contains, Contains-In, In-left, In-right}
-use Rattle.mufom_meaning.proofs.Choices.{some_same, of_lt}
+use Rattle.mufom_numbers.proofs.Choices.{some_same, of_lt}
 use Rattle.mufom_meaning.proofs.facts.Answers.{both}
 use Rattle.mufom_image_values.specs.declared.resolutions.Resolution.{Resolution}
 use Rattle.mufom_image_values.specs.declared.surroundings.Evaluation.{Evaluation}

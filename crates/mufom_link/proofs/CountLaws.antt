@@ -19,7 +19,7 @@ use Rattle.mufom_module.proofs.WeightLaws.{weight-sum}
 use Rattle.mufom_module.proofs.EntryCounts.{counted, sections-count, publics-count, references-count}
 use Rattle.mufom_meaning.specs.Flat.{name_count, flat_sections, flat_references, public_names}
 use Rattle.mufom_meaning.specs.StagingLaws.{total_weight}
-use Rattle.mufom_meaning.proofs.Choices.{of_not_le}
+use Rattle.mufom_numbers.proofs.Choices.{of_not_le}
 use Rattle.mufom_meaning.proofs.NoDefects.{no_defect}
 
 -- ---- entries of one module

@@ -10,7 +10,7 @@ use Rattle.std.proofs.lemmas.Grind.{flat_map-append}
 use Rattle.mufom_meaning.specs.declared.located.Run.{Run}
 use Rattle.mufom_meaning.specs.AddressMap.{AreApart}
 use Rattle.mufom_meaning.specs.Absolute.{run_within, loads_of_bytes, loads_between}
-use Rattle.mufom_meaning.proofs.Choices.{of_not_lt}
+use Rattle.mufom_numbers.proofs.Choices.{of_not_lt}
 use Rattle.mufom_located.specs.Located.{AreRows}
 
 abbrev pub end_of : Run → ℕ

@@ -10,7 +10,7 @@ ghost use Rattle.mufom_located.specs.Located.{IsLocated};
 
 use crate::loads::absolute_loads;
 use crate::located::Located;
-use mufom_copies::{copy_bytes, copy_debug_items, copy_notes, copy_section};
+use mufom_copies::{copy_bytes, copy_debug_items, copy_notes, copy_sections};
 use mufom_expr::Postfix;
 use mufom_meaning::{
     LocatedParts, PublicValue, absolute_is_located_as_itself, absolute_is_valid,
@@ -21,16 +21,6 @@ use mufom_names::Public;
 use mufom_numbers::{List, NoMemory};
 use mufom_sections::Section;
 use std::alloc::Global;
-
-fn copy_sections(alloc: Global, sections: &[Section]) -> Result<List<Section>, NoMemory>
-    ensures { IfOk result (λ copies. copies ≡ sections.now) }
-{
-    let mut copies = List::new(alloc);
-    for section in sections {
-        copies.push(copy_section(alloc, section)?)?;
-    }
-    Ok(copies)
-}
 
 fn absolute_public(alloc: Global, public: &PublicValue) -> Result<Public, NoMemory>
     ensures { IfOk result (λ p. p ≡ absolute_public public.now) }

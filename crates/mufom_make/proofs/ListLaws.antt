@@ -12,7 +12,7 @@ use Rattle.mufom_meaning.specs.Flat.{flat_starts, public_names}
 use Rattle.mufom_meaning.specs.LinkAnswer.{link_answer}
 use Rattle.mufom_meaning.specs.Staging.{AreValid, HaveDescriptor, HaveDescriptorOf}
 use Rattle.mufom_meaning.specs.StagingLaws.{total_weight}
-use Rattle.mufom_meaning.proofs.Choices.{some_same}
+use Rattle.mufom_numbers.proofs.Choices.{some_same}
 use Rattle.mufom_meaning.proofs.facts.Linkable.{no_link_answer_is_linkable}
 use Rattle.mufom_make.specs.Generated.{module_at, modules_from, name_at}
 use Rattle.mufom_make.specs.Links.{most_weight}

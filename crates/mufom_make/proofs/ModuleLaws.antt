@@ -11,7 +11,7 @@ use Rattle.mufom_module.specs.declared.module.Defect.TheVariants as d
 use Rattle.mufom_module.specs.Defects.{has_defect, defects, is_long, IsValid}
 use Rattle.mufom_module.specs.Written.{weight}
 use Rattle.mufom_module.proofs.WeightLaws.{weight-sum}
-use Rattle.mufom_meaning.proofs.Choices.{not_le, not_lt, two_false}
+use Rattle.mufom_numbers.proofs.Choices.{not_le, not_lt, two_false}
 use Rattle.mufom_make.specs.Generated.{entry_at, module_at, name_at, references_at}
 use Rattle.mufom_make.specs.Links.{most_weight}
 

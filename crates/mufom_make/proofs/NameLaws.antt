@@ -8,7 +8,7 @@ use Rattle.mufom_names.specs.declared.name.Reference.{Reference}
 use Rattle.mufom_plan.specs.Names.{has_name}
 use Rattle.mufom_meaning.specs.Flat.{SitedPublic, sited_from, sited_publics, public_names, flat_references, unresolved_references, is_strong, distinct, needs}
 use Rattle.mufom_meaning.specs.Flat.{is_common, common_size, same_common, commons}
-use Rattle.mufom_meaning.proofs.Choices.{equal_numbers}
+use Rattle.mufom_numbers.proofs.Choices.{equal_numbers}
 use Rattle.mufom_meaning.proofs.Members.{In, In-append, passes-In}
 use Rattle.mufom_make.specs.Generated.{entry_at, made_modules, modules_from, name_at, references_at}
 

@@ -34,7 +34,7 @@ use Rattle.mufom_meaning.specs.Stands.{HasZeroDivisor, LocateFactStands, StandsB
 use Rattle.mufom_meaning.specs.Steps.{steps}
 use Rattle.mufom_meaning.specs.Values.{Setting, setting, has_zero_divisor}
 use Rattle.mufom_meaning.specs.Walk.{SitedTree}
-use Rattle.mufom_meaning.proofs.Choices.{some_same}
+use Rattle.mufom_numbers.proofs.Choices.{some_same}
 use Rattle.mufom_meaning.proofs.Members.{In-at}
 use Rattle.mufom_meaning.proofs.absolute.Marks.{value_below}
 use Rattle.mufom_meaning.proofs.facts.AllAnswers.{answers_are_facts}

@@ -10,7 +10,7 @@ use Rattle.mufom_place.specs.declared.placing.AssignedBase.{AssignedBase}
 use Rattle.mufom_place.specs.Bases.{Numbered, aligned_up, goes_to, waiting, packed, last_of, placing_of, placings, site_with, site_of, bases}
 use Rattle.mufom_meaning.specs.Flat.{flat_sections}
 use Rattle.mufom_meaning.specs.Placed.{planned_bases}
-use Rattle.mufom_meaning.proofs.Choices.{equal_numbers, some_same}
+use Rattle.mufom_numbers.proofs.Choices.{equal_numbers, some_same}
 use Rattle.mufom_meaning.proofs.Placed.{planned_get}
 use Rattle.mufom_make.specs.Generated.{code_section, made_modules, made_plan, modules_from}
 

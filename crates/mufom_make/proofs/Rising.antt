@@ -14,7 +14,7 @@ use Rattle.mufom_meaning.specs.Stands.{StandsIn, put_back, IsStepAfter, IsLoaded
 use Rattle.mufom_meaning.specs.Steps.{Step, counter_step, item_step, steps, counter}
 use Rattle.mufom_meaning.specs.Values.{Setting, value, has_zero_divisor}
 use Rattle.mufom_meaning.specs.Walk.{base_number, size_at, counted_from, addresses_at, loaded_addresses}
-use Rattle.mufom_meaning.proofs.Choices.{some_same}
+use Rattle.mufom_numbers.proofs.Choices.{some_same}
 use Rattle.mufom_meaning.proofs.Members.{In, In-at, In-append, map-In}
 
 -- an expression in an item has no divisor of value 0, and its value fits the field

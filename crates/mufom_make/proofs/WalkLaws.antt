@@ -19,7 +19,7 @@ use Rattle.mufom_meaning.specs.Flat.{Sited, sited_from}
 use Rattle.mufom_meaning.specs.Steps.{Step, item_step, steps_of, counter}
 use Rattle.mufom_meaning.specs.Values.{Setting, value, has_zero_divisor}
 use Rattle.mufom_meaning.specs.Walk.{base_number, size_at}
-use Rattle.mufom_meaning.proofs.Choices.{is_lt}
+use Rattle.mufom_numbers.proofs.Choices.{is_lt}
 use Rattle.mufom_meaning.proofs.Unfolding.{counter-item, counter-none}
 use Rattle.mufom_make.specs.Generated.{code_section, module_at, modules_from, next_value}
 use Rattle.mufom_make.proofs.PlaceLaws.{base_at}

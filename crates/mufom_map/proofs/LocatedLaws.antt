@@ -23,7 +23,7 @@ use Rattle.mufom_meaning.specs.Placed.{extended_sections, placed_commons, planne
 use Rattle.mufom_meaning.specs.Readings.{readings, public_reading}
 use Rattle.mufom_meaning.specs.Values.{setting}
 use Rattle.mufom_meaning.proofs.CallLaws.{modules_may_be_placed}
-use Rattle.mufom_meaning.proofs.Choices.{of_not_le}
+use Rattle.mufom_numbers.proofs.Choices.{of_not_le}
 use Rattle.mufom_meaning.proofs.NoDefects.{no_defect}
 use Rattle.mufom_meaning.proofs.Placed.{located_count}
 use Rattle.mufom_meaning.proofs.absolute.Rows.{placement_none}

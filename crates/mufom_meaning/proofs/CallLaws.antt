@@ -22,7 +22,7 @@ use Rattle.mufom_place.specs.Facts.{IsAddressWidth, IsAligned, HasNoBase, sectio
 use Rattle.mufom_meaning.specs.Flat.{distinct, flat_sections, flat_references, commons, common_names}
 use Rattle.mufom_meaning.specs.Placed.{common_section, common_sections, placed_commons, extended_sections}
 use Rattle.mufom_meaning.specs.CallLaws.{MayBePlaced, ModulesMayBePlaced, AreValidIsAll}
-use Rattle.mufom_meaning.proofs.Choices.{of_not_lt, of_not_le}
+use Rattle.mufom_numbers.proofs.Choices.{of_not_lt, of_not_le}
 use Rattle.mufom_meaning.proofs.Tests.{le_of, either_false}
 use Rattle.mufom_meaning.proofs.facts.Answers.{both, not_false}
 use Rattle.mufom_meaning.proofs.Members.{In, In-append, map-In, fails-In, All-In}

@@ -1,5 +1,4 @@
 pub mod CallLaws
-pub mod Choices
 pub mod Distinct
 pub mod Members
 pub mod Names

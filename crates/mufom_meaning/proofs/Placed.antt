@@ -23,7 +23,7 @@ use Rattle.mufom_meaning.specs.Placed.{common_section, common_sections, placed_c
 use Rattle.mufom_meaning.specs.Location.{placed_section, located_sections}
 use Rattle.mufom_meaning.specs.Stands.{StandsIn}
 use Rattle.mufom_meaning.specs.CallLaws.{BasesByPosition}
-use Rattle.mufom_meaning.proofs.Choices.{some_same}
+use Rattle.mufom_numbers.proofs.Choices.{some_same}
 use Rattle.mufom_meaning.proofs.Distinct.{IsDistinct-distinct}
 use Rattle.mufom_meaning.proofs.Names.{name_at}
 use Rattle.mufom_meaning.proofs.Members.{In, In-at, In-map, map-In, at-In, In-distinct, distinct-In, filter-In}

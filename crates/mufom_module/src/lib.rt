@@ -14,6 +14,7 @@
 //! crate's functions with empty bodies.
 #![tactic(auto)]
 
+mod current;
 mod debug_rules;
 mod laws;
 mod made;
@@ -22,6 +23,7 @@ mod rules;
 mod validity;
 mod weight;
 
+pub use current::current_after;
 pub use laws::{
     a_file_is_one_module, expressions_are_as_spelled, items_are_within_the_weight,
     positions_stand_for_indexes,

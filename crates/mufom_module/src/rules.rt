@@ -9,6 +9,7 @@ ghost use Rattle.mufom_module.specs.Defects.{is_long, is_long_literal, is_outsid
 ghost use Rattle.mufom_module.specs.Defects.{counts_of, count_for, is_other_counter, has_other_counter, counter_of, misplaces_counter, is_loading};
 ghost use Rattle.mufom_module.specs.Defects.{loads_nowhere, has_defect};
 
+use crate::current::current_after;
 use crate::debug_rules::{any_breaks, any_ends_badly, uses_name_early};
 use crate::module::{Defect, Parts};
 use mufom_debug::is_within_depth;
@@ -311,18 +312,6 @@ fn misplaces_counter(current: Option<u32>, load: &Load) -> bool
         Load::SetPc { section, value } => has_other_counter(Some(*section), value),
         Load::One(item) => item_has_other_counter(current, item),
         Load::Repeat { items, .. } => items_have_other_counter(current, items.as_slice()),
-    }
-}
-
-// The section that is current after the load.
-fn current_after(current: Option<u32>, load: &Load) -> Option<u32>
-    ensures { result ≡ current_after current load.now }
-{
-    match load {
-        Load::SetSection(section) => Some(*section),
-        Load::SetPc { .. } => current,
-        Load::One(_) => current,
-        Load::Repeat { .. } => current,
     }
 }
 

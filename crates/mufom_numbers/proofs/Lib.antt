@@ -3,3 +3,4 @@ pub mod SpellingLaws
 pub mod StringLaws
 pub mod ShortestLaws
 pub mod LengthLaws
+pub mod Choices

@@ -411,6 +411,13 @@ fn expressions_are_renamed(rt: HostRuntime) {
 fn a_number_is_an_expression(rt: HostRuntime) {
     let five = Postfix::constant(rt.alloc(), 5).expect(&rt, "memory");
     assert_eq!(rt; five.tokens(), [Number(5)].as_slice());
+    assert_eq!(rt; five.number_or_zero(), 5);
+}
+
+#[test]
+fn a_difference_is_no_single_number(rt: HostRuntime) {
+    let difference = built(rt.alloc(), &DIFFERENCE).expect(&rt, "an expression");
+    assert_eq!(rt; difference.number_or_zero(), 0);
 }
 
 // Whether a division of the expression of these tokens has a divisor of value 0.

@@ -7,3 +7,11 @@ pub mod KeptLaws
 pub mod PrunedPlaces
 pub mod PrunedWeight
 pub mod PrunedValid
+mod Settled
+mod Named
+mod Commons
+mod SameValues
+mod LeftSteps
+mod LeftReadings
+mod Meaning
+pub mod Single

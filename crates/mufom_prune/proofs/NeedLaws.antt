@@ -25,7 +25,7 @@ use Rattle.mufom_module.specs.Weights.{section_weight, public_weight, reference_
 use Rattle.mufom_module.proofs.WeightLaws.{weight-sum}
 use Rattle.mufom_module.proofs.EntryCounts.{counted}
 use Rattle.mufom_plan.specs.Names.{has_name}
-use Rattle.mufom_meaning.proofs.Choices.{of_not_le}
+use Rattle.mufom_numbers.proofs.Choices.{of_not_le}
 use Rattle.mufom_meaning.proofs.NoDefects.{no_defect}
 use Rattle.mufom_prune.specs.Kept.{first_for, entry_of, mentions, all_mentions, load_trees, home, mentions_for, section_needs, named_from, named}
 use Rattle.mufom_prune.specs.Kept.{needs, based_from, roots}

@@ -18,7 +18,7 @@ use Rattle.mufom_module.specs.Defects.{IsValid, has_defect, defects, is_long, ha
 use Rattle.mufom_module.specs.Defects.{names_outside, names_no_section, has_bad_place, has_bad_mark, has_other_counter, misplaces_counter}
 use Rattle.mufom_select.specs.Choice.{is_marked}
 use Rattle.mufom_meaning.proofs.Tests.{either_false}
-use Rattle.mufom_meaning.proofs.Choices.{two_false, of_not_le, not_le}
+use Rattle.mufom_numbers.proofs.Choices.{two_false, of_not_le, not_le}
 use Rattle.mufom_meaning.proofs.NoDefects.{no_defect}
 use Rattle.mufom_meaning.proofs.WithoutDefect.{inside, load_inside}
 use Rattle.mufom_meaning.proofs.Members.{In, In-at, fails-In, none-In, filter-In}

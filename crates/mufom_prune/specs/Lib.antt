@@ -5,3 +5,4 @@ pub mod Marked
 pub mod Refusals
 pub mod Underway
 pub mod Steps
+pub mod Meaning

@@ -6,10 +6,11 @@
 //! values, on `mufom_copies` for copies, on `mufom_select` for marks, and on `mufom_meaning`. Its main clause
 //! is that of [`prune`]: the smallest set of entries is kept that contains what is kept in any case and, with
 //! each entry, everything that it needs. [`prune_with_marks`] also returns which sections and publics of the
-//! whole module are left.
+//! whole module are left. The laws state that what remains means what it means in the whole module.
 #![tactic(auto)]
 
 mod entries;
+mod laws;
 mod needs;
 mod positions;
 mod pruning;
@@ -17,5 +18,6 @@ mod reach;
 mod refusal;
 mod remaining;
 
+pub use laws::{pruned_is_single, pruned_means_the_rest};
 pub use pruning::{Pruned, prune, prune_with_marks};
 pub use refusal::PruneRefusal;

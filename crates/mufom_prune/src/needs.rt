@@ -1,14 +1,14 @@
 //! What each entry of a module needs, and which entries are kept in any case.
 
 ghost use Rattle.std.specs.Prelude.{◌≡◌, ◌++◌, ◌+◌, ◌<◌, ◌^◌, [], length, map, replicate, option_to_list, Option, Some, IfOk, OnOk};
-ghost use Rattle.mufom_module.specs.Contents.{current_after, placed_loads};
+ghost use Rattle.mufom_module.specs.Contents.{placed_loads};
 ghost use Rattle.mufom_prune.specs.Kept.{all_mentions, based_from, home, load_trees, mentions, named, needs, roots};
 ghost use Rattle.mufom_prune.specs.Steps.{entry_count, with_names, with_more, with_loads, reference_needs};
 
 use crate::entries::{add_entry, add_load, add_mentions};
 use mufom_expr::Postfix;
 use mufom_loads::Load;
-use mufom_module::Parts;
+use mufom_module::{Parts, current_after};
 use mufom_names::{HashSeed, NameIndex, Reference};
 use mufom_numbers::{List, NoMemory};
 use mufom_sections::Section;
@@ -37,18 +37,6 @@ pub(crate) fn home(current: Option<u32>, load: &Load) -> Option<u32>
     match load {
         Load::SetSection(section) => Some(*section),
         Load::SetPc { section, .. } => Some(*section),
-        Load::One(_) => current,
-        Load::Repeat { .. } => current,
-    }
-}
-
-/// The section that is current after a load, if `current` is the current one before it.
-pub(crate) fn current_after(current: Option<u32>, load: &Load) -> Option<u32>
-    ensures { result ≡ current_after current load.now }
-{
-    match load {
-        Load::SetSection(section) => Some(*section),
-        Load::SetPc { .. } => current,
         Load::One(_) => current,
         Load::Repeat { .. } => current,
     }

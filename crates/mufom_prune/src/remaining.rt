@@ -9,11 +9,12 @@ ghost use Rattle.mufom_prune.specs.Pruned.{remaining, remaining_names, remaining
 ghost use Rattle.mufom_prune.specs.Pruned.{new_public, new_item, new_load, is_left, stays};
 ghost use Rattle.mufom_prune.specs.Steps.{with_remaining};
 
-use crate::needs::{current_after, home};
+use crate::needs::home;
 use crate::positions::{NewPositions, move_tree};
 use mufom_copies::{copy_bytes, copy_notes, copy_reference, copy_section};
 use mufom_expr::Postfix;
 use mufom_loads::{Item, Load};
+use mufom_module::current_after;
 use mufom_names::{HashSeed, NameIndex, Public, Reference};
 use mufom_numbers::{List, NoMemory};
 use mufom_sections::Section;

@@ -2,32 +2,11 @@
 use Rattle.std.proofs.Common.{◌≡◌, ℕ, ◌+◌, ◌<◌, List, [], ◌∷◌, ◌++◌, length, map, take, get_or, refl, sym, ap, ◌∙◌, rules, append-nil}
 use Rattle.std.proofs.lemmas.List.{take_more, map-append}
 use Rattle.std.proofs.lemmas.Grind.{flat_map-append}
-use Rattle.mufom_expr.specs.declared.token.Function.{Function}
-use Rattle.mufom_expr.specs.declared.token.Token.{Token}
-use Rattle.mufom_expr.specs.declared.token.Token.TheVariants.{Number, Var, Fun}
-use Rattle.mufom_expr.specs.Tree.{function_of_one, function_of_two}
-use Rattle.mufom_expr.specs.Tree.{Tree, number, variable, one, two, tokens_of}
 use Rattle.mufom_debug.specs.declared.item.DebugItem.{DebugItem, Block as block_case, the_lemmas}
 use Rattle.mufom_debug.specs.declared.item.DebugItem.TheOpen.{Block-F}
 use Rattle.mufom_debug.specs.Marks.{block_end, joined, kind_number, marks_of, marks_of_item, offset_of}
 use Rattle.mufom_debug.proofs.MarksLemmas.{joined-append, marks-Block, marks_of_more}
-use Rattle.mufom_text.specs.Addresses.{number_in}
-use Rattle.mufom_text.specs.Image.{address_in, addresses_of, addresses_of_item, begin_of, end_of, mark_names, names_of, number_of}
-
--- ---- the number that an expression is
-
-applied : (tokens : List Token) (f : Function) → number_in (tokens ++ Fun f ∷ []) ≡ 0
-applied [] f = refl
-applied (Number n ∷ []) f = refl
-applied (Number n ∷ (t ∷ tokens)) f = refl
-applied (Var l p ∷ tokens) f = refl
-applied (Fun g ∷ tokens) f = refl
-
-pub number-by_tokens : (t : Tree) → number_in (tokens_of t) ≡ number_of t
-number-by_tokens (number n) = refl
-number-by_tokens (variable l p) = refl
-number-by_tokens (one f a) = applied (tokens_of a) (function_of_one f)
-number-by_tokens (two f a b) = applied (tokens_of a ++ tokens_of b) (function_of_two f)
+use Rattle.mufom_text.specs.Image.{address_in, addresses_of, addresses_of_item, begin_of, end_of, mark_names, names_of}
 
 -- ---- addresses
 

@@ -18,7 +18,7 @@ use Rattle.mufom_meaning.specs.Steps.{readings_after, steps}
 use Rattle.mufom_meaning.specs.Values.{Setting}
 use Rattle.mufom_meaning.specs.Walk.{base_number}
 use Rattle.mufom_meaning.proofs.CallLaws.{modules_may_be_placed}
-use Rattle.mufom_meaning.proofs.Choices.{some_same}
+use Rattle.mufom_numbers.proofs.Choices.{some_same}
 use Rattle.mufom_meaning.proofs.Members.{In, Contains-In, In-Contains, In-flat_map, All-In}
 use Rattle.mufom_meaning.proofs.Names.{get-prefix}
 use Rattle.mufom_meaning.proofs.Placed.{planned_get}

@@ -2,7 +2,7 @@ pub mod Loops
 pub mod TermLaws
 pub mod ShowLaws
 pub mod MarkLines
-pub mod Counted
+pub mod FewMarks
 pub mod Finished
 pub mod Worked
 pub mod AddressLaws

@@ -1,7 +1,5 @@
 -- Debug addresses, from the values that the code has for them.
 use Rattle.std.specs.Prelude.{ℕ, List, [], ◌∷◌, map}
-use Rattle.mufom_expr.specs.declared.token.Token.{Token}
-use Rattle.mufom_expr.specs.declared.token.Token.TheVariants.{Number}
 use Rattle.mufom_text.specs.declared.addresses.Role.{Role as HeldRole}
 use Rattle.mufom_text.specs.declared.addresses.Role.TheVariants as roles
 use Rattle.mufom_text.specs.declared.addresses.DebugAddress.{DebugAddress}
@@ -18,8 +16,3 @@ address_seen a = (a.address, role_seen a.role)
 
 abbrev pub all_seen : List DebugAddress → List Address
 all_seen addresses = map address_seen addresses
-
--- the value of a single number token; 0 for any other tokens
-abbrev pub number_in : List Token → ℕ
-number_in (Number n ∷ []) = n
-number_in _ = 0

@@ -4,7 +4,8 @@ use Rattle.std.specs.Prelude.{slice_get, codes, if◌then◌else◌}
 use Rattle.std.specs.Int.{bytes_high_first}
 use Rattle.std.specs.Fmt.{decimal}
 use Rattle.hex.specs.Hex.{encode_upper}
-use Rattle.mufom_expr.specs.Tree.{Tree, number, variable, one, two}
+use Rattle.mufom_expr.specs.Tree.{Tree}
+use Rattle.mufom_expr.specs.Numbers.{number_of}
 use Rattle.mufom_debug.specs.declared.item.DebugItem.{DebugItem, fold-DebugItem}
 use Rattle.mufom_debug.specs.declared.item.DebugItem.TheOpen.{DebugItem-F, Block-F}
 use Rattle.mufom_debug.specs.Marks.{DebugMark, block_begin, block_end, name_mark, note_mark, value_mark, joined, kind_number, marks_of, offset_of}
@@ -53,13 +54,6 @@ abbrev pub public_text : ℕ → PublicValue → Text
 public_text maus p = line (codes "public " ++ address maus p.value ++ codes " " ++ quoted p.name)
 
 -- ---- debug addresses
-
--- the value of a located expression, which is a single number; 0 for any other tree
-abbrev pub number_of : Tree → ℕ
-number_of (number n) = n
-number_of (variable l p) = 0
-number_of (one f a) = 0
-number_of (two f a b) = 0
 
 -- the names that a debug record declares
 abbrev pub mark_names : DebugMark → List (List ℕ)

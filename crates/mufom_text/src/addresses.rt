@@ -3,11 +3,12 @@
 
 ghost use Rattle.std.specs.Prelude.{◌≡◌, ◌++◌, ◌∷◌, [], map, option_map, slice_get, unwrap_or, IfOk, OnOk};
 ghost use Rattle.mufom_debug.specs.Marks.{kind_number, marks_of, marks_of_item, offset_of};
-ghost use Rattle.mufom_text.specs.Addresses.{all_seen, number_in, role_seen};
-ghost use Rattle.mufom_text.specs.Image.{address_in, addresses_of, addresses_of_item, begin_of, end_of, names_of, number_of, value_of};
+ghost use Rattle.mufom_expr.specs.Numbers.{number_of};
+ghost use Rattle.mufom_text.specs.Addresses.{all_seen, role_seen};
+ghost use Rattle.mufom_text.specs.Image.{address_in, addresses_of, addresses_of_item, begin_of, end_of, names_of, value_of};
 
 use mufom_debug::{Block, DebugItem};
-use mufom_expr::{Postfix, Token};
+use mufom_expr::Postfix;
 use mufom_numbers::NoMemory;
 use std::alloc::Global;
 
@@ -27,23 +28,6 @@ pub(crate) enum Role<'a> {
 pub(crate) struct DebugAddress<'a> {
     pub address: u64,
     pub role: Role<'a>,
-}
-
-// The value of a single number token; 0 for any other tokens.
-fn number_in(tokens: &[Token]) -> u64
-    ensures { result ≡ number_in tokens.now }
-{
-    match tokens {
-        [Token::Number(value)] => *value,
-        _ => 0,
-    }
-}
-
-// The value of a located expression, which is a single number.
-fn number_of(expression: &Postfix) -> u64
-    ensures { result ≡ number_of expression.now }
-{
-    number_in(expression.tokens())
 }
 
 // ---- names
@@ -94,7 +78,7 @@ fn push_address<'a>(
         ++ address_in (role_seen role.entry) (option_map (λ e. e.now) expression.entry)) }
 {
     if let Some(expression) = expression {
-        let address = number_of(expression);
+        let address = expression.number_or_zero();
         addresses.push(DebugAddress { address, role })?;
     }
     Ok(())

@@ -7,7 +7,7 @@ use Rattle.std.specs.List.{AllByRecursion}
 use Rattle.std.specs.Option.{option_and_then}
 use Rattle.mufom_numbers.specs.Spelling.{AreBytes, value_after}
 use Rattle.mufom_numbers.proofs.ShortestLaws.{bytes_high_first-bytes, to_be_bytes-value}
-use Rattle.mufom_meaning.proofs.Choices.{equal_numbers}
+use Rattle.mufom_numbers.proofs.Choices.{equal_numbers}
 use Rattle.mufom_titxt.specs.Lines.{hex_digit, hex_after, address_of, byte_of}
 use Rattle.mufom_titxt.specs.Written.{upper_digit, byte_digits, without_zeros, address_digits}
 

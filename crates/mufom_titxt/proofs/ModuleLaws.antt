@@ -3,7 +3,7 @@ use Rattle.std.proofs.Common.{◌≡◌, ℕ, zero, suc, ◌<◌, ◌≤◌, min
 use Rattle.std.specs.Prelude.{nat_lt}
 use Rattle.std.proofs.Math.ListN.{drop_of_length-le}
 use Rattle.std.proofs.lemmas.List.{length-drop, take_all}
-use Rattle.mufom_meaning.proofs.Choices.{of_lt, of_not_lt}
+use Rattle.mufom_numbers.proofs.Choices.{of_lt, of_not_lt}
 use Rattle.mufom_loads.specs.declared.load.Item.TheVariants.{Literal}
 use Rattle.mufom_loads.specs.declared.load.Load.{Load}
 use Rattle.mufom_loads.specs.declared.load.Load.TheVariants.{One}

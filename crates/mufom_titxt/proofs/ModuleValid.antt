@@ -19,7 +19,7 @@ use Rattle.mufom_module.specs.Weights.{section_weight, load_weight, size_weight}
 use Rattle.mufom_module.specs.Written.{weight}
 use Rattle.mufom_module.proofs.WeightLaws.{weight-sum}
 use Rattle.mufom_meaning.specs.declared.located.Run.{Run}
-use Rattle.mufom_meaning.proofs.Choices.{not_le, not_lt, two_false}
+use Rattle.mufom_numbers.proofs.Choices.{not_le, not_lt, two_false}
 use Rattle.mufom_titxt.specs.TextModules.{run_section, literals, loads_from, text_parts}
 
 -- ---- sections

@@ -35,7 +35,7 @@ use Rattle.mufom_meaning.specs.Placed.{planned_bases}
 use Rattle.mufom_meaning.specs.Stands.{StandsBeforeWalk, StandsInWalk, LocateFactStands, HasZeroDivisor}
 use Rattle.mufom_meaning.specs.Steps.{steps}
 use Rattle.mufom_meaning.specs.Values.{Setting, setting}
-use Rattle.mufom_meaning.proofs.Choices.{some_same}
+use Rattle.mufom_numbers.proofs.Choices.{some_same}
 use Rattle.mufom_meaning.specs.Staging.{AreValid}
 use Rattle.mufom_meaning.proofs.Members.{In, In-map, In-Contains}
 use Rattle.mufom_meaning.proofs.locations.CellRuns.{HaveOwnAddresses}

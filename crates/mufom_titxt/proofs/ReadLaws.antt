@@ -11,7 +11,7 @@ use Rattle.mufom_numbers.specs.Spelling.{AreBytes}
 use Rattle.mufom_numbers.specs.declared.limits.TheConstants.{MOST_FILE_BYTES}
 use Rattle.mufom_meaning.specs.declared.located.Run.{Run}
 use Rattle.mufom_meaning.specs.AddressMap.{Cell, cells_from, run_cells, AreApart}
-use Rattle.mufom_meaning.proofs.Choices.{equal_numbers, some_same}
+use Rattle.mufom_numbers.proofs.Choices.{equal_numbers, some_same}
 use Rattle.std.proofs.lemmas.List.Elements.{All-contains}
 use Rattle.mufom_meaning.proofs.Members.{Contains-In, In, In-Contains, In-append, In-left, In-map, In-right}
 use Rattle.mufom_meaning.proofs.locations.CellRuns.{AreRising, rising-In, run_cells-rise}

@@ -8,7 +8,7 @@ use Rattle.mufom_place.specs.Facts.{◌or_else◌}
 use Rattle.mufom_meaning.specs.AddressMap.{Cell, cells_from}
 use Rattle.mufom_meaning.specs.Facts.{LocateFact, loaded_twice}
 use Rattle.mufom_meaning.specs.Walk.{has_number, first_twice}
-use Rattle.mufom_meaning.proofs.Choices.{equal_numbers, of_lt}
+use Rattle.mufom_numbers.proofs.Choices.{equal_numbers, of_lt}
 use Rattle.mufom_image_bytes.specs.Chunks.{cell_addresses}
 use Rattle.mufom_titxt.specs.declared.refusal.TxtReason.{TxtReason}
 use Rattle.mufom_titxt.specs.declared.refusal.TxtReason.TheVariants.{Beyond, Twice}

@@ -4,7 +4,7 @@ use Rattle.std.proofs.Common.{arith, append_assoc}
 use Rattle.std.specs.Prelude.{nat_lt}
 use Rattle.std.proofs.Math.Seq.{take-length, drop-length}
 use Rattle.std.proofs.lemmas.List.{append-nil, take-append-drop, length-take-le}
-use Rattle.mufom_meaning.proofs.Choices.{of_lt, of_not_lt}
+use Rattle.mufom_numbers.proofs.Choices.{of_lt, of_not_lt}
 use Rattle.mufom_host.specs.declared.world.Failed.{Failed}
 use Rattle.mufom_host.specs.World.{Meaning, Faults, WritesAll, MakingGrowsByPrefix, HasCause, KeepsAllButMaking, KeepsAllButWrites}
 use Rattle.mufom_host.specs.Spans.{AfterWrites}

@@ -26,7 +26,7 @@ use Rattle.mufom_meaning.specs.Staging.{AreValid}
 use Rattle.mufom_meaning.specs.Valued.{HaveValues}
 use Rattle.mufom_meaning.specs.Absolute.{absolute_of}
 use Rattle.mufom_meaning.proofs.Tests.{either_false}
-use Rattle.mufom_meaning.proofs.Choices.{some_same, two_false, of_lt, is_lt, of_not_lt, not_lt, of_not_le, not_le}
+use Rattle.mufom_numbers.proofs.Choices.{some_same, two_false, of_lt, is_lt, of_not_lt, not_lt, of_not_le, not_le}
 use Rattle.mufom_meaning.proofs.Members.{In, flat_map-In, map-In, none-In, fails-In}
 use Rattle.mufom_meaning.proofs.NoDefects.{no_defect}
 use Rattle.mufom_meaning.proofs.values.Named.{site_module, valid_module, sections_end}

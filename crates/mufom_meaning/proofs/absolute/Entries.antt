@@ -28,7 +28,7 @@ use Rattle.mufom_meaning.specs.Location.{placed_section, located_public, located
 use Rattle.mufom_meaning.specs.Absolute.{absolute_public, chunks_within, literal_limit, chunks, run_within, loads_of_run, loads_of_bytes, loads_between}
 use Rattle.mufom_meaning.specs.Absolute.{with_section, section_loads_at, section_loads}
 use Rattle.mufom_meaning.specs.AddressMap.{cells_from}
-use Rattle.mufom_meaning.proofs.Choices.{of_lt}
+use Rattle.mufom_numbers.proofs.Choices.{of_lt}
 use Rattle.mufom_meaning.proofs.Members.{In}
 use Rattle.mufom_meaning.proofs.absolute.Cells.{cells_within, cells_at, section_cells, absolute_cells}
 use Rattle.mufom_meaning.proofs.absolute.Counts.{length-cells_from}

@@ -19,7 +19,7 @@ use Rattle.mufom_meaning.specs.Walk.{base_number, size_at, counted_from, address
 use Rattle.mufom_meaning.specs.AddressMap.{Cell, cells_from, literal_cells, address_map}
 use Rattle.mufom_meaning.specs.Facts.{load_outside, loaded_twice, overflow}
 use Rattle.mufom_meaning.specs.Stands.{StandsIn, put_back, IsStepAfter, HasZeroDivisor, StandsInWalk}
-use Rattle.mufom_meaning.proofs.Choices.{some_same}
+use Rattle.mufom_numbers.proofs.Choices.{some_same}
 use Rattle.mufom_meaning.proofs.Members.{In, In-at, map-In, In-append, In-left, get_some}
 use Rattle.mufom_meaning.proofs.locations.CellRuns.{HaveOwnAddresses}
 use Rattle.mufom_meaning.proofs.absolute.Cells.{at_cell, own_apart, own_after}

@@ -15,7 +15,7 @@ use Rattle.mufom_module.specs.declared.module.Parts.{Parts}
 use Rattle.mufom_meaning.specs.declared.located.Run.{Run}
 use Rattle.mufom_meaning.specs.Absolute.{literal_limit, chunks_within, chunks, run_within, loads_of_run, loads_of_bytes, loads_between, with_section}
 use Rattle.mufom_meaning.specs.Absolute.{section_loads_at, section_loads}
-use Rattle.mufom_meaning.proofs.Choices.{two_false, not_lt, not_le}
+use Rattle.mufom_numbers.proofs.Choices.{two_false, not_lt, not_le}
 use Rattle.mufom_meaning.proofs.Members.{In, map-In, flat_map-In}
 
 -- a load of such a module, by the number of its sections

@@ -18,7 +18,7 @@ use Rattle.mufom_meaning.specs.Values.{Setting, setting, environment, value}
 use Rattle.mufom_meaning.specs.Readings.{mark_reading, head_reading}
 use Rattle.mufom_meaning.specs.Location.{located_head, located_mark}
 use Rattle.mufom_meaning.specs.Staging.{AreValid}
-use Rattle.mufom_meaning.proofs.Choices.{some_same}
+use Rattle.mufom_numbers.proofs.Choices.{some_same}
 use Rattle.mufom_meaning.proofs.Members.{In}
 use Rattle.mufom_meaning.proofs.NoDefects.{no_defect}
 use Rattle.mufom_meaning.proofs.values.Causes.{valuation_below, within_is}

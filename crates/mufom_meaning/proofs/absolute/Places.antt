@@ -12,7 +12,7 @@ use Rattle.mufom_place.specs.Facts.{IsUnplaced, IsMisfit, EndsPast, Covers, IsOv
 use Rattle.mufom_place.proofs.FactLemmas.{refusal_sound, refusal_complete}
 use Rattle.mufom_meaning.specs.Location.{placed_section, placed_sections}
 use Rattle.mufom_meaning.specs.Absolute.{no_regions}
-use Rattle.mufom_meaning.proofs.Choices.{mapped_some}
+use Rattle.mufom_numbers.proofs.Choices.{mapped_some}
 use Rattle.mufom_meaning.proofs.Tests.{enumerate_get, get_enumerate}
 
 module _ (plan : Plan) (sections asked : List Section) where

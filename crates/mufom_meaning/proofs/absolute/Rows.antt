@@ -24,7 +24,7 @@ use Rattle.mufom_meaning.specs.Facts.{placement, image_limit, load_outside, load
 use Rattle.mufom_meaning.specs.Stands.{StandsInWalk}
 use Rattle.mufom_meaning.specs.Staging.{AreValid}
 use Rattle.mufom_meaning.specs.Absolute.{absolute_of, no_regions}
-use Rattle.mufom_meaning.proofs.Choices.{some_same, mapped_none, of_lt, of_not_lt}
+use Rattle.mufom_numbers.proofs.Choices.{some_same, mapped_none, of_lt, of_not_lt}
 use Rattle.mufom_meaning.proofs.Names.{get-prefix}
 use Rattle.mufom_meaning.proofs.Placed.{planned_get}
 use Rattle.mufom_meaning.proofs.Members.{In, In-at, at-In, Contains-In, In-Contains, In-flat_map, flat_map-In}

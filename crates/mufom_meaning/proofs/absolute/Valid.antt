@@ -30,7 +30,7 @@ use Rattle.mufom_meaning.specs.LocationLaws.{AbsoluteIsValid}
 use Rattle.mufom_meaning.specs.Staging.{AreValid}
 use Rattle.mufom_meaning.specs.Absolute.{absolute_public, absolute_of}
 use Rattle.mufom_meaning.proofs.Tests.{either_false}
-use Rattle.mufom_meaning.proofs.Choices.{some_same, two_false, not_le}
+use Rattle.mufom_numbers.proofs.Choices.{some_same, two_false, not_le}
 use Rattle.mufom_meaning.proofs.Members.{In, at-In, In-at, In-append, In-map, map-In, flat_map-In, none-In, fails-In}
 use Rattle.mufom_meaning.proofs.NoDefects.{no_defect}
 use Rattle.mufom_meaning.proofs.values.Named.{site_module, valid_module}

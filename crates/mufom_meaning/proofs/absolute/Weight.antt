@@ -29,7 +29,7 @@ use Rattle.mufom_meaning.specs.Staging.{AreValid}
 use Rattle.mufom_meaning.specs.StagingLaws.{total_weight}
 use Rattle.mufom_meaning.specs.Absolute.{absolute_public, absolute_of}
 use Rattle.mufom_meaning.specs.LocationLaws.{asking_count, AbsoluteWeighs}
-use Rattle.mufom_meaning.proofs.Choices.{some_same, is_lt}
+use Rattle.mufom_numbers.proofs.Choices.{some_same, is_lt}
 use Rattle.mufom_meaning.proofs.Members.{In}
 use Rattle.mufom_meaning.proofs.staging.JoinedWeight.{sum_by-mapped, sum-flat, distinct-lighter, split_weights}
 use Rattle.mufom_meaning.proofs.absolute.Cells.{section_cells}

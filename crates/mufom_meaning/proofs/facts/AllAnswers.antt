@@ -28,7 +28,7 @@ use Rattle.mufom_meaning.proofs.facts.Chains.{cycles_are_short}
 use Rattle.mufom_meaning.proofs.facts.Answers.{or_else_some, or_else_none, first_some_at, first_some_none, find_at, find_none, untrue, not_false}
 use Rattle.mufom_meaning.proofs.facts.Answers.{link_sound, link_complete}
 use Rattle.mufom_place.proofs.FactLemmas.{refusal_sound, refusal_complete}
-use Rattle.mufom_meaning.proofs.Choices.{mapped_none, of_lt, is_lt}
+use Rattle.mufom_numbers.proofs.Choices.{mapped_none, of_lt, is_lt}
 use Rattle.mufom_meaning.proofs.Tests.{chosen_some, chosen_none}
 use Rattle.mufom_meaning.proofs.facts.WalkAnswers.{walk_sound, walk_complete}
 

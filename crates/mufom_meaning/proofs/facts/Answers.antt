@@ -14,7 +14,7 @@ use Rattle.mufom_meaning.specs.Flat.{public_names, flat_starts}
 use Rattle.mufom_meaning.specs.Facts.{descriptor, Descriptor, LinkFact, mismatch, duplicate, duplicate_start}
 use Rattle.mufom_meaning.specs.Stands.{StandsIn, LinkFactStands}
 use Rattle.mufom_meaning.specs.LinkAnswer.{same_order, same_descriptor, first_mismatch, first_duplicate, two_starts, link_answer}
-use Rattle.mufom_meaning.proofs.Choices.{mapped_some, mapped_none}
+use Rattle.mufom_numbers.proofs.Choices.{mapped_some, mapped_none}
 
 -- a choice that gives something gives the first, or the first is none and it gives the second
 pub or_else_some : {A : Type 0} (o u : Option A) (x : A) → o or_else u ≡ Some x → (o ≡ Some x) ⊎ ((o ≡ None) × (u ≡ Some x))

@@ -21,7 +21,7 @@ use Rattle.mufom_meaning.specs.Walk.{overflow_at, field_fact, size_at, item_fact
 use Rattle.mufom_meaning.specs.Walk.{debug_fact, walk_answer, base_number}
 use Rattle.mufom_meaning.specs.Fields.{fits}
 use Rattle.mufom_meaning.proofs.facts.Answers.{or_else_some, or_else_none, first_some_at, first_some_none, numbers}
-use Rattle.mufom_meaning.proofs.Choices.{of_lt, is_lt}
+use Rattle.mufom_numbers.proofs.Choices.{of_lt, is_lt}
 use Rattle.mufom_meaning.proofs.Tests.{enumerate_get, get_enumerate, le_of, of_le, chosen_some, chosen_none, either, either_false}
 
 counted_get : (n start q z : ℕ) → slice_get (counted_from n start) q ≡ Some z → (q < n) × (z ≡ start + q)

@@ -3,7 +3,7 @@ use Rattle.std.proofs.Common.{◌≡◌, ℕ, suc, ◌+◌, ◌<◌, ◌≤◌, 
 use Rattle.std.proofs.Common.{arith, rules}
 use Rattle.std.specs.Prelude.{◌==◌, nat_lt, if◌then◌else◌}
 use Rattle.mufom_meaning.specs.declared.located.Run.{Run}
-use Rattle.mufom_meaning.proofs.Choices.{equal_numbers, of_lt, of_not_lt}
+use Rattle.mufom_numbers.proofs.Choices.{equal_numbers, of_lt, of_not_lt}
 use Rattle.mufom_meaning.proofs.Members.{In, In-Contains, Contains-In}
 use Rattle.mufom_meaning.specs.AddressMap.{Cell, cells_from, run_cells, AreApart, AreRunsOf}
 

@@ -10,7 +10,7 @@ use Rattle.mufom_meaning.specs.Readings.{readings, PublicReading}
 use Rattle.mufom_meaning.specs.AddressMap.{AreRunsOf, address_map}
 use Rattle.mufom_meaning.specs.Location.{Header, located_public}
 use Rattle.mufom_meaning.specs.LocationLaws.{LocationIsSingle}
-use Rattle.mufom_meaning.proofs.Choices.{some_same}
+use Rattle.mufom_numbers.proofs.Choices.{some_same}
 use Rattle.mufom_meaning.proofs.locations.CellRuns.{rows_are_single}
 
 head_same : {A : Type 0} (x y : A) (xs ys : List A) → ◌≡◌ {A = List A} (x ∷ xs) (y ∷ ys) → x ≡ y

@@ -26,7 +26,7 @@ use Rattle.mufom_meaning.specs.Joined.{HasFirstHeader, IsJoined}
 use Rattle.mufom_meaning.specs.Staging.{AreValid}
 use Rattle.mufom_meaning.specs.StagingLaws.{total_weight, JoinedIsValid}
 use Rattle.mufom_meaning.proofs.Tests.{either_false}
-use Rattle.mufom_meaning.proofs.Choices.{two_false, not_lt, not_le}
+use Rattle.mufom_numbers.proofs.Choices.{two_false, not_lt, not_le}
 use Rattle.mufom_meaning.proofs.NoDefects.{no_defect}
 use Rattle.mufom_meaning.proofs.Members.{In, fails-In, none-In, filter-In, distinct-In}
 use Rattle.mufom_meaning.proofs.values.Named.{site_module, valid_module, sections_end, publics_end}

@@ -9,6 +9,7 @@ use Rattle.mufom_loads.specs.declared.load.Load.TheVariants.{SetSection, SetPc, 
 use Rattle.mufom_loads.specs.Lengths.{repeated}
 use Rattle.mufom_debug.specs.Marks.{marks_of}
 use Rattle.mufom_module.specs.declared.module.Parts.{Parts}
+use Rattle.mufom_module.specs.Contents.{current_after}
 use Rattle.mufom_meaning.proofs.NoDefects.{begin_with_section, loads_begin_with_section}
 use Rattle.mufom_meaning.specs.Flat.{Sited, sited, sited_from, name_count}
 use Rattle.mufom_meaning.specs.Steps.{Step, counter_step, item_steps, steps_of, steps}
@@ -19,26 +20,23 @@ use Rattle.mufom_meaning.proofs.staging.Moved.{shifted, IsOfGroup, joins}
 use Rattle.mufom_meaning.proofs.staging.MovedSteps.{MovedStep, counters, literals, fields, stays_step}
 use Rattle.mufom_meaning.proofs.staging.Groups.{AllSites, are_of_group, home_of, paired_sites}
 
--- the current section after some loads
-abbrev current_after : Option ℕ → List Load → Option ℕ
-current_after current [] = current
-current_after current (SetSection section ∷ loads) = current_after (Some section) loads
-current_after current (SetPc section t ∷ loads) = current_after current loads
-current_after current (One item ∷ loads) = current_after current loads
-current_after current (Repeat count items ∷ loads) = current_after current loads
+-- the section that is current after some loads
+abbrev after_all : Option ℕ → List Load → Option ℕ
+after_all current [] = current
+after_all current (load ∷ loads) = after_all (current_after current load) loads
 
 steps_of-append : (site : Sited) (current : Option ℕ) (xs ys : List Load) → steps_of site current (xs ++ ys) ≡ steps_of site current xs
-    ++ steps_of site (current_after current xs) ys
+    ++ steps_of site (after_all current xs) ys
 steps_of-append site current [] ys = refl
 steps_of-append site current (SetSection section ∷ xs) ys = steps_of-append site (Some section) xs ys
 steps_of-append site current (SetPc section t ∷ xs) ys = ap (λ rest. counter_step site (site.first_section + section) t ∷ rest)
     (steps_of-append site current xs ys)
 steps_of-append site current (One item ∷ xs) ys =
     ap (λ rest. item_steps site current (item ∷ []) ++ rest) (steps_of-append site current xs ys)
-    ∙ sym (append_assoc (item_steps site current (item ∷ [])) (steps_of site current xs) (steps_of site (current_after current xs) ys))
+    ∙ sym (append_assoc (item_steps site current (item ∷ [])) (steps_of site current xs) (steps_of site (after_all current xs) ys))
 steps_of-append site current (Repeat count items ∷ xs) ys =
     ap (λ rest. repeated count (item_steps site current items) ++ rest) (steps_of-append site current xs ys)
-    ∙ sym (append_assoc (repeated count (item_steps site current items)) (steps_of site current xs) (steps_of site (current_after current xs) ys))
+    ∙ sym (append_assoc (repeated count (item_steps site current items)) (steps_of site current xs) (steps_of site (after_all current xs) ys))
 
 -- loads that begin with a section do not depend on the current one before them
 steps_of-fresh : (site : Sited) (loads : List Load) → begin_with_section loads ≡ true → (current : Option ℕ) → steps_of site current loads
@@ -106,12 +104,12 @@ module _ (ms : List Parts) (home : Sited) where
       let prefix : List Load = map (joined_load ms site) site.parts.loads in
       let back : List Load = flat_map (λ x. map (joined_load ms x) x.parts.loads) sites in
       let begins : begin_with_section prefix ≡ true = begin_with_section-joined site site.parts.loads ∙ all.0.1 in
-      let split : steps_of home current (prefix ++ back) ≡ steps_of home None prefix ++ steps_of home (current_after current prefix) back
+      let split : steps_of home current (prefix ++ back) ≡ steps_of home None prefix ++ steps_of home (after_all current prefix) back
       = steps_of-append home current prefix back ∙ ap (λ steps. steps
-      ++ steps_of home (current_after current prefix) back) (steps_of-fresh home prefix begins current) in
+      ++ steps_of home (after_all current prefix) back) (steps_of-fresh home prefix begins current) in
       subst (λ steps. Paired R steps (steps_of (shifted home site) None site.parts.loads
       ++ flat_map (λ x. steps_of (shifted home x) None x.parts.loads) sites)) (sym split)
-      (Paired-append R _ _ _ _ (paired_loads site all.0.0 None site.parts.loads) (paired_group sites all.1 (current_after current prefix)))
+      (Paired-append R _ _ _ _ (paired_loads site all.0.0 None site.parts.loads) (paired_group sites all.1 (after_all current prefix)))
 
 valid_sites : (s p d : ℕ) (xs : List Parts) → AreValid xs → AllSites (λ site. IsTrue (begin_with_section site.parts.loads)) (sited_from s p d xs)
 valid_sites s p d [] v = tt

@@ -12,7 +12,7 @@ use Rattle.mufom_meaning.specs.Values.{Setting, value_within, value, has_zero_di
 use Rattle.mufom_meaning.specs.Steps.{Step, counter_step, item_step, steps, counter}
 use Rattle.mufom_meaning.specs.Stands.{StandsIn, put_back}
 use Rattle.mufom_meaning.specs.Valued.{CounterPlace, counter_there, IsMentionedIn, last_set, MeetsZeroDivisor, itself, through_name, through_counter}
-use Rattle.mufom_meaning.proofs.Choices.{some_same, mapped_none}
+use Rattle.mufom_numbers.proofs.Choices.{some_same, mapped_none}
 use Rattle.mufom_meaning.proofs.Members.{In, In-Contains}
 use Rattle.mufom_meaning.proofs.values.Ends.{EndsWithin, all_end, mentioned-among}
 use Rattle.mufom_meaning.proofs.values.Causes.{valuation_below, IsWellNamed, IsNoneBy, none_cause}

@@ -38,7 +38,7 @@ use Rattle.mufom_meaning.proofs.facts.Answers.{find_at, both}
 use Rattle.mufom_meaning.proofs.Names.{names_of-sited_publics}
 use Rattle.mufom_meaning.proofs.facts.Cycles.{list_any-agrees}
 use Rattle.mufom_meaning.proofs.Tests.{either_false}
-use Rattle.mufom_meaning.proofs.Choices.{of_lt, of_not_lt}
+use Rattle.mufom_numbers.proofs.Choices.{of_lt, of_not_lt}
 use Rattle.mufom_meaning.proofs.Members.{In, In-at, at-In, In-map, map-In, In-flat_map, flat_map-In, In-append, In-filter, In-distinct, passes-In}
 use Rattle.mufom_meaning.proofs.Members.{none-In, get_some}
 use Rattle.mufom_meaning.proofs.WithoutDefect.{IsInside, inside, finds-none, public_inside, public_free, start_inside, start_free, mark_inside}

@@ -13,7 +13,7 @@ use Rattle.mufom_meaning.specs.Steps.{Step, counter_step, item_step, steps, coun
 use Rattle.mufom_meaning.specs.Stands.{StandsIn, IsStepAfter, put_back, HasZeroDivisor}
 use Rattle.mufom_meaning.specs.Valued.{CounterPlace, counter_there, IsExpressionAt, IsMentionedIn, MeetsZeroDivisor, itself, through_name}
 use Rattle.mufom_meaning.specs.Valued.{through_counter, section_of, HaveValues}
-use Rattle.mufom_meaning.proofs.Choices.{mapped_none, equal_numbers}
+use Rattle.mufom_numbers.proofs.Choices.{mapped_none, equal_numbers}
 use Rattle.mufom_meaning.proofs.values.Ends.{mentioned-among}
 use Rattle.mufom_meaning.proofs.values.Lacks.{IsPlain, HasBase, IsWellStep, HasAllNamed, step-In, Why, why, plain_meets, step_meets}
 use Rattle.mufom_loads.specs.Lengths.{byte_count}

@@ -1,4 +1,4 @@
-use Rattle.mufom_text.proofs.Counted.{few_marks}
+use Rattle.mufom_text.proofs.FewMarks.{few_marks}
 use Rattle.mufom_build.proofs.PrintedLines.{listing_builds}
 use Rattle.mufom_build.proofs.laws.listings_build.Goals as goal
 

@@ -2,7 +2,7 @@ use Rattle.std.proofs.Common.{◌≡◌, ◌≤◌, ◌∙◌, [], List, ap, sub
 use Rattle.mufom_debug.specs.declared.item.DebugItem.{DebugItem}
 use Rattle.mufom_debug.specs.Marks.{depth_of, marks_of}
 use Rattle.mufom_meaning.specs.declared.located.LocatedParts.{LocatedParts}
-use Rattle.mufom_meaning.proofs.Choices.{of_not_lt}
+use Rattle.mufom_numbers.proofs.Choices.{of_not_lt}
 use Rattle.mufom_meaning.proofs.absolute.Debug.{shallow}
 use Rattle.mufom_command.proofs.query.lines_at.Goals as goal
 

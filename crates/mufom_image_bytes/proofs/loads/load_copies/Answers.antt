@@ -1,5 +1,5 @@
 use Rattle.std.proofs.Common.{map, length, sym, ◌∙◌}
-use Rattle.mufom_meaning.proofs.Choices.{equal_numbers}
+use Rattle.mufom_numbers.proofs.Choices.{equal_numbers}
 use Rattle.mufom_image_bytes.specs.Walks.{progress_of}
 use Rattle.mufom_image_bytes.proofs.OutcomeLaws.{copies_go, copies_end, repeated_empty}
 use Rattle.mufom_image_bytes.proofs.loads.load_copies.Goals as goal

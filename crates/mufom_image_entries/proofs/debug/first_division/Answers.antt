@@ -1,7 +1,7 @@
 use Rattle.std.proofs.Common.{◌≡◌, ◌∙◌, Some, false, ap, sym, arith}
 use Rattle.std.specs.Prelude.{slice_get}
 use Rattle.mufom_expr.specs.Tree.{Tree}
-use Rattle.mufom_meaning.proofs.Choices.{some_same}
+use Rattle.mufom_numbers.proofs.Choices.{some_same}
 use Rattle.mufom_image_values.proofs.TokenLoops.{below_more}
 use Rattle.mufom_image_entries.specs.Valued.{divides}
 use Rattle.mufom_image_entries.proofs.Firsts.{drop-next, drop-end}

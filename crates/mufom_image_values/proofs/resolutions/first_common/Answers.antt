@@ -3,7 +3,7 @@ use Rattle.std.specs.Prelude.{option_map, slice_get}
 use Rattle.std.proofs.lemmas.Option.{slice_get-get_or, slice_get_within}
 use Rattle.mufom_names.specs.declared.name.Reference.{Reference}
 use Rattle.mufom_module.specs.declared.module.Parts.{Parts}
-use Rattle.mufom_meaning.proofs.Choices.{some_same}
+use Rattle.mufom_numbers.proofs.Choices.{some_same}
 use Rattle.mufom_image_values.specs.Resolutions.{is_first_common}
 use Rattle.mufom_image_values.proofs.CommonLaws.{stands, first_common-is, find-first, find-never, resolution-at}
 use Rattle.mufom_image_values.proofs.TokenLoops.{below_more}

@@ -4,7 +4,7 @@ use Rattle.std.proofs.lemmas.Option.{slice_get-get_or, slice_get_within}
 use Rattle.mufom_names.specs.declared.name.Reference.{Reference}
 use Rattle.mufom_module.specs.declared.module.Parts.{Parts}
 use Rattle.mufom_meaning.specs.Flat.{is_strong}
-use Rattle.mufom_meaning.proofs.Choices.{some_same}
+use Rattle.mufom_numbers.proofs.Choices.{some_same}
 use Rattle.mufom_image_values.specs.declared.resolutions.Resolution.{Resolution}
 use Rattle.mufom_image_values.specs.Resolutions.{is_nothing}
 use Rattle.mufom_image_values.proofs.ResolutionLaws.{is_undefined, first_undefined-is}

@@ -1,6 +1,6 @@
 use Rattle.std.proofs.Common.{ap, length, arith}
 use Rattle.mufom_debug.specs.Marks.{marks_of}
-use Rattle.mufom_text.proofs.Counted.{few_marks}
+use Rattle.mufom_text.proofs.FewMarks.{few_marks}
 use Rattle.mufom_text.proofs.show.module_text.Goals as goal
 
 pub debug_items-requires-clause-deep : goal.debug_items-requires-clause-deep

@@ -11,11 +11,11 @@ returns-in-Some c = record {
         function = None;
         its_function = refl;
         best_function = refl;
-        line = Some (record { line = c.in-Some.line; address = c.number_of-address.result; source = option_map (λ (s : Bor (List ℕ)). s.now) c.args.source });
+        line = Some (record { line = c.in-Some.line; address = c.number_or_zero-address.result; source = option_map (λ (s : Bor (List ℕ)). s.now) c.args.source });
         its_line = value-line (option_map (λ (s : Bor
-            (List ℕ)). s.now) c.args.source) c.args.value.now c.args.name c.in-Some.line c.number_of-address.result (reverse entries)
+            (List ℕ)). s.now) c.args.source) c.args.value.now c.args.name c.in-Some.line c.number_or_zero-address.result (reverse entries)
             (c.in-Some.ensures ∙ ap (λ numbers. number_for numbers c.args.name) c.deref.ensures.value
-            ∙ h.numbers_are c.args.name) c.number_of-address.ensures;
+            ∙ h.numbers_are c.args.name) c.number_or_zero-address.ensures;
         best_line = c.nearest-self.ensures;
         numbers = h.numbers_are;
       });

@@ -3,7 +3,7 @@ use Rattle.std.specs.Prelude.{slice_get}
 use Rattle.std.proofs.lemmas.Option.{slice_get-get_or, slice_get_within}
 use Rattle.mufom_names.specs.declared.name.Public.{Public}
 use Rattle.mufom_meaning.specs.Walk.{public_fact}
-use Rattle.mufom_meaning.proofs.Choices.{some_same}
+use Rattle.mufom_numbers.proofs.Choices.{some_same}
 use Rattle.mufom_image_values.specs.Evaluated.{setting_of}
 use Rattle.mufom_image_values.proofs.MentionLaws.{sit}
 use Rattle.mufom_image_values.proofs.DivisionLaws.{fact-none, first-division-none, first-division-some}

@@ -22,10 +22,10 @@ use Rattle.mufom_prune.specs.Pruned.{remaining, positions_of, new_tree, new_publ
 use Rattle.mufom_prune.proofs.KeptLaws.{all_at, variable_kept, public_mentions, load_mentions, start_mentions}
 use Rattle.mufom_prune.proofs.PrunedPlaces.{load_was}
 use Rattle.mufom_prune.proofs.PrunedValid.{remaining-at, placed-In}
-use Rattle.mufom_prune_laws.specs.Meaning.{left_readings, MeansTheRest, PrunedMeansTheRest}
-use Rattle.mufom_prune_laws.proofs.SameValues.{wrap, site, site', s, s', IsWhole, same_value}
-use Rattle.mufom_prune_laws.proofs.LeftSteps.{steps_left, all_hold}
-use Rattle.mufom_prune_laws.proofs.LeftReadings.{same_readings}
+use Rattle.mufom_prune.specs.Meaning.{left_readings, MeansTheRest, PrunedMeansTheRest}
+use Rattle.mufom_prune.proofs.SameValues.{wrap, site, site', s, s', IsWhole, same_value}
+use Rattle.mufom_prune.proofs.LeftSteps.{steps_left, all_hold}
+use Rattle.mufom_prune.proofs.LeftReadings.{same_readings}
 
 not_outside : (n k : ℕ) → k < n → nat_le n k ≡ false
 not_outside n k less = search rules

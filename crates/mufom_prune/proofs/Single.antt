@@ -4,8 +4,8 @@ use Rattle.mufom_module.specs.declared.module.Parts.{Parts}
 use Rattle.mufom_select.specs.Choice.{is_marked}
 use Rattle.mufom_prune.specs.Kept.{IsKept}
 use Rattle.mufom_prune.specs.Pruned.{remains, without_others}
-use Rattle.mufom_prune_laws.specs.Meaning.{PrunedIsSingle}
-use Rattle.mufom_prune_laws.proofs.Commons.{same_truth}
+use Rattle.mufom_prune.specs.Meaning.{PrunedIsSingle}
+use Rattle.mufom_prune.proofs.Commons.{same_truth}
 
 marks_same : (xs ys : List Bool) → length xs ≡ length ys → ((n : ℕ) → is_marked xs n ≡ true → is_marked ys n ≡ true)
     → ((n : ℕ) → is_marked ys n ≡ true → is_marked xs n ≡ true) → xs ≡ ys

@@ -12,10 +12,10 @@ use Rattle.mufom_meaning.specs.Values.{Setting, value}
 use Rattle.mufom_meaning.specs.Steps.{Step, counter_step, item_step, counter, StepReading, counter_reading, literal_reading, field_reading}
 use Rattle.mufom_meaning.specs.Steps.{step_reading, readings_after}
 use Rattle.mufom_prune.specs.Pruned.{Remains, remaining, new_positions, positions_of, new_tree, new_item}
-use Rattle.mufom_prune_laws.specs.Meaning.{section_read, moved_reading, left_readings}
-use Rattle.mufom_prune_laws.proofs.Commons.{same_truth}
-use Rattle.mufom_prune_laws.proofs.SameValues.{at_new}
-use Rattle.mufom_prune_laws.proofs.LeftSteps.{stays_step, moved_step, left, left-one, Holds, AllHold}
+use Rattle.mufom_prune.specs.Meaning.{section_read, moved_reading, left_readings}
+use Rattle.mufom_prune.proofs.Commons.{same_truth}
+use Rattle.mufom_prune.proofs.SameValues.{at_new}
+use Rattle.mufom_prune.proofs.LeftSteps.{stays_step, moved_step, left, left-one, Holds, AllHold}
 
 -- marked elements with one new position are one
 new_injective : (k : ℕ) (marks : List Bool) (a b : ℕ) → is_marked marks a ≡ true → is_marked marks b ≡ true → get_or (new_positions k marks) a 0

@@ -1,6 +1,6 @@
 //! Laws about what remains of a pruned module, each the contract of a function that does nothing.
 
-ghost use Rattle.mufom_prune_laws.specs.Meaning.{PrunedIsSingle, PrunedMeansTheRest};
+ghost use Rattle.mufom_prune.specs.Meaning.{PrunedIsSingle, PrunedMeansTheRest};
 
 /// What remains of a module without a defect means the same as it does in the whole module, wherever
 /// sections and commons are placed: the sections, the publics, the steps of these sections and the start have the

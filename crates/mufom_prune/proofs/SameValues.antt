@@ -32,11 +32,11 @@ use Rattle.mufom_prune.specs.Kept.{first_for, named, IsKept}
 use Rattle.mufom_prune.specs.Pruned.{remaining, remaining_names, new_positions, positions_of, new_variable, new_tree, new_public, remains, without_others}
 use Rattle.mufom_prune.proofs.NeedLaws.{none_named}
 use Rattle.mufom_prune.proofs.KeptLaws.{mentioned_sized, section_kept, public_kept, mention_kept, reference_kept, reference_names}
-use Rattle.mufom_prune_laws.specs.Meaning.{new_bases}
-use Rattle.mufom_prune_laws.proofs.Settled.{settled}
-use Rattle.mufom_prune_laws.proofs.Named.{with_site, First, one_named}
-use Rattle.mufom_prune_laws.proofs.Named as first
-use Rattle.mufom_prune_laws.proofs.Commons.{same_commons}
+use Rattle.mufom_prune.specs.Meaning.{new_bases}
+use Rattle.mufom_prune.proofs.Settled.{settled}
+use Rattle.mufom_prune.proofs.Named.{with_site, First, one_named}
+use Rattle.mufom_prune.proofs.Named as first
+use Rattle.mufom_prune.proofs.Commons.{same_commons}
 
 -- ---- elements at their new positions
 

@@ -1,5 +1,0 @@
-use Rattle.mufom_prune_laws.proofs.Single.{pruned_is_single}
-use Rattle.mufom_prune_laws.proofs.laws.pruned_is_single.Goals as goal
-
-pub returns : goal.returns
-returns c = pruned_is_single

@@ -1,5 +1,0 @@
-use Rattle.mufom_prune_laws.proofs.Meaning.{pruned_means_the_rest}
-use Rattle.mufom_prune_laws.proofs.laws.pruned_means_the_rest.Goals as goal
-
-pub returns : goal.returns
-returns c = pruned_means_the_rest
