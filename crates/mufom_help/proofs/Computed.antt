@@ -10,16 +10,22 @@ use Rattle.mufom_help.specs.declared.commands.TheConstants.{LIST}
 joined-pages : (a b : List Topic) → are_pages a ≡ true → are_pages b ≡ true → are_pages (a ++ b) ≡ true
 joined-pages a b p q = list_all-append is_page a b ∙ ap (λ first. first && are_pages b) p ∙ q
 
-first-commands-pages : are_pages (take 7 commands) ≡ true
+first-commands-pages : are_pages (take 4 commands) ≡ true
 unfolding piece_lengths are_ended
 first-commands-pages = refl
 
-last-commands-pages : are_pages (drop 7 commands) ≡ true
+middle-commands-pages : are_pages (take 4 (drop 4 commands)) ≡ true
+unfolding piece_lengths are_ended
+middle-commands-pages = refl
+
+last-commands-pages : are_pages (drop 4 (drop 4 commands)) ≡ true
 unfolding piece_lengths are_ended
 last-commands-pages = refl
 
 commands-pages : are_pages commands ≡ true
-commands-pages = joined-pages (take 7 commands) (drop 7 commands) first-commands-pages last-commands-pages
+commands-pages =
+    joined-pages (take 4 commands) (drop 4 commands) first-commands-pages
+    (joined-pages (take 4 (drop 4 commands)) (drop 4 (drop 4 commands)) middle-commands-pages last-commands-pages)
 
 first-records-pages : are_pages (take 7 records) ≡ true
 unfolding piece_lengths are_ended

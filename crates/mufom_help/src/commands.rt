@@ -9,18 +9,19 @@ pub const LIST: &str = "mufom links, locates and inspects object modules of IEEE
 Usage: mufom COMMAND [OPTION ...] OPERAND ...
 
 To look at modules:
-  show [--listing] [--no-debug] FILE
-  check [--no-debug] FILE ...
+  show [--listing] [--gnu] [--no-debug] FILE
+  check [--gnu] [--no-debug] FILE ...
 To link modules, and to place their sections by a memory plan:
-  link [--no-debug] [--name NAME] -o OUT FILES
-  locate [--no-debug] [--plan PLAN] [--keep NAME] -o OUT FILES
+  link [--gnu] [--no-debug] [--name NAME] -o OUT FILES
+  locate [--gnu] [--no-debug] [--plan PLAN] [--keep NAME] -o OUT FILES
 To print the image, what is at which address, or the source line at one:
-  dump [--no-debug] [--plan PLAN] [--keep NAME] FILES
-  map [--no-debug] [--plan PLAN] [--keep NAME] FILES
-  addr [--plan PLAN] --at ADDRESS FILES
+  dump [--gnu] [--no-debug] [--plan PLAN] [--keep NAME] FILES
+  map [--gnu] [--no-debug] [--plan PLAN] [--keep NAME] FILES
+  addr [--gnu] [--plan PLAN] --at ADDRESS FILES
 To write the image as raw bytes or as TI-TXT:
-  bin [--no-debug] [--plan PLAN] [--keep NAME] [--fill BYTE] -o OUT FILES
-  txt [--no-debug] [--plan PLAN] [--keep NAME] -o OUT FILES
+  bin [--gnu] [--no-debug] [--plan PLAN] [--keep NAME] [--fill BYTE]
+      -o OUT FILES
+  txt [--gnu] [--no-debug] [--plan PLAN] [--keep NAME] -o OUT FILES
 To make modules, from a TI-TXT file or a listing, or for a self-test:
   fromtxt [--maus N] -o OUT FILE
   build -o OUT FILE
@@ -47,7 +48,7 @@ form that `mufom help COMMAND` prints.
 /// The text of `help show`.
 pub const SHOW: &str = "show: prints one module as text
 
-Usage: mufom show [--listing] [--no-debug] FILE
+Usage: mufom show [--listing] [--gnu] [--no-debug] FILE
 
 Prints the sections, public symbols, references, debug items, loads and start
 address of a module, one line for each. Numbers are decimal, and entries are
@@ -57,6 +58,7 @@ of public symbol 0, and X0 that of reference 0.
 Options:
   --listing    print all of the module: the bytes of the extension and
                environment parts, and a line `end` after a repeat
+  --gnu        accept the forms in which GNU binutils writes modules
   --no-debug   skip the debug part without reading it
   --           end the options; what follows is the name of a file
 
@@ -70,7 +72,7 @@ Example:
 /// The text of `help check`.
 pub const CHECK: &str = "check: finds out whether files are modules that mufom reads
 
-Usage: mufom check [--no-debug] FILE ...
+Usage: mufom check [--gnu] [--no-debug] FILE ...
 
 Reads all files, up to 1,024 of them, and then prints a line for each:
   file N NAME: sections A publics B references C loads D debug E
@@ -79,6 +81,7 @@ a file is refused, no line is printed, and the error line names the first error
 in it and its offset.
 
 Options:
+  --gnu        accept the forms in which GNU binutils writes modules
   --no-debug   skip the debug parts without reading them; errors in them are
                not found
   --           end the options; what follows are names of files
@@ -93,7 +96,7 @@ Example:
 /// The text of `help link`.
 pub const LINK: &str = "link: links modules into one module
 
-Usage: mufom link [--no-debug] [--name NAME] -o OUT FILES
+Usage: mufom link [--gnu] [--no-debug] [--name NAME] -o OUT FILES
 
 Writes one module to OUT that replaces its inputs in every later link. A
 reference to a name that one of the modules defines becomes that public
@@ -107,6 +110,7 @@ strong reference to a name that no file before the + defines and that this
 member is the first member to define.
 
 Options:
+  --gnu         accept the forms in which GNU binutils writes modules
   --no-debug    skip the debug parts without reading them
   --name NAME   name the linked module NAME, in place of the name of the first
                 module; at most 65,535 bytes
@@ -125,7 +129,8 @@ Example:
 pub const LOCATE: &str =
     "locate: links modules, places their sections, and writes the absolute module
 
-Usage: mufom locate [--no-debug] [--plan PLAN] [--keep NAME] -o OUT FILES
+Usage: mufom locate [--gnu] [--no-debug] [--plan PLAN] [--keep NAME]
+                    -o OUT FILES
 
 Links FILES as `link` does, places the sections by a memory plan, and writes
 the absolute module to OUT: every section has its base address and every
@@ -138,6 +143,7 @@ A group is linked into one module first. A member is linked only if another
 module needs it.
 
 Options:
+  --gnu         accept the forms in which GNU binutils writes modules
   --no-debug    skip the debug parts without reading them
   --plan PLAN   the file of the memory plan, a TOML document
   --keep NAME   keep only what is reachable from the public symbol NAME, from
@@ -163,7 +169,7 @@ with this plan.toml:
 /// The text of `help dump`.
 pub const DUMP: &str = "dump: links and locates modules, and prints the image
 
-Usage: mufom dump [--no-debug] [--plan PLAN] [--keep NAME] FILES
+Usage: mufom dump [--gnu] [--no-debug] [--plan PLAN] [--keep NAME] FILES
 
 Links and locates FILES as `locate` does, and prints the loaded bytes by
 address, then the start address, the public symbols and the debug addresses.
@@ -175,6 +181,7 @@ A group is linked into one module first. A member is linked only if another
 module needs it.
 
 Options:
+  --gnu         accept the forms in which GNU binutils writes modules
   --no-debug    skip the debug parts without reading them
   --plan PLAN   the file of the memory plan, a TOML document
   --keep NAME   keep only what is reachable from the public symbol NAME, from
@@ -192,7 +199,7 @@ Example:
 /// The text of `help map`.
 pub const MAP: &str = "map: links and locates modules, and prints what is at which address
 
-Usage: mufom map [--no-debug] [--plan PLAN] [--keep NAME] FILES
+Usage: mufom map [--gnu] [--no-debug] [--plan PLAN] [--keep NAME] FILES
 
 Links and locates FILES as `locate` does, and prints these lines:
   module J NAME file N         each module that was linked, and its file
@@ -212,6 +219,7 @@ FILES are files and groups, then perhaps a + and members:
   a.695 [ b.695 c.695 ] + library.695
 
 Options:
+  --gnu         accept the forms in which GNU binutils writes modules
   --no-debug    skip the debug parts without reading them
   --plan PLAN   the file of the memory plan, a TOML document
   --keep NAME   keep only what is reachable from the public symbol NAME, from
@@ -229,8 +237,8 @@ Example:
 /// The text of `help bin`.
 pub const BIN: &str = "bin: links and locates modules, and writes the image as raw bytes
 
-Usage: mufom bin [--no-debug] [--plan PLAN] [--keep NAME] [--fill BYTE]
-                 -o OUT FILES
+Usage: mufom bin [--gnu] [--no-debug] [--plan PLAN] [--keep NAME]
+                 [--fill BYTE] -o OUT FILES
 
 Links and locates FILES as `locate` does. OUT gets one byte for each address
 from the lowest loaded address to the highest: the loaded byte, or BYTE where
@@ -242,6 +250,7 @@ FILES are files and groups, then perhaps a + and members:
   a.695 [ b.695 c.695 ] + library.695
 
 Options:
+  --gnu         accept the forms in which GNU binutils writes modules
   --no-debug    skip the debug parts without reading them
   --plan PLAN   the file of the memory plan, a TOML document
   --keep NAME   keep only what is reachable from the public symbol NAME, from
@@ -262,7 +271,8 @@ Example:
 /// The text of `help txt`.
 pub const TXT: &str = "txt: links and locates modules, and writes the image as a TI-TXT text
 
-Usage: mufom txt [--no-debug] [--plan PLAN] [--keep NAME] -o OUT FILES
+Usage: mufom txt [--gnu] [--no-debug] [--plan PLAN] [--keep NAME]
+                 -o OUT FILES
 
 Links and locates FILES as `locate` does, and writes the loaded bytes to OUT as
 TI-TXT, which flash programmers read: for each run of bytes at consecutive
@@ -274,6 +284,7 @@ FILES are files and groups, then perhaps a + and members:
   a.695 [ b.695 c.695 ] + library.695
 
 Options:
+  --gnu         accept the forms in which GNU binutils writes modules
   --no-debug    skip the debug parts without reading them
   --plan PLAN   the file of the memory plan, a TOML document
   --keep NAME   keep only what is reachable from the public symbol NAME, from
@@ -349,7 +360,7 @@ Example:
 /// The text of `help addr`.
 pub const ADDR: &str = "addr: prints the function and the source line at an address
 
-Usage: mufom addr [--plan PLAN] --at ADDRESS FILES
+Usage: mufom addr [--gnu] [--plan PLAN] --at ADDRESS FILES
 
 Links and locates FILES as `dump` does, and prints what the debug items say of
 one address:
@@ -362,6 +373,7 @@ FILES are files and groups, then perhaps a + and members:
   a.695 [ b.695 c.695 ] + library.695
 
 Options:
+  --gnu          accept the forms in which GNU binutils writes modules
   --plan PLAN    the file of the memory plan, a TOML document
   --at ADDRESS   the address, 1 to 16 hexadecimal digits; required
   --             end the options; brackets and + keep their meaning

@@ -118,6 +118,10 @@ pub const BAD_MAUS: &str = "BadMaus: an address does not have 1 to 8 addressable
 The number after `maus` in the first line of the listing is 0, or more than 8.
 It is the number of bytes (MAUs, minimum addressable units) in an address.
 
+Usual causes:
+  - The number of bits of an address was written in place of its bytes.
+  - The listing is of a processor that addresses more than 8 units.
+
 What to do:
   - Write 4 for a 68000, or 1 to 8 as the processor has it.
 ";
@@ -128,6 +132,10 @@ pub const BAD_ALIGN: &str = "BadAlign: the alignment of a section is 0 or above 
   refused: listing: BadAlign
 
 The number after `align` in a line `section` is 0, or more than 2,147,483,648.
+
+Usual causes:
+  - 0 was written for a section without an alignment, which is 1.
+  - The alignment was written as a power of two, or a digit is too many.
 
 What to do:
   - Write 1 for a section that may begin at any address, 2 for one that begins
@@ -143,6 +151,11 @@ P0 is the program counter of section 0. Only two lines can use one: `field` that
 of the section into which it loads, which was selected last, and `counter` that
 of the section whose counter it sets.
 
+Usual causes:
+  - A line `field` was moved below another `select`.
+  - A public symbol or the start should be an address in a section, and P was
+    written for it.
+
 What to do:
   - Look for P and a digit in the lines `public`, `start`, `block`, `value` and
     `end`, and use the base of the section and an offset: (R0 + 4).
@@ -157,6 +170,10 @@ pub const FIELD_SIZE: &str = "FieldSize: the size of a field is not 1 to 8 bytes
 The number before the equals sign of a line `field` is 0, or more than 8. It is
 the number of bytes that the value is stored in: field either 4 = (R0 + 4).
 
+Usual causes:
+  - The number of bits was written in place of that of bytes.
+  - The value and the size were exchanged.
+
 What to do:
   - Write a size of 1 to 8 bytes.
 ";
@@ -168,6 +185,10 @@ pub const ATTRIBUTE: &str = "Attribute: a note of a debug name has an unknown at
 
 The number after `attribute` in a line `note` of a debug name must be 1, 2, 3,
 4, 5, 7, 8 or 10.
+
+Usual causes:
+  - The number is that of another kind of note, as those of a public symbol.
+  - A digit is missing, or one too many.
 
 What to do:
   - Compare the line with those of a module that can be read:
@@ -200,6 +221,10 @@ pub const WEIGHT: &str = "Weight: the module is too large
 
 The records of the module, as they would be in its file, have 2^32 bytes or
 more.
+
+Usual causes:
+  - The listing was made by a program that repeats its lines without end.
+  - Names or lines of bytes are very long.
 
 What to do:
   - Make several modules, and link them when they are located.

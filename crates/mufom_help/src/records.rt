@@ -59,6 +59,8 @@ Usual causes:
   - The file is damaged, or its writer uses records of its own.
 
 What to do:
+  - For a file of GNU binutils, try --gnu; if it has debug data, try
+    --gnu --no-debug.
   - Look at the bytes before and at OFFSET: xxd FILE.
   - If OFFSET is in the debug part, use --no-debug to skip that part.
   - Write the file again with records of the standard.
@@ -100,6 +102,7 @@ Usual causes:
   - The bytes are read out of step, because a byte before OFFSET is wrong.
 
 What to do:
+  - For a file of GNU binutils that has debug data, try --gnu --no-debug.
   - Find the expression in the source, and write it with the functions above:
     a shift by n bits is a product with 2^n, or a quotient by it.
   - If OFFSET is in the debug part, use --no-debug to skip that part.
@@ -123,6 +126,7 @@ Usual causes:
     because a byte before OFFSET is wrong.
 
 What to do:
+  - For a file of GNU binutils that has debug data, try --gnu --no-debug.
   - Find the expression in the source, and write it with public symbols and
     addresses in sections.
   - If OFFSET is in the debug part, use --no-debug to skip that part.
@@ -157,15 +161,16 @@ Expressions are in postfix form and must leave one value. In file N, counted
 from 0, the expression that ends before OFFSET leaves two or more.
 
 Usual causes:
-  - The size of a field follows the expression without a comma (90). mufom does
-    not read this form; gcc for the 68000 family causes it with -mpcrel.
+  - The size of a field follows the expression without a comma (90), as GNU
+    binutils writes it, for example for gcc -mpcrel. --gnu reads this form.
   - A function is missing after its operands.
   - A number that belongs to the next field follows the expression at once, so
     that it is read as a part of it.
 
 What to do:
+  - For a file of GNU binutils, try --gnu; if it has debug data, try
+    --gnu --no-debug.
   - Look at the bytes before OFFSET: xxd FILE.
-  - If a compiler option causes this, such as -mpcrel, compile without it.
   - If OFFSET is in the debug part, use --no-debug to skip that part.
 ";
 
