@@ -5,6 +5,7 @@ use Rattle.std.specs.Fmt.{digits}
 use Rattle.std.specs.Prelude.{IfSome}
 use Rattle.std.specs.List.{All, list_any, find}
 use Rattle.std.proofs.lemmas.List.Elements.{All-head, All-tail}
+use Rattle.mufom_numbers.specs.declared.limits.TheConstants.{MOST_STRING_BYTES}
 use Rattle.mufom_numbers.specs.Spelling.{AreBytes}
 use Rattle.mufom_expr.specs.Tree.{Tree}
 use Rattle.mufom_sections.specs.declared.section.Section.{Section}
@@ -165,7 +166,7 @@ neither false b h = (refl, h)
 
 in_item : (item : Item) → IsMadeItem item → is_long_literal item ≡ false → Printed (lines.item_pieces item) (show.item_text item)
 in_item (Literal bytes) made fits = in_bytes bytes made (short (length bytes) fits) where
-  short : (n : ℕ) → nat_lt 65535 n ≡ false → n < 2 ^ 64
+  short : (n : ℕ) → nat_lt MOST_STRING_BYTES n ≡ false → n < 2 ^ 64
   short n h = grind arith
 in_item (Field kind size value) (a, b) fits = (in_words (codes "field ") ▸ in_words (show.kind_text kind) ▸ in_words (codes " ") ▸ in_byte size b ▸
     in_words (codes " = ") ▸ in_value value a)

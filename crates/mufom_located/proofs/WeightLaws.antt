@@ -1,4 +1,4 @@
--- What the loads of rows weigh, and the bound on the weight of a location.
+-- What the loads of runs weigh, and the bound on the weight of a location.
 use Rattle.std.proofs.Common.{◌≡◌, ℕ, suc, ◌+◌, ◌≤◌, ◌<◌, ◌^◌, ◌⊎◌, inl, inr, List, [], ◌∷◌, take, drop, length, map, get_or, filter, flat_map}
 use Rattle.std.proofs.Common.{sum_by, refl, sym, ap, ◌∙◌, arith, Bool, true, false, cond, min}
 use Rattle.std.specs.List.{enumerate_from}
@@ -16,10 +16,10 @@ use Rattle.mufom_module.proofs.WeightLaws.{weight-sum}
 use Rattle.mufom_module.proofs.EntryCounts.{sections-count}
 use Rattle.mufom_module.proofs.Valid.{weighs_less}
 use Rattle.mufom_meaning.specs.declared.located.LocatedParts.{LocatedParts}
-use Rattle.mufom_meaning.specs.Absolute.{absolute_of, literal_limit, chunks, with_section}
+use Rattle.mufom_meaning.specs.Absolute.{absolute_of, chunks, with_section}
 use Rattle.mufom_meaning.specs.Counts.{loaded_total}
 use Rattle.mufom_meaning.specs.Flat.{is_common}
-use Rattle.mufom_numbers.specs.declared.limits.TheConstants.{MOST_IMAGE_BYTES}
+use Rattle.mufom_numbers.specs.declared.limits.TheConstants.{MOST_IMAGE_BYTES, MOST_STRING_BYTES}
 use Rattle.mufom_meaning.specs.Facts.{image_limit}
 use Rattle.mufom_meaning.specs.LocationLaws.{AbsoluteWeighs, asking_count}
 use Rattle.mufom_meaning.specs.FactLaws.{AllAnswersAreFacts}
@@ -36,7 +36,7 @@ first_literal : (xs : List ℕ) (n : ℕ) → 0 < length xs → n ≡ min (suc 6
     ≡ (10 + length (take n xs)) + literals_weight (drop n xs)
 first_literal xs n some is =
     let first = ap (λ (all : List (List ℕ)). sum_by load_weight (map (λ chunk. One (Literal chunk)) all)) (chunks-first 65534 n xs some is) in
-    let split = sum_by-cons load_weight (One (Literal (take n xs))) (map (λ chunk. One (Literal chunk)) (chunks literal_limit (drop n xs))) in
+    let split = sum_by-cons load_weight (One (Literal (take n xs))) (map (λ chunk. One (Literal chunk)) (chunks MOST_STRING_BYTES (drop n xs))) in
     omega (arith, first, split)
 
 -- the first literal and the rest

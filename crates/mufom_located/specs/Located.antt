@@ -16,5 +16,5 @@ pub record IsLocated (parts : LocatedParts) : Type 0 where
   pub is : IsLocation (source ∷ []) plan parts
 
 -- runs in the order of their addresses, none of them empty, with at least one address between two of them
-abbrev pub AreRows : List Run → Type 0
-AreRows runs = (from : ℕ) × AreApart from runs
+abbrev pub AreRuns : List Run → Type 0
+AreRuns runs = (from : ℕ) × AreApart from runs

@@ -2,31 +2,30 @@
 
 ghost use Rattle.std.specs.Prelude.{◌≡◌, ◌≤◌, ◌<◌, ◌++◌, ◌∷◌, [], ◌||◌, ℕ, ◌^◌, length, map, flat_map, take, drop, OnOk, IfOk, Some};
 ghost use Rattle.std.specs.List.{enumerate_from};
+ghost use Rattle.mufom_numbers.specs.declared.limits.TheConstants.{MOST_STRING_BYTES as most};
 ghost use Rattle.mufom_loads.specs.declared.load.Item.TheVariants.{Literal};
 ghost use Rattle.mufom_loads.specs.declared.load.Load.TheVariants.{One};
-ghost use Rattle.mufom_meaning.specs.Absolute.{chunks, literal_limit, loads_between, loads_of_bytes, loads_of_run, run_within as row_within};
+ghost use Rattle.mufom_meaning.specs.Absolute.{chunks, loads_between, loads_of_bytes, loads_of_run, run_within as part_within};
 ghost use Rattle.mufom_meaning.specs.Absolute.{section_loads, section_loads_at, with_section};
-ghost use Rattle.mufom_located.specs.Located.{AreRows};
+ghost use Rattle.mufom_located.specs.Located.{AreRuns};
 ghost use Rattle.mufom_located.specs.Opened.{opened, opens};
 
 use crate::runs::{run_within, runs_between};
 use mufom_expr::Postfix;
 use mufom_loads::{Item, Load};
 use mufom_meaning::Run;
+use mufom_numbers::limits::MOST_STRING_BYTES;
 use mufom_numbers::{Bytes, List, NoMemory};
 use mufom_sections::Section;
 use std::alloc::Global;
 
-/// The greatest length of a literal, in bytes.
-pub(crate) const LITERAL_LIMIT: usize = 65_535;
-
 // Appends the literals of some bytes, each as long as possible.
 fn push_literals(alloc: Global, loads: &mut List<Load>, bytes: &[u8]) -> Result<(), NoMemory>
-    ensures { OnOk result (loads.new ≡ loads.old ++ map (λ chunk. One (Literal chunk)) (chunks literal_limit bytes.now)) }
+    ensures { OnOk result (loads.new ≡ loads.old ++ map (λ chunk. One (Literal chunk)) (chunks most bytes.now)) }
 {
     let mut rest = bytes;
     while !rest.is_empty() {
-        let (chunk, after) = rest.split_at(rest.len().min(LITERAL_LIMIT));
+        let (chunk, after) = rest.split_at(rest.len().min(MOST_STRING_BYTES));
         loads.push(Load::One(Item::Literal(Bytes::from_slice(alloc, chunk)?)))?;
         rest = after;
     }
@@ -34,7 +33,7 @@ fn push_literals(alloc: Global, loads: &mut List<Load>, bytes: &[u8]) -> Result<
 }
 
 // Appends the loads of a run of bytes in a section: one that sets the program counter, and then literals.
-fn push_row(
+fn push_part(
     alloc: Global,
     loads: &mut List<Load>,
     section: u32,
@@ -69,7 +68,7 @@ fn push_run(
     if !open {
         loads.push(Load::SetSection(section))?;
     }
-    push_row(alloc, loads, section, address, bytes)?;
+    push_part(alloc, loads, section, address, bytes)?;
     Ok(true)
 }
 
@@ -99,7 +98,7 @@ fn push_its_loads(
     section: &Section,
     runs: &[Run],
 ) -> Result<(), NoMemory>
-    requires { AreRows runs.now }
+    requires { AreRuns runs.now }
     ensures { OnOk result (loads.new ≡ loads.old ++ section_loads runs.now (number, section.now)) }
 {
     let Some(base) = section.base else {
@@ -122,7 +121,7 @@ pub(crate) fn absolute_loads(
     sections: &[Section],
     runs: &[Run],
 ) -> Result<List<Load>, NoMemory>
-    requires rows { AreRows runs.now }
+    requires runs { AreRuns runs.now }
     requires count { length sections.now < 2 ^ 32 }
     ensures { IfOk result (λ loads. loads ≡ flat_map (section_loads runs.now) (enumerate_from 0 sections.now)) }
 {

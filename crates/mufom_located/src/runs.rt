@@ -2,34 +2,28 @@
 
 ghost use Rattle.std.specs.Prelude.{◌≡◌, ℕ, ◌+◌, ◌-◌, max, take, drop, length, nat_le, nat_lt};
 ghost use Rattle.mufom_meaning.specs.Absolute.{loads_between, run_within};
-ghost use Rattle.mufom_located.specs.Located.{AreRows};
+ghost use Rattle.mufom_meaning.specs.Runs.{run_end};
+ghost use Rattle.mufom_located.specs.Located.{AreRuns};
 
 use mufom_meaning::Run;
 
-// The address after the last byte of a run.
-fn end_of(run: &Run) -> u128
-    ensures { result ≡ run.now.address + length run.now.bytes }
-{
-    run.address as u128 + run.bytes.len() as u128
-}
-
 // The runs from the first one that ends after an address. Earlier runs have no byte at or above the address.
 fn runs_from(runs: &[Run], from: u64) -> &[Run]
-    requires { AreRows runs.now }
-    ensures rows { AreRows result.now }
+    requires { AreRuns runs.now }
+    ensures runs { AreRuns result.now }
     ensures same { (section to : ℕ) → loads_between section runs.now from to ≡ loads_between section result.now from to }
 {
     let first = runs.partition_point(
         |run: &Run| -> bool
-            ensures { result ≡ nat_le (run.now.address + length run.now.bytes) from }
-        { end_of(run) <= from as u128 },
+            ensures { result ≡ nat_le (run_end run.now) from }
+        { run.end() <= from as u128 },
     );
     runs.split_at(first).1
 }
 
 // The runs up to the last one that begins before an address. Later runs have no byte below the address.
 fn runs_up_to(runs: &[Run], to: u128) -> &[Run]
-    requires { AreRows runs.now }
+    requires { AreRuns runs.now }
     ensures { (section from : ℕ) → loads_between section runs.now from to ≡ loads_between section result.now from to }
 {
     let count = runs.partition_point(
@@ -43,7 +37,7 @@ fn runs_up_to(runs: &[Run], to: u128) -> &[Run]
 /// The runs that have bytes from one address up to another. The others load nothing there. The time grows
 /// with the logarithm of the number of runs.
 pub(crate) fn runs_between(runs: &[Run], from: u64, to: u128) -> &[Run]
-    requires { AreRows runs.now }
+    requires { AreRuns runs.now }
     ensures { (section : ℕ) → loads_between section runs.now from to ≡ loads_between section result.now from to }
 {
     runs_up_to(runs_from(runs, from), to)

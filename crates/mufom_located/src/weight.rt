@@ -7,13 +7,13 @@ ghost use Rattle.mufom_expr.specs.Tree.{number};
 ghost use Rattle.mufom_module.specs.Weights.{capped, load_weight, parts_weight, public_weight, start_weight};
 ghost use Rattle.mufom_module.specs.Written.{weight};
 ghost use Rattle.mufom_meaning.specs.Absolute.{absolute_of, absolute_public, loads_between, section_loads, with_section};
-ghost use Rattle.mufom_located.specs.Located.{AreRows, IsLocated};
+ghost use Rattle.mufom_located.specs.Located.{AreRuns, IsLocated};
 ghost use Rattle.mufom_located.specs.Weighed.{literals_weight};
 
-use crate::loads::LITERAL_LIMIT;
 use crate::runs::{run_within, runs_between};
 use mufom_meaning::{LocatedParts, PublicValue, Run, absolute_weighs, answers_are_facts};
 use mufom_module::{debug_items_weight, notes_weight, sections_weight};
+use mufom_numbers::limits::MOST_STRING_BYTES;
 use mufom_sections::Section;
 
 // The weight of the literals of some bytes, in bytes.
@@ -23,7 +23,7 @@ fn literals_weight(bytes: &[u8]) -> u64
     let mut rest = bytes;
     let mut total: u64 = 0;
     while !rest.is_empty() {
-        let (chunk, after) = rest.split_at(rest.len().min(LITERAL_LIMIT));
+        let (chunk, after) = rest.split_at(rest.len().min(MOST_STRING_BYTES));
         total = total.saturating_add(10 + chunk.len() as u64);
         rest = after;
     }
@@ -54,7 +54,7 @@ fn runs_weight(runs: &[Run], from: u64, to: u128) -> u64
 
 // The weight of the loads of a section.
 fn section_loads_weight(section: &Section, runs: &[Run]) -> u64
-    requires { AreRows runs.now }
+    requires { AreRuns runs.now }
     ensures { (number : ℕ) → result ≡ capped (sum_by load_weight (section_loads runs.now (number, section.now))) }
 {
     let Some(base) = section.base else {
@@ -68,7 +68,7 @@ fn section_loads_weight(section: &Section, runs: &[Run]) -> u64
 }
 
 fn loads_weight(sections: &[Section], runs: &[Run]) -> u64
-    requires { AreRows runs.now }
+    requires { AreRuns runs.now }
     ensures { result ≡ capped (sum_by load_weight (flat_map (section_loads runs.now) (enumerate_from 0 sections.now))) }
 {
     let mut total: u64 = 0;
@@ -113,7 +113,7 @@ fn frame_weight(parts: &LocatedParts) -> u64
 
 // The weight of the parts of the absolute module, or the greatest 64-bit number if that is less.
 fn absolute_weight(parts: &LocatedParts) -> u64
-    requires { AreRows parts.now.runs }
+    requires { AreRuns parts.now.runs }
     ensures { result ≡ capped (parts_weight (absolute_of parts.now)) }
 {
     frame_weight(parts)

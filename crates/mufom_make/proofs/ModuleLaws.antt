@@ -4,6 +4,7 @@ use Rattle.std.specs.Prelude.{codes}
 use Rattle.std.specs.List.{find, list_any}
 use Rattle.std.specs.Fmt.{decimal}
 use Rattle.std.proofs.lemmas.Fmt.{length-decimal-le}
+use Rattle.mufom_numbers.specs.declared.limits.TheConstants.{MOST_STRING_BYTES}
 use Rattle.mufom_names.specs.declared.name.Public.{Public}
 use Rattle.mufom_names.specs.declared.name.Reference.{Reference}
 use Rattle.mufom_module.specs.declared.module.Defect.{Defect}
@@ -25,7 +26,7 @@ short-f : (n : ℕ) → n ≤ 65536 → length (name_at (codes "f") n) ≤ 6
 short-f n few = let short = short-decimal n few in omega (arith, short)
 
 not_long : (text : List ℕ) → length text ≤ 6 → is_long text ≡ false
-not_long text short = not_lt 65535 (length text) (omega (arith, short))
+not_long text short = not_lt MOST_STRING_BYTES (length text) (omega (arith, short))
 
 short-references : (last : Bool) (n : ℕ) → n < 65536 → list_any (λ (r : Reference). is_long r.name) (references_at last n) ≡ false
 short-references true n few = refl

@@ -1,6 +1,7 @@
 -- The absolute module of a location, as which it is written (IEEE Std 695, an absolute object module).
 use Rattle.std.specs.Prelude.{ℕ, zero, suc, ◌+◌, ◌-◌, max, List, [], ◌∷◌, length, map, take, drop, flat_map, Option, Some, None, option_map}
 use Rattle.std.specs.List.{enumerate_from}
+use Rattle.mufom_numbers.specs.declared.limits.TheConstants.{MOST_STRING_BYTES}
 use Rattle.mufom_expr.specs.Tree.{number}
 use Rattle.mufom_sections.specs.declared.section.Section.{Section}
 use Rattle.mufom_names.specs.declared.name.Public.{Public}
@@ -12,10 +13,6 @@ use Rattle.mufom_plan.specs.declared.plan.Plan.{Plan}
 use Rattle.mufom_meaning.specs.declared.located.PublicValue.{PublicValue}
 use Rattle.mufom_meaning.specs.declared.located.Run.{Run}
 use Rattle.mufom_meaning.specs.declared.located.LocatedParts.{LocatedParts}
-
--- the greatest length of a literal, in bytes
-abbrev pub literal_limit : ℕ
-literal_limit = 65535
 
 -- the first `n` chunks of a list that is cut into chunks of `size` elements, of which the last may be shorter
 abbrev pub chunks_within : {X : Type 0} → ℕ → ℕ → List X → List (List X)
@@ -33,7 +30,7 @@ run_within from to run = record { address = max from run.address; bytes = drop (
 
 -- the loads of a run: the program counter is set to the address of the run, and literals follow
 abbrev pub loads_of_run : ℕ → Run → List Load
-loads_of_run section run = SetPc section (number run.address) ∷ map (λ chunk. One (Literal chunk)) (chunks literal_limit run.bytes)
+loads_of_run section run = SetPc section (number run.address) ∷ map (λ chunk. One (Literal chunk)) (chunks MOST_STRING_BYTES run.bytes)
 
 -- the same loads, or none for a run without bytes
 abbrev pub loads_of_bytes : ℕ → Run → List ℕ → List Load

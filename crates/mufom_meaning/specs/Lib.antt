@@ -23,3 +23,4 @@ pub mod FactLaws
 pub mod LocationLaws
 pub mod Valued
 pub mod CallLaws
+pub mod Runs

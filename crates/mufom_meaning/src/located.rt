@@ -1,5 +1,8 @@
 //! The parts of a located program, and the places of its expressions.
 
+ghost use Rattle.std.specs.Prelude.{◌≡◌};
+ghost use Rattle.mufom_meaning.specs.Runs.{run_end};
+
 use mufom_debug::DebugItem;
 use mufom_module::Order;
 use mufom_names::Note;
@@ -45,6 +48,15 @@ pub struct Run {
     /// The address of the first byte, in addressable units (of eight bits).
     pub address: u64,
     pub bytes: Bytes,
+}
+
+impl Run {
+    /// The address after the last byte, which may be 2^64 or more. Does not allocate.
+    pub fn end(&self) -> u128
+        ensures { result ≡ run_end self.now }
+    {
+        self.address as u128 + self.bytes.len() as u128
+    }
 }
 
 /// The location of a list of modules: each section has a base, and each expression is replaced by its value.

@@ -2,7 +2,7 @@
 use Rattle.std.specs.Prelude.{◌≡◌, ℕ, ◌+◌, ◌^◌, ◌==◌, ◌&&◌, ◌||◌, nat_lt, nat_le, Bool, true, false, not, List, [], ◌∷◌, length, Option, Some, None}
 use Rattle.std.specs.Prelude.{is_some, is_none, if◌then◌else◌, option_and_then}
 use Rattle.std.specs.List.{list_any, find}
-use Rattle.mufom_numbers.specs.declared.limits.TheConstants.{MOST_ALIGNMENT}
+use Rattle.mufom_numbers.specs.declared.limits.TheConstants.{MOST_ALIGNMENT, MOST_STRING_BYTES}
 use Rattle.mufom_expr.specs.declared.token.Letter.{Letter}
 use Rattle.mufom_expr.specs.declared.token.Letter.TheVariants.{I, L, P, R, S, X}
 use Rattle.mufom_expr.specs.Tree.{Tree}
@@ -30,7 +30,7 @@ use Rattle.mufom_module.specs.Written.{weight}
 
 -- a string of more than 65,535 bytes, for which there is no lead
 abbrev pub is_long : List ℕ → Bool
-is_long text = nat_lt 65535 (length text)
+is_long text = nat_lt MOST_STRING_BYTES (length text)
 
 -- a mark with a name that is too long
 abbrev pub has_long_name : DebugMark → Bool

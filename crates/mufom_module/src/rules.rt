@@ -16,7 +16,7 @@ use mufom_debug::is_within_depth;
 use mufom_expr::{Letter, Postfix, Token};
 use mufom_loads::{Item, Load};
 use mufom_names::{Public, Reference};
-use mufom_numbers::limits::MOST_ALIGNMENT;
+use mufom_numbers::limits::{MOST_ALIGNMENT, MOST_STRING_BYTES};
 use mufom_sections::Section;
 
 /// The number of entries in each list of a module.
@@ -55,7 +55,7 @@ fn counts_of(parts: &Parts) -> Counts
 pub(crate) fn is_long(bytes: &[u8]) -> bool
     ensures { result ≡ is_long bytes.now }
 {
-    bytes.len() > 65_535
+    bytes.len() > MOST_STRING_BYTES
 }
 
 // ---- positions

@@ -2,6 +2,8 @@
 
 /// The greatest alignment of a section, in minimum addressable units (MAUs).
 pub const MOST_ALIGNMENT: u64 = 2_147_483_648;
+/// The greatest length of a string of a module, and of a literal of its loads, in bytes.
+pub const MOST_STRING_BYTES: usize = 65_535;
 /// The greatest length of a module's file, and of all input files of a command together, in bytes.
 pub const MOST_FILE_BYTES: usize = 67_108_864;
 /// The greatest number of bytes that are loaded into an image.

@@ -38,6 +38,7 @@ fn bytes_are_read_in_any_order_of_addresses(rt: HostRuntime) {
     assert_eq!(rt; runs.len(), 2);
     assert_eq!(rt; runs[0].address, 0x1000);
     assert_eq!(rt; runs[0].bytes.as_slice(), &b"\x4E\x71\x4E\x75"[..]);
+    assert_eq!(rt; runs[0].end(), 0x1004);
     assert_eq!(rt; runs[1].address, 0x1010);
     assert_eq!(rt; runs[1].bytes.as_slice(), &b"\x00"[..]);
 }

@@ -27,7 +27,7 @@ use Rattle.mufom_words.specs.Options.{Text, Usage, Given, usage_of, app_for, for
 use Rattle.mufom_words.specs.Options.{makes_modules, names_module, prints_help, reads_files, reads_plan, takes_one_file}
 use Rattle.mufom_words.specs.Operands.{word_of, file_words, is_name, names_in, operands_fault, number_fault, count_fault, count_of, is_digit}
 use Rattle.mufom_words.specs.Operands.{decimal_number, number_of, files_of, marks_of, depth_of}
-use Rattle.mufom_numbers.specs.declared.limits.TheConstants.{MOST_MODULES}
+use Rattle.mufom_numbers.specs.declared.limits.TheConstants.{MOST_MODULES, MOST_STRING_BYTES}
 use Rattle.std.specs.Str.{bytes_eq}
 use Rattle.mufom_words.specs.declared.command.Verb.{Verb}
 use Rattle.mufom_words.specs.declared.command.Verb.TheVariants as verb
@@ -35,7 +35,7 @@ use Rattle.mufom_words.specs.Help.{own_answer, own_command, own_text, own_verb, 
 use Rattle.mufom_words.specs.Explain.{explain_answer, explain_command, may_be_explained, names_explain}
 use Rattle.mufom_words.specs.Values.{maus_of}
 use Rattle.mufom_words.specs.Tree.{tree_of, leaves}
-use Rattle.mufom_words.specs.Answer.{◌or_else◌, most_files, longest_name, given_fault, missing_fault, number_by, options_fault, name_fault}
+use Rattle.mufom_words.specs.Answer.{◌or_else◌, most_files, given_fault, missing_fault, number_by, options_fault, name_fault}
 use Rattle.mufom_words.specs.Answer.{usage_fault, value_fault, limit_stop, limit_stop_by, usage, words_stop, command_by, unless_stopped}
 use Rattle.mufom_words.specs.Answer.{answer_by, answer_for, answer_of, answer_unless, given}
 use Rattle.mufom_words.specs.Sound.{numbers_from, IsSound, CommandsAreSound}
@@ -161,9 +161,9 @@ one-file SomeFiles words same none right = absurd cc
 one-file GroupedFiles words same none right = absurd cc
 one-file OneCount words same none right = absurd cc
 
-name-short : (name : Option Text) → name_fault name ≡ None → IfSome name (λ text. length text ≤ longest_name)
+name-short : (name : Option Text) → name_fault name ≡ None → IfSome name (λ text. length text ≤ MOST_STRING_BYTES)
 name-short None none = tt
-name-short (Some text) none = test_failed longest_name (length text) _ none
+name-short (Some text) none = test_failed MOST_STRING_BYTES (length text) _ none
 
 out-given : (t : Bool) (out : Option Text) → cond (t && is_none out) (Some fault.BadWords) None ≡ None → t ≡ true → IsSome out
 out-given false out none same = absurd cc

@@ -9,6 +9,7 @@ use Rattle.clap.specs.Kinds.{Kinds}
 use Rattle.clap.specs.Simple.{matches_of}
 use Rattle.clap.specs.declared.error.kind.ErrorKind.{ErrorKind}
 use Rattle.clap.specs.declared.error.kind.ErrorKind.TheVariants as kind
+use Rattle.mufom_numbers.specs.declared.limits.TheConstants.{MOST_STRING_BYTES}
 use Rattle.mufom_words.specs.declared.command.Command.{Command}
 use Rattle.mufom_words.specs.declared.form.Form.{Form}
 use Rattle.mufom_words.specs.declared.form.Operands.{Operands}
@@ -40,10 +41,6 @@ most_files = 1024
 abbrev pub most_open : ℕ
 most_open = 64
 
--- the greatest length of the name of a module, in bytes
-abbrev pub longest_name : ℕ
-longest_name = 65535
-
 -- ---- errors
 
 -- what the arguments of a command give; the first of them names the command
@@ -65,7 +62,7 @@ options_fault (_ ∷ _) = Some fault.BadWords
 
 abbrev pub name_fault : Option Text → Option UsageFault
 name_fault None = None
-name_fault (Some name) = if nat_lt longest_name (length name) then Some fault.LongName else None
+name_fault (Some name) = if nat_lt MOST_STRING_BYTES (length name) then Some fault.LongName else None
 
 -- a required option is missing, which is an error for `clap` too
 abbrev pub missing_fault : Usage → Setting → Option Text → Option UsageFault

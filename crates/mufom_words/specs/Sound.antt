@@ -3,9 +3,9 @@ use Rattle.std.specs.Prelude.{◌≡◌, ℕ, zero, suc, ◌≤◌, List, [], �
 use Rattle.mufom_words.specs.declared.command.Command.{Command}
 use Rattle.mufom_words.specs.declared.form.Form.{Form}
 use Rattle.mufom_words.specs.Options.{Text, keeps_what_is_needed, makes_file, makes_modules, names_module, prints_help, reads_files, reads_plan, takes_one_file}
-use Rattle.mufom_numbers.specs.declared.limits.TheConstants.{MOST_MODULES}
+use Rattle.mufom_numbers.specs.declared.limits.TheConstants.{MOST_MODULES, MOST_STRING_BYTES}
 use Rattle.mufom_words.specs.Tree.{spelling, tree_of, leaves}
-use Rattle.mufom_words.specs.Answer.{answer_for, most_files, longest_name}
+use Rattle.mufom_words.specs.Answer.{answer_for, most_files}
 
 -- this many consecutive numbers, from `n` on
 abbrev pub numbers_from : ℕ → ℕ → List ℕ
@@ -38,7 +38,7 @@ pub record HasOptions (c : Command) : Type 0 where
   pub count : makes_modules c.verb ≡ true → (1 ≤ c.count) × (c.count ≤ MOST_MODULES)
   pub no_keep : keeps_what_is_needed c.verb ≡ false → c.keep ≡ None
   pub maus : (1 ≤ c.maus) × (c.maus ≤ 8)
-  pub short : IfSome c.name (λ name. length name ≤ longest_name)
+  pub short : IfSome c.name (λ name. length name ≤ MOST_STRING_BYTES)
   pub help : prints_help c.verb ≡ true → IsSome c.help
 
 pub record IsSound (c : Command) : Type 0 where

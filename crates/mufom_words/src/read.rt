@@ -25,6 +25,7 @@ use crate::stop::{UsageFault, WordsStop};
 use crate::values::{address_of, byte_of, maus_of, value_fault};
 use clap::error::ErrorKind;
 use clap::{ArgMatches, Error};
+use mufom_numbers::limits::MOST_STRING_BYTES;
 use mufom_numbers::{Bytes, NoMemory, Text};
 use std::alloc::Global;
 
@@ -34,14 +35,11 @@ const MOST_FILES: u32 = 1024;
 /// The greatest number of groups that are open at once.
 const MOST_OPEN: u32 = 64;
 
-/// The greatest length of the name of a module, in bytes.
-const LONGEST_NAME: usize = 65_535;
-
 fn name_fault(name: Option<&str>) -> Option<UsageFault>
     ensures { result ≡ name_wrong (option_map (λ text. text.now) name.entry) }
 {
     match name {
-        Some(name) if name.len() > LONGEST_NAME => Some(UsageFault::LongName),
+        Some(name) if name.len() > MOST_STRING_BYTES => Some(UsageFault::LongName),
         _ => None,
     }
 }

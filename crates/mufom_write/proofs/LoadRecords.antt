@@ -6,6 +6,7 @@ use Rattle.std.specs.List.{AllByRecursion, list_all}
 use Rattle.std.proofs.lemmas.List.{append-nil}
 use Rattle.std.proofs.lemmas.List.Folds.{list_all-append}
 use Rattle.std.proofs.lemmas.Bool.{ltb-false}
+use Rattle.mufom_numbers.specs.declared.limits.TheConstants.{MOST_STRING_BYTES as longest}
 use Rattle.mufom_numbers.specs.Spelling.{AreBytes, SpellsNumber}
 use Rattle.mufom_expr.specs.declared.token.FieldKind.{FieldKind}
 use Rattle.mufom_expr.specs.declared.token.FieldKind.TheVariants.{Signed, Unsigned, Either}
@@ -199,8 +200,8 @@ mode-number n (b ∷ prefix) rest spelled =
     let same : b ≡ first.0 = cc in
     ap (λ (t : Bool). if true && t then mode.Items else mode.Body) (is_item b (ap begins_number same ∙ first.3))
 
-counts : (n : ℕ) → nat_lt 65535 n ≡ false → n < 2 ^ 64
-counts n h = let few = ltb-false 65535 n h in omega (arith, few)
+counts : (n : ℕ) → nat_lt longest n ≡ false → n < 2 ^ 64
+counts n h = let few = ltb-false longest n h in omega (arith, few)
 
 literal-whole : (bytes : List ℕ) (next : Option ℕ) → is_long bytes ≡ false → AreBytes bytes
     → IsWholeRecord (mode_of true (w.counted shortest bytes)) (r.ConstantItem (run_at 0 bytes)) (w.counted shortest bytes) next

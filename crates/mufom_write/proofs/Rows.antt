@@ -7,6 +7,7 @@ use Rattle.std.specs.Int.{w16, to_be_bytes}
 use Rattle.std.proofs.lemmas.List.{append-nil}
 use Rattle.std.proofs.lemmas.Bool.{cases_lt, le-ltb, lt-ltb, ltb-false}
 use Rattle.arrayvec.specs.ArrayVec.{ArrayVec}
+use Rattle.mufom_numbers.specs.declared.limits.TheConstants.{MOST_STRING_BYTES as longest}
 use Rattle.mufom_numbers.specs.Spelling.{AreBytes, SpellsNumber, IsStringLead, shortest_lead}
 use Rattle.mufom_numbers.proofs.ShortestLaws.{shortest_number-spells}
 use Rattle.mufom_numbers.specs.declared.reason.Reason.{Reason}
@@ -67,16 +68,16 @@ spells_numbers k (n ∷ ns) all = (w.number shortest n, each_from (k + 1) (λ _.
 
 -- ---- strings
 
-lead_large : (len : ℕ) → 256 ≤ len → len ≤ 65535 → IsStringLead len (0xDF ∷ to_be_bytes w16 len)
+lead_large : (len : ℕ) → 256 ≤ len → len ≤ longest → IsStringLead len (0xDF ∷ to_be_bytes w16 len)
 lead_large len large few = (refl, omega arith, omega arith, omega (arith, few))
 
-lead_long : (len : ℕ) → 128 ≤ len → len ≤ 65535 → IsStringLead len (shortest_lead len)
+lead_long : (len : ℕ) → 128 ≤ len → len ≤ longest → IsStringLead len (shortest_lead len)
 lead_long len long few = rw (le-ltb len 128 long) (elim (cases_lt len 256) [
   | inl small ↦ rw (lt-ltb len 256 small) (refl, small, refl)
   | inr large ↦ rw (le-ltb len 256 large) (lead_large len large few)
 ])
 
-pub lead-is : (len : ℕ) → len ≤ 65535 → IsStringLead len (shortest_lead len)
+pub lead-is : (len : ℕ) → len ≤ longest → IsStringLead len (shortest_lead len)
 lead-is len few = elim (cases_lt len 128) [
   | inl small ↦ rw (lt-ltb len 128 small) (small, refl)
   | inr long ↦ lead_long len long few
@@ -88,7 +89,7 @@ text_at at text = span_at (at + length (shortest_lead (length text))) (length te
 
 pub spells_string : (text : List ℕ) (at : ℕ) (next : Option ℕ) → is_long text ≡ false → AreBytes text
     → SpellsField string (text_at at text) at (w.string shortest text) next
-spells_string text at next short bytes = (shortest_lead (length text), text, lead-is (length text) (ltb-false 65535 (length text) short), bytes, refl, refl)
+spells_string text at next short bytes = (shortest_lead (length text), text, lead-is (length text) (ltb-false longest (length text) short), bytes, refl, refl)
 
 -- ---- expressions
 

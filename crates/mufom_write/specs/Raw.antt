@@ -1,10 +1,7 @@
 -- The raw image of loaded bytes: one byte for each address from the first that is loaded to the last.
 use Rattle.std.specs.Prelude.{ℕ, ◌+◌, ◌-◌, List, [], ◌∷◌, ◌++◌, length, replicate}
 use Rattle.mufom_meaning.specs.declared.located.Run.{Run}
-
--- the address after the last byte of a run
-abbrev pub run_end : Run → ℕ
-run_end run = run.address + length run.bytes
+use Rattle.mufom_meaning.specs.Runs.{run_end}
 
 -- the address of the first run, or 0 if there is none
 abbrev pub first_address : List Run → ℕ

@@ -2,7 +2,7 @@
 
 ghost use Rattle.std.specs.Prelude.{◌≡◌, ◌-◌, ◌+◌, ◌++◌, [], length, replicate, OnOk, OnErr, ℕ};
 ghost use Rattle.mufom_host.specs.World.{MakingGrowsBy, MakingGrowsByPrefix, OnlyWrites, Rose};
-ghost use Rattle.mufom_write.specs.Raw.{first_address as first, raw_image, run_end as ends};
+ghost use Rattle.mufom_write.specs.Raw.{first_address as first, raw_image};
 ghost use Rattle.mufom_write.specs.Writing.{Writes};
 
 use crate::held::Held;
@@ -25,13 +25,6 @@ fn gap<K: Output>(out: &mut K, count: u64, fill: u8) -> Result<(), Failed>
         left -= BLOCK as u64;
     }
     out.put(&block[..left as usize])
-}
-
-// The address after the last byte of a run.
-fn run_end(run: &Run) -> u128
-    ensures { result ≡ ends run.now }
-{
-    run.address as u128 + run.bytes.len() as u128
 }
 
 // The address of the first run; 0 if there is none.
@@ -67,7 +60,7 @@ fn put_runs<K: Output>(out: &mut K, fill: u8, runs: &[Run]) -> Result<(), Failed
     for place in 0..runs.len() {
         let run = &runs[place];
         put_run(out, fill, end, run)?;
-        end = run_end(run);
+        end = run.end();
     }
     Ok(())
 }
@@ -102,7 +95,7 @@ pub fn raw_length(runs: &[Run]) -> u128
     let mut count: u128 = 0;
     for run in runs {
         count += gap_length(end, run) as u128 + run.bytes.len() as u128;
-        end = run_end(run);
+        end = run.end();
     }
     count
 }

@@ -3,6 +3,7 @@ use Rattle.std.proofs.Common.{◌≡◌, ◌≢◌, ℕ, suc, ◌+◌, ◌≤◌
 use Rattle.std.proofs.Common.{length-append, zero-add}
 use Rattle.std.specs.Prelude.{flat_map}
 use Rattle.std.proofs.lemmas.List.Sums.{sum_by-append, sum_by-cons}
+use Rattle.mufom_numbers.specs.declared.limits.TheConstants.{MOST_STRING_BYTES}
 use Rattle.mufom_expr.specs.Tree.{number}
 use Rattle.mufom_sections.specs.declared.section.Section.{Section}
 use Rattle.mufom_loads.specs.declared.load.Item.{Item}
@@ -18,7 +19,7 @@ use Rattle.mufom_meaning.specs.Counts.{step_length, lengths_of_steps}
 use Rattle.mufom_meaning.specs.Fields.{number_bytes, field_number, field_bytes}
 use Rattle.mufom_meaning.specs.Steps.{Step, counter_step, item_step, counter, item_reading, readings_after}
 use Rattle.mufom_meaning.specs.AddressMap.{Cell, cells_from, field_cells, step_cells, address_map}
-use Rattle.mufom_meaning.specs.Absolute.{literal_limit, chunks, run_within, loads_of_run, loads_of_bytes, loads_between, with_section, section_loads_at}
+use Rattle.mufom_meaning.specs.Absolute.{chunks, run_within, loads_of_run, loads_of_bytes, loads_between, with_section, section_loads_at}
 use Rattle.mufom_meaning.specs.Absolute.{section_loads}
 use Rattle.mufom_meaning.proofs.Members.{In}
 use Rattle.mufom_meaning.proofs.locations.CellRuns.{HaveOwnAddresses}
@@ -40,8 +41,8 @@ literals_length (p ∷ ps) =
 
 row_length : (n : ℕ) (row : Run) → lengths_loaded (loads_of_run n row) ≡ length row.bytes
 row_length n row =
-    sum_by-cons length_loaded (SetPc n (number row.address)) (map (λ p. One (Literal p)) (chunks literal_limit row.bytes))
-    ∙ (let none = literals_length (chunks literal_limit row.bytes) in let all =
+    sum_by-cons length_loaded (SetPc n (number row.address)) (map (λ p. One (Literal p)) (chunks MOST_STRING_BYTES row.bytes))
+    ∙ (let none = literals_length (chunks MOST_STRING_BYTES row.bytes) in let all =
     ap length (chunks_together 65534 (length row.bytes) row.bytes (omega arith)) in omega (arith, none, all))
 
 run_length : (n : ℕ) (row : Run) → lengths_loaded (loads_of_bytes n row row.bytes) ≡ length row.bytes

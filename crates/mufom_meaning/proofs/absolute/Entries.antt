@@ -5,6 +5,7 @@ use Rattle.std.specs.Prelude.{option_map, slice_get, nat_lt, ◌==◌, if◌then
 use Rattle.std.specs.List.{enumerate_from}
 use Rattle.std.proofs.lemmas.List.{take-append-drop}
 use Rattle.std.proofs.lemmas.List.Sums.{sum_by-append, sum_by-cons}
+use Rattle.mufom_numbers.specs.declared.limits.TheConstants.{MOST_STRING_BYTES}
 use Rattle.mufom_expr.specs.declared.token.Token.TheVariants.{Fun}
 use Rattle.mufom_expr.specs.Tree.{Tree, number, variable, one, two, tokens_of, function_of_one, function_of_two}
 use Rattle.mufom_sections.specs.declared.section.Section.{Section}
@@ -25,7 +26,7 @@ use Rattle.mufom_meaning.specs.Flat.{Sited, SitedPublic, sited_from, name_count,
 use Rattle.mufom_meaning.specs.Values.{Setting, value}
 use Rattle.mufom_meaning.specs.Readings.{PublicReading, public_reading, head_reading, mark_reading}
 use Rattle.mufom_meaning.specs.Location.{placed_section, located_public, located_mark, located_head}
-use Rattle.mufom_meaning.specs.Absolute.{absolute_public, chunks_within, literal_limit, chunks, run_within, loads_of_run, loads_of_bytes, loads_between}
+use Rattle.mufom_meaning.specs.Absolute.{absolute_public, chunks_within, chunks, run_within, loads_of_run, loads_of_bytes, loads_between}
 use Rattle.mufom_meaning.specs.Absolute.{with_section, section_loads_at, section_loads}
 use Rattle.mufom_meaning.specs.AddressMap.{cells_from}
 use Rattle.mufom_numbers.proofs.Choices.{of_lt}
@@ -202,7 +203,7 @@ literals-lighter size (suc n) (byte ∷ bytes) =
 
 row-lighter : (n : ℕ) (row : Run) → 1 ≤ length row.bytes → sum_by load_weight (loads_of_run n row) ≤ 31 * length row.bytes
 row-lighter n row some =
-    let a = sum_by-cons load_weight (SetPc n (number row.address)) (map (λ chunk. One (Literal chunk)) (chunks literal_limit row.bytes)) in
+    let a = sum_by-cons load_weight (SetPc n (number row.address)) (map (λ chunk. One (Literal chunk)) (chunks MOST_STRING_BYTES row.bytes)) in
     let own = literals-lighter 65534 (length row.bytes) row.bytes in
     omega (arith, a, own, some)
 

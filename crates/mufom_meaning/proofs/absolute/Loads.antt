@@ -3,6 +3,7 @@ use Rattle.std.proofs.Common.{◌≡◌, ℕ, zero, suc, ◌+◌, ◌<◌, ◌�
 use Rattle.std.specs.Prelude.{flat_map, nat_le}
 use Rattle.std.specs.List.{list_any, enumerate_from}
 use Rattle.std.proofs.lemmas.List.{length-take}
+use Rattle.mufom_numbers.specs.declared.limits.TheConstants.{MOST_STRING_BYTES}
 use Rattle.mufom_expr.specs.Tree.{number}
 use Rattle.mufom_sections.specs.declared.section.Section.{Section}
 use Rattle.mufom_loads.specs.declared.load.Item.TheVariants.{Literal, Field}
@@ -13,7 +14,7 @@ use Rattle.mufom_module.specs.Defects.{counts_of, names_outside, has_bad_place, 
 use Rattle.mufom_module.specs.Defects.{has_other_counter, counter_of}
 use Rattle.mufom_module.specs.declared.module.Parts.{Parts}
 use Rattle.mufom_meaning.specs.declared.located.Run.{Run}
-use Rattle.mufom_meaning.specs.Absolute.{literal_limit, chunks_within, chunks, run_within, loads_of_run, loads_of_bytes, loads_between, with_section}
+use Rattle.mufom_meaning.specs.Absolute.{chunks_within, chunks, run_within, loads_of_run, loads_of_bytes, loads_between, with_section}
 use Rattle.mufom_meaning.specs.Absolute.{section_loads_at, section_loads}
 use Rattle.mufom_numbers.proofs.Choices.{two_false, not_lt, not_le}
 use Rattle.mufom_meaning.proofs.Members.{In, map-In, flat_map-In}
@@ -22,7 +23,7 @@ use Rattle.mufom_meaning.proofs.Members.{In, map-In, flat_map-In}
 abbrev pub IsPlainLoad : ℕ → Load → Type 0
 IsPlainLoad k (SetSection n) = n < k
 IsPlainLoad k (SetPc n t) = (n < k) × ((a : ℕ) × (t ≡ number a))
-IsPlainLoad k (One (Literal bytes)) = length bytes ≤ 65535
+IsPlainLoad k (One (Literal bytes)) = length bytes ≤ MOST_STRING_BYTES
 IsPlainLoad k (One (Field kind size t)) = ⊥
 IsPlainLoad k (Repeat count items) = ⊥
 
@@ -36,8 +37,8 @@ module _ (k n : ℕ) (less : n < k) where
   row_plain : (row : Run) (load : Load) → In load (loads_of_run n row) → IsPlainLoad k load
   row_plain row load (inl e) = subst (IsPlainLoad k) e (less, (row.address, refl))
   row_plain row load (inr h) =
-      let there = map-In (λ chunk. One (Literal chunk)) load (chunks literal_limit row.bytes) h in
-      subst (IsPlainLoad k) there.2 (chunk_short literal_limit (length row.bytes) row.bytes there.0 there.1)
+      let there = map-In (λ chunk. One (Literal chunk)) load (chunks MOST_STRING_BYTES row.bytes) h in
+      subst (IsPlainLoad k) there.2 (chunk_short MOST_STRING_BYTES (length row.bytes) row.bytes there.0 there.1)
 
   run_plain : (row : Run) (bytes : List ℕ) (load : Load) → In load (loads_of_bytes n row bytes) → IsPlainLoad k load
   run_plain row [] load h = absurd h
@@ -92,7 +93,7 @@ plain_counter k p h = by_load p.0 p.1 h where
 pub plain_short : (k : ℕ) (load : Load) → IsPlainLoad k load → any_item is_long_literal load ≡ false
 plain_short k (SetSection n) h = refl
 plain_short k (SetPc n t) h = refl
-plain_short k (One (Literal bytes)) h = not_lt 65535 (length bytes) h
+plain_short k (One (Literal bytes)) h = not_lt MOST_STRING_BYTES (length bytes) h
 plain_short k (One (Field kind size t)) h = absurd h
 plain_short k (Repeat count items) h = absurd h
 

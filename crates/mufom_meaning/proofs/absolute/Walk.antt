@@ -4,6 +4,7 @@ use Rattle.std.proofs.Common.{true, refl, sym, ◌∙◌, ap, subst, arith, rule
 use Rattle.std.specs.Prelude.{flat_map, option_map, ◌%◌, ◌==◌, if◌then◌else◌}
 use Rattle.std.proofs.Math.Nat.{mod-eq_of_lt}
 use Rattle.std.proofs.lemmas.List.{take-append-drop, length-take}
+use Rattle.mufom_numbers.specs.declared.limits.TheConstants.{MOST_STRING_BYTES}
 use Rattle.mufom_expr.specs.Tree.{number}
 use Rattle.mufom_sections.specs.declared.section.Section.{Section}
 use Rattle.mufom_loads.specs.declared.load.Item.{Item}
@@ -17,7 +18,7 @@ use Rattle.mufom_meaning.specs.Values.{Setting, value}
 use Rattle.mufom_meaning.specs.Steps.{Step, counter_step, item_step, steps_of, counter, readings_after}
 use Rattle.mufom_meaning.specs.Walk.{base_number, size_at}
 use Rattle.mufom_meaning.specs.AddressMap.{Cell, cells_from, literal_cells, address_map}
-use Rattle.mufom_meaning.specs.Absolute.{literal_limit, chunks_within, chunks, run_within, loads_of_run, loads_of_bytes, loads_between, with_section}
+use Rattle.mufom_meaning.specs.Absolute.{chunks_within, chunks, run_within, loads_of_run, loads_of_bytes, loads_between, with_section}
 use Rattle.mufom_meaning.specs.Absolute.{section_loads_at, section_loads}
 use Rattle.mufom_meaning.proofs.Members.{In}
 use Rattle.mufom_meaning.proofs.values.Causes.{within_is}
@@ -149,7 +150,7 @@ module _ (order : Order) (s : Setting) (site : Sited) where
       → (earlier : List Step) → GoodWalk earlier (steps_of site (Some n) (loads_of_run n row ++ loads)) (cells_from row.address row.bytes ++ cells)
   row_good n row some f loads cells after earlier =
       let section = site.first_section + n in
-      let ps = chunks literal_limit row.bytes in
+      let ps = chunks MOST_STRING_BYTES row.bytes in
       let start = counter_step site section (number row.address) in
       let all : together ps ≡ row.bytes = chunks_together 65534 (length row.bytes) row.bytes (omega arith) in
       let long : length (together ps) ≡ length row.bytes = ap length all in

@@ -4,6 +4,7 @@ use Rattle.std.proofs.Common.{◌&&◌, inl, inr, refl, sym, ◌∙◌, ap, cond
 use Rattle.std.proofs.lemmas.List.{length-map}
 use Rattle.std.specs.Prelude.{nat_lt, option_map, option_to_list, is_none, is_some}
 use Rattle.std.specs.List.{list_any, find, AllByRecursion}
+use Rattle.mufom_numbers.specs.declared.limits.TheConstants.{MOST_STRING_BYTES}
 use Rattle.mufom_expr.specs.Tree.{Tree}
 use Rattle.mufom_sections.specs.declared.section.Section.{Section}
 use Rattle.mufom_names.specs.declared.name.Reference.{Reference}
@@ -230,7 +231,7 @@ module _ (M : Parts) (ms : List Parts) (name : List ℕ) (j : IsJoined M ms name
       flip false e = absurd cc
 
   not_long : length name < 2 ^ 16 → is_long M.name ≡ false
-  not_long short = ap is_long j.named ∙ not_lt 65535 (length name) (omega (arith, short))
+  not_long short = ap is_long j.named ∙ not_lt MOST_STRING_BYTES (length name) (omega (arith, short))
 
   long_id : length name < 2 ^ 16 → has_defect M kinds.LongId ≡ false
   long_id short =

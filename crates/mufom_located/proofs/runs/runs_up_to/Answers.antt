@@ -13,4 +13,4 @@ returns c section from =
     c.partition_point-count.ensures.partitioned
     (IsPartitionedBy-ltb (λ (run : Run). run.address) runs c.args.to (addresses_rise runs c.requires)) (λ a r f' call. search rules) in
     up_to_last section from c.args.to runs c.partition_point-count.result point.1
-    ∙ ap (λ rows. loads_between section rows from c.args.to) (sym c.split_at.ensures.front)
+    ∙ ap (λ runs. loads_between section runs from c.args.to) (sym c.split_at.ensures.front)

@@ -1,6 +1,7 @@
 use Rattle.std.proofs.Common.{ℕ, List, ◌+◌, ◌-◌, ◌++◌, drop, replicate, subst, sym}
 use Rattle.mufom_meaning.specs.declared.located.Run.{Run}
-use Rattle.mufom_write.specs.Raw.{raw_image, runs_from, run_end}
+use Rattle.mufom_write.specs.Raw.{raw_image, runs_from}
+use Rattle.mufom_meaning.specs.Runs.{run_end}
 use Rattle.mufom_write.specs.Writing.{LeadsTo}
 use Rattle.mufom_write.proofs.Loops.{leads-step, leads-stop}
 use Rattle.mufom_write.proofs.RunsOfBytes.{rows_next}
@@ -14,7 +15,7 @@ loop-place-preserved g c =
     let run : Run = c.index-runs-place.result in
     let next = rows_next fill c.loop-place.end runs i run run c.loop-place-test.true c.index-runs-place.is in
     subst (λ (end : ℕ). LeadsTo g.K.Output.takes c.args.out.now c.put_run.new.out (runs_from fill end (drop (i + 1) runs)) (raw_image fill runs))
-    (sym c.run_end-end.ensures)
+    (sym c.end-end.ensures)
     (leads-step g.K.Output.takes g.met.K.Output.joins _ _ _ (replicate (run.address - c.loop-place.end) fill
     ++ run.bytes) (runs_from fill (run_end run) (drop (i + 1) runs)) _ _ next
     c.loop-place.invariant c.in_ok-put_run.ensures)
