@@ -21,12 +21,12 @@ try_page() {
   (cd "$work/$name" && python3 - "$top/$1" <<'PYTHON'
 import re, shutil, subprocess, sys, textwrap, time
 
-# Tools that a machine may lack, and what a command that needs them mentions.
+# What a machine may lack, and what a command that needs it mentions.
 TOOLS = {"srec_cat": r"srec_cat|\.srec\b|^make .*\bsrec\b", "xxd": r"\bxxd\b", "make": r"^make\b"}
-lacking = [mention for tool, mention in TOOLS.items() if not shutil.which(tool)]
+lacking = {tool: mention for tool, mention in TOOLS.items() if not shutil.which(tool)}
 # TODO: remove these two lines once the program has --gnu.
 if subprocess.run(["mufom", "explain", "check", "--gnu", "x"], stdout=subprocess.PIPE).stdout.startswith(b"usage: bad words"):
-    lacking.append(" --gnu ")
+    lacking["--gnu"] = " --gnu "
 passed = failed = skipped = 0
 page = open(sys.argv[1], encoding="utf-8").read()
 for language, block in re.findall(r"^ *```(\w*)\n(.*?)^ *```$", page, re.M | re.S):
@@ -40,9 +40,10 @@ for language, block in re.findall(r"^ *```(\w*)\n(.*?)^ *```$", page, re.M | re.
         else:
             tries[-1][1].append(line)
     for number, (command, wanted) in enumerate(tries):
-        if any(re.search(mention, command) for mention in lacking):
+        missing = [tool for tool, mention in lacking.items() if re.search(mention, command)]
+        if missing:
             skipped += len(tries) - number
-            print("$ %s\nskipped: a tool is not installed" % command)
+            print("skipped: %s is missing for: %s" % (missing[0], command))
             break
         if command.startswith("touch "):
             # make must see a later time than that of the files that were just made.

@@ -3,8 +3,9 @@
 #
 # .ci/run calls it after `rt ci`. FOLDER has the program `mufom`, and perhaps `mufom.by-rattle`, which the toolchain's own back end
 # built; it is crates/mufom/out by default. Each check prints one line, and its output if it fails. A check whose tool is
-# missing is skipped. Two checks run at a time. Each is ended after a time of its own, and has failed then, so that all take at
-# most eight minutes. The last line is 'N passed, N failed', with ', N skipped' if any were; the status is 0 if nothing failed.
+# missing is skipped, and so is an example of a document. Two checks run at a time. Each is ended after a time of its own, and
+# has failed then, so that all take at most eight minutes. The last line is 'N passed, N failed', with ', N skipped' if checks
+# were skipped; the status is 0 if nothing failed.
 set -u
 cd "$(dirname "$0")/.." || exit 1
 folder=${1:-crates/mufom/out}
@@ -25,6 +26,7 @@ tell() {
   if [ "$1" = 0 ]; then
     passed=$((passed + 1))
     echo "ok: $2: $(tail -n 1 "$4" | cut -c 1-100)"
+    grep '^skipped: ' "$4"
     return
   fi
   failed=$((failed + 1))

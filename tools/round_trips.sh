@@ -39,7 +39,7 @@ for file in "$top"/crates/mufom/data/*.695 "$top"/examples/*.695; do
   if ! flags=$(flags_for "$file"); then
     # A field size without a comma needs --gnu.
     if [ "$(basename "$file")" = main-pcrel.695 ] && ! "$program" check --gnu "$file" 2>&1 | grep -q '^refused'; then
-      echo "$file: not read without --gnu, which this program does not have"
+      echo "skipped: $file is not read without --gnu, which this program does not have"
       continue
     fi
     failed=$((failed + 1))

@@ -13,7 +13,7 @@ cp "$top"/crates/mufom/data/* "$work" && cd "$work" || exit 1
 passed=0 failed=0
 
 # STATUS, the line on standard error, whether the file `out` is there afterwards (yes, no), and the arguments. Standard output goes to the file $to.
-row() {
+run_ends() {
   local status=$1 line=$2 there=$3 found is_there=no
   shift 3
   rm -f out
@@ -29,30 +29,30 @@ row() {
 }
 
 to=printed
-row 0 "" no show a.695
+run_ends 0 "" no show a.695
 if ! grep -q '^module "A" processor "68000" maus 4 order M$' printed; then
   failed=$((failed + 1))
   echo "mufom show a.695 does not print the module"
 fi
-row 0 "" no dump --plan plan.toml program.695 library.695
-row 0 "" yes link -o out program.695 library.695
-row 0 "" yes locate --plan plan.toml -o out program.695 + library.695
-row 0 "" no explain dump program.695
-row 1 "refused: file 0 at 0: BadHeader" no check plan.toml
-row 1 "refused: plan: Syntax" no dump --plan a.695 a.695
-row 1 'refused: link: Duplicate "exit"' no link -o out library.695 library.695
-row 1 "refused: locate: Unplaced section 0" no locate -o out program.695 library.695
-row 1 'refused: locate: Undefined "exit"' no dump --plan plan.toml program.695
-row 2 "usage: no command" no
-row 2 "usage: no file" no show
-row 2 "usage: bad words" no link a.695
-row 2 "usage: open group" no link -o out [ a.695
-row 3 "read fault: file 1" no link -o out a.695 none
-row 3 "read fault: plan" no dump --plan none a.695
-row 4 "write fault" no link -o none/out a.695
+run_ends 0 "" no dump --plan plan.toml program.695 library.695
+run_ends 0 "" yes link -o out program.695 library.695
+run_ends 0 "" yes locate --plan plan.toml -o out program.695 + library.695
+run_ends 0 "" no explain dump program.695
+run_ends 1 "refused: file 0 at 0: BadHeader" no check plan.toml
+run_ends 1 "refused: plan: Syntax" no dump --plan a.695 a.695
+run_ends 1 'refused: link: Duplicate "exit"' no link -o out library.695 library.695
+run_ends 1 "refused: locate: Unplaced section 0" no locate -o out program.695 library.695
+run_ends 1 'refused: locate: Undefined "exit"' no dump --plan plan.toml program.695
+run_ends 2 "usage: no command" no
+run_ends 2 "usage: no file" no show
+run_ends 2 "usage: bad words" no link a.695
+run_ends 2 "usage: open group" no link -o out [ a.695
+run_ends 3 "read fault: file 1" no link -o out a.695 none
+run_ends 3 "read fault: plan" no dump --plan none a.695
+run_ends 4 "write fault" no link -o none/out a.695
 if [ -c /dev/full ]; then
   to=/dev/full
-  row 4 "write fault" no show a.695
+  run_ends 4 "write fault" no show a.695
 fi
 echo "$passed passed, $failed failed"
 [ "$failed" = 0 ]
