@@ -1,13 +1,21 @@
 //! The program `mufom`: it passes the arguments of the command line to [`run`] over the files and streams of
 //! the process, and ends with the status of the outcome.
 //!
-//! It depends on `mufom_command`, whose contract states what every outcome means, and on `mufom_host`.
+//! It depends on `mufom_command`, whose contract states what every outcome means, and on `mufom_host`. The
+//! main clause is that of [`program`]: over any host, the arguments after the program's name are run, and the
+//! exit status is that of the outcome. `main` itself has no contract: it hands over what the system gives.
 #![tactic(auto)]
 
-ghost use Rattle.std.specs.Prelude.{◌<◌, ◌^◌, IfOk, vec_len};
+ghost use Rattle.std.specs.Prelude.{◌≡◌, ◌<◌, ◌^◌, drop, length, map};
+ghost use Rattle.std.specs.Process.{exit_status};
+ghost use Rattle.std.specs.String.{string_bytes};
+ghost use Rattle.mufom_command.specs.Contract.{IsRun};
+ghost use Rattle.mufom_command.specs.Run.{call_of, status_of};
+ghost use Rattle.mufom_command.specs.declared.outcome.Outcome.{Outcome};
 
 use mufom_command::run;
-use mufom_host::RealHost;
+use mufom_host::{Host, RealHost};
+use std::alloc::Global;
 use std::env;
 use std::io::ErrorKind;
 use std::process::ExitCode;
@@ -18,34 +26,41 @@ const BAD_WORDS: u8 = 2;
 /// The status if memory runs out for the arguments.
 const NO_MEMORY: u8 = 5;
 
-// The arguments without the program's name, or the status to end with if they cannot be read.
-fn words(rt: &HostRuntime) -> Result<Vec<String>, u8>
-    ensures { IfOk result (λ words. vec_len words < 2 ^ 32) }
+// The arguments after the program's name.
+fn after_name(arguments: &[String]) -> &[String]
+    ensures { result.now ≡ drop 1 arguments.now }
 {
-    let mut arguments = match env::args(rt) {
-        Ok(arguments) => arguments,
-        Err(error) if error.kind() == ErrorKind::OutOfMemory => return Err(NO_MEMORY),
-        Err(_) => return Err(BAD_WORDS),
-    };
-    let _program = arguments.next();
-    let mut words = Vec::new(rt.alloc());
-    for word in arguments {
-        if words.push(word).is_err() {
-            return Err(NO_MEMORY);
-        }
+    arguments.get(1..).unwrap_or(&[])
+}
+
+// Runs the arguments after the program's name, and returns the exit status of the outcome.
+fn program<H: Host>(alloc: Global, arguments: &[String], host: &mut H) -> ExitCode
+    requires { length arguments.now < 2 ^ 32 }
+    ensures { (outcome : Outcome) × IsRun (map (λ word. string_bytes word) (drop 1 arguments.now)) (call_of H.meaning H.faults host.old host.new) outcome
+        × (exit_status result ≡ status_of outcome) }
+{
+    let outcome = run(alloc, after_name(arguments), host);
+    ExitCode::from(outcome.status())
+}
+
+// All arguments, the program's name among them, or the status to end with if they cannot be read.
+fn all_arguments(rt: &HostRuntime) -> Result<Vec<String>, u8> {
+    match env::args(rt) {
+        Ok(arguments) => arguments.collect(rt.alloc()).map_err(|_| NO_MEMORY),
+        Err(error) if error.kind() == ErrorKind::OutOfMemory => Err(NO_MEMORY),
+        Err(_) => Err(BAD_WORDS),
     }
-    if words.len() > u32::MAX as usize {
-        return Err(BAD_WORDS);
-    }
-    Ok(words)
 }
 
 fn main(rt: HostRuntime) -> ExitCode {
-    let words = match words(&rt) {
-        Ok(words) => words,
+    let arguments = match all_arguments(&rt) {
+        Ok(arguments) => arguments,
         Err(status) => return ExitCode::from(status),
     };
+    if arguments.len() > u32::MAX as usize {
+        return ExitCode::from(BAD_WORDS);
+    }
     let alloc = rt.alloc();
     let mut host = RealHost::new(rt);
-    ExitCode::from(run(alloc, words.as_slice(), &mut host).status())
+    program(alloc, &arguments, &mut host)
 }
