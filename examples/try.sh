@@ -24,9 +24,6 @@ import re, shutil, subprocess, sys, textwrap, time
 # What a machine may lack, and what a command that needs it mentions.
 TOOLS = {"srec_cat": r"srec_cat|\.srec\b|^make .*\bsrec\b", "xxd": r"\bxxd\b", "make": r"^make\b"}
 lacking = {tool: mention for tool, mention in TOOLS.items() if not shutil.which(tool)}
-# TODO: remove these two lines once the program has --gnu.
-if subprocess.run(["mufom", "explain", "check", "--gnu", "x"], stdout=subprocess.PIPE).stdout.startswith(b"usage: bad words"):
-    lacking["--gnu"] = " --gnu "
 passed = failed = skipped = 0
 page = open(sys.argv[1], encoding="utf-8").read()
 for language, block in re.findall(r"^ *```(\w*)\n(.*?)^ *```$", page, re.M | re.S):
