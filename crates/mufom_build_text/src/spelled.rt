@@ -4,7 +4,6 @@
 ghost use Rattle.std.specs.Prelude.{◌≡◌, ◌≤◌, ◌<◌, ◌+◌, ◌∷◌, ◌++◌, ◌↔◌, [], List, ℕ, length, take, drop, IsTrue, IfOk};
 ghost use Rattle.std.specs.Prelude.{OnOk, IfSome, Some, MatchOption, ◌^◌};
 ghost use Rattle.std.specs.Str.Parse.{AllDigits, digits_value};
-ghost use Rattle.hex.specs.Hex.{hex_digit_value};
 ghost use Rattle.mufom_text.specs.Words.{stands_for_itself};
 ghost use Rattle.mufom_build_text.specs.Pieces.{AreDigitsOf, SpellsNameByte, SpellsNameBytes, SpellsName, MOST_BYTE, MOST_POSITION, MOST_NUMBER};
 ghost use Rattle.mufom_build_text.specs.Reads.{IsRight, ReadsNumeral, IsDigitsFront, IsNameFront};
@@ -14,7 +13,7 @@ ghost use Rattle.mufom_build_text.specs.Loosely.{ReadsByte, ReadsGap, ReadsDigit
 
 use crate::cursor::{Cursor, after_spaces};
 use crate::refusal::{BuildReason, PieceStop};
-use mufom_numbers::{Bytes, NoMemory};
+use mufom_numbers::{Bytes, NoMemory, hex_digit};
 use std::alloc::Global;
 
 // The number of decimal digits at the beginning of the text.
@@ -45,19 +44,6 @@ fn number_of(digits: &[u8]) -> Option<u64>
         number = number * 10 + digit;
     }
     Some(number)
-}
-
-// The value of a hexadecimal digit.
-fn hex_digit(byte: u8) -> Option<u8>
-    ensures value { result ≡ hex_digit_value byte }
-    ensures low { IfSome result (λ d. d < 16) }
-{
-    match byte {
-        b'0'..=b'9' => Some(byte - b'0'),
-        b'A'..=b'F' => Some(byte - b'A' + 10),
-        b'a'..=b'f' => Some(byte - b'a' + 10),
-        _ => None,
-    }
 }
 
 // The byte of two hexadecimal digits, if they are digits.

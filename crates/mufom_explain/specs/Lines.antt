@@ -9,8 +9,8 @@ use Rattle.mufom_meaning.specs.Flat.{is_common}
 use Rattle.mufom_text.specs.Words.{Text, each, line, quoted}
 use Rattle.mufom_origins.specs.declared.origins.Origin.{Origin}
 use Rattle.mufom_origins.specs.Origins.{FileModule}
-use Rattle.mufom_map.specs.Mapped.{module_in}
-use Rattle.mufom_map.specs.MapText.{counted, hex}
+use Rattle.mufom_origins.specs.Places.{module_in}
+use Rattle.mufom_text.specs.Digits.{counted, hex}
 
 -- ---- files
 

@@ -7,7 +7,7 @@ use Rattle.mufom_names.specs.declared.name.Reference.{Reference}
 use Rattle.mufom_module.specs.declared.module.Parts.{Parts}
 use Rattle.mufom_plan.specs.Names.{has_name}
 use Rattle.mufom_text.specs.Words.{Text, each, line, quoted}
-use Rattle.mufom_map.specs.MapText.{counted}
+use Rattle.mufom_text.specs.Digits.{counted}
 use Rattle.mufom_origins.specs.Origins.{FileModule}
 use Rattle.mufom_explain.specs.declared.mention.Mention.{Mention}
 use Rattle.mufom_explain.specs.declared.mention.MentionKind.{MentionKind}

@@ -6,7 +6,7 @@ use Rattle.mufom_plan.specs.declared.plan.Region.{Region}
 use Rattle.mufom_place.specs.declared.placing.Placing.{Placing}
 use Rattle.mufom_place.specs.Bases.{placings}
 use Rattle.mufom_text.specs.Words.{Text, line, quoted}
-use Rattle.mufom_map.specs.MapText.{counted, hex}
+use Rattle.mufom_text.specs.Digits.{counted, hex}
 
 abbrev pub size_of : Option Section → ℕ
 size_of None = 0

@@ -10,13 +10,12 @@ ghost use Rattle.mufom_explain.specs.Lines.{asking_line, asks_by, asks_for, base
 ghost use Rattle.mufom_explain.specs.Lines.{place_text, section_line};
 
 use crate::modules::{FlatModule, module_line, module_text};
-use mufom_map::{counted, hex};
 use mufom_module::Parts;
 use mufom_names::Reference;
 use mufom_numbers::Text;
 use mufom_origins::{Origin, Origins, Place};
 use mufom_sections::Section;
-use mufom_text::{Output, quoted};
+use mufom_text::{Output, counted, hex, quoted};
 
 // The base of a section.
 fn line_of_base<K: Output>(out: &mut K, maus: u8, base: u64)

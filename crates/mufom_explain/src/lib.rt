@@ -2,7 +2,7 @@
 //! of a line refer, and the modules that define a name or refer to it.
 //!
 //! It depends on `mufom_link` and `mufom_image` for the errors, on `mufom_place` for the regions, on
-//! `mufom_origins` for the modules from which sections come, and on `mufom_text` and `mufom_map` for numbers
+//! `mufom_origins` for the modules from which sections come, and on `mufom_text` for numbers
 //! and names in text. Its main clauses are those of [`explain_link`], [`explain_locate`] and
 //! [`explain_name`]: the lines are exactly those that `link_details`, `locate_details` and `name_details`
 //! define.

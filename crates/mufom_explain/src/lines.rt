@@ -3,9 +3,8 @@
 ghost use Rattle.std.specs.Prelude.{◌≡◌, ◌++◌};
 ghost use Rattle.mufom_explain.specs.Lines.{file_line, file_name, plan_line};
 
-use mufom_map::counted;
 use mufom_numbers::Text;
-use mufom_text::{Output, quoted};
+use mufom_text::{Output, counted, quoted};
 
 /// Returns the name of the file with a number, as it was given; empty past the last file.
 pub(crate) fn file_name(names: &[Text], number: u32) -> &[u8]

@@ -24,6 +24,7 @@ use crate::undefined::undefined_names;
 use mufom_image::{LocateRefusal, Site, planned_commons};
 use mufom_image_values::resolve_references;
 use mufom_meaning::modules_may_be_placed;
+use mufom_module::a_module_is_valid;
 use mufom_numbers::{Bytes, NoMemory};
 use mufom_place::PlaceRefusal;
 use mufom_sections::Section;
@@ -270,7 +271,7 @@ pub fn explain_locate<'a>(
     let resolutions = resolve_references(alloc, context.object)?;
     let commons = planned_commons(alloc, context.object, resolutions.as_slice(), context.plan)?;
     let kind = about(alloc, &context, commons.as_slice(), refusal)?;
-    let _ = context.object.parts();
+    a_module_is_valid(context.object);
     Ok(LocateDetails {
         context,
         commons,

@@ -11,11 +11,10 @@ use crate::mention::{Mention, MentionKind};
 use crate::mentions::Mentions;
 use crate::modules::{FlatModule, module_line};
 use crate::wanted::Wanted;
-use mufom_map::counted;
 use mufom_module::Parts;
 use mufom_names::{Public, Reference};
 use mufom_numbers::Text;
-use mufom_text::{Output, quoted};
+use mufom_text::{Output, counted, quoted};
 
 // The text about a mention, after the name.
 fn kind_text(kind: MentionKind) -> &'static [u8]

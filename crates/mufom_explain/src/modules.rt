@@ -5,10 +5,9 @@ ghost use Rattle.mufom_explain.specs.Flat.{file_module};
 ghost use Rattle.mufom_explain.specs.Lines.{module_line, module_text};
 
 use crate::lines::file_name;
-use mufom_map::counted;
 use mufom_module::Parts;
 use mufom_numbers::{Bytes, Text};
-use mufom_text::{Output, quoted};
+use mufom_text::{Output, counted, quoted};
 
 /// A module of a flat list, with the number of the file that it was read from.
 #[derive(Clone, Copy)]

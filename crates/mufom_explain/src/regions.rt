@@ -8,12 +8,11 @@ ghost use Rattle.mufom_place.specs.Packing.{IsLow};
 ghost use Rattle.mufom_text.specs.Fitting.{IsUnitCount};
 ghost use Rattle.mufom_explain.specs.Region.{end_in, greatest_end, region_line, size_of, taken_in};
 
-use mufom_map::{counted, hex};
 use mufom_numbers::NoMemory;
 use mufom_place::{Placing, all_placings};
 use mufom_plan::{Plan, Region};
 use mufom_sections::Section;
-use mufom_text::{Output, quoted};
+use mufom_text::{Output, counted, hex, quoted};
 use std::alloc::Global;
 
 // The size of the section or common at a position; 0 past the last one.

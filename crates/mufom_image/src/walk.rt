@@ -14,7 +14,7 @@ ghost use Rattle.mufom_image.specs.Stages.{public_division, start_division, debu
 use crate::counter_values::AtCounter;
 use crate::refusal::LocateRefusal;
 use mufom_copies::copy_bytes;
-use mufom_image_bytes::{ImageRefusal, LoadStop, image_of_module};
+use mufom_image_bytes::{ImageStop, LoadRefusal, image_of_module};
 use mufom_image_entries::{ValuedModule, divides_at_start, first_debug_division};
 use mufom_meaning::{Run, Site};
 use mufom_numbers::List;
@@ -36,16 +36,19 @@ fn check_publics(alloc: Global, valued: &ValuedModule<'_>) -> Result<(), LocateR
 }
 
 // Converts the error that stopped the walk over the loads to an error of locating.
-fn refusal_of(stop: LoadStop) -> LocateRefusal
+fn refusal_of(stop: LoadRefusal) -> LocateRefusal
     ensures { IsMet (Some (fact_of stop)) result }
 {
     match stop {
-        LoadStop::Counter { section } => LocateRefusal::DivideByZero(Site::Counter(section)),
-        LoadStop::Field { section, address } => {
+        LoadRefusal::Counter { section } => LocateRefusal::DivideByZero(Site::Counter(section)),
+        LoadRefusal::Field { section, address } => {
             LocateRefusal::DivideByZero(Site::Field { section, address })
         }
-        LoadStop::Outside { section, address } => LocateRefusal::LoadOutside { section, address },
-        LoadStop::Overflow {
+        LoadRefusal::Outside { section, address } => LocateRefusal::LoadOutside {
+            section,
+            address,
+        },
+        LoadRefusal::Overflow {
             section,
             address,
             kind,
@@ -58,7 +61,7 @@ fn refusal_of(stop: LoadStop) -> LocateRefusal
             size,
             value,
         },
-        LoadStop::Twice { address } => LocateRefusal::LoadedTwice(address),
+        LoadRefusal::Twice { address } => LocateRefusal::LoadedTwice(address),
     }
 }
 
@@ -77,8 +80,8 @@ fn runs_of(alloc: Global, valued: &ValuedModule<'_>) -> Result<List<Run>, Locate
     };
     match image_of_module(alloc, placed.graph.parts, placed.bases, &values) {
         Ok(runs) => Ok(runs),
-        Err(ImageRefusal::Stopped(stop)) => Err(refusal_of(stop)),
-        Err(ImageRefusal::NoMemory) => Err(LocateRefusal::NoMemory),
+        Err(ImageStop::Refused(stop)) => Err(refusal_of(stop)),
+        Err(ImageStop::NoMemory) => Err(LocateRefusal::NoMemory),
     }
 }
 

@@ -20,9 +20,9 @@ use Rattle.mufom_meaning.proofs.Members.{In, Contains-In}
 use Rattle.mufom_meaning.proofs.facts.Answers.{or_else_none}
 use Rattle.mufom_image_bytes.specs.declared.chunk.Chunk.{Chunk}
 use Rattle.mufom_image_bytes.specs.declared.layout.Layout.{Layout}
-use Rattle.mufom_image_bytes.specs.declared.refusal.ImageRefusal.{ImageRefusal}
-use Rattle.mufom_image_bytes.specs.declared.refusal.ImageRefusal.TheVariants as refusals
-use Rattle.mufom_image_bytes.specs.declared.stop.LoadStop.{LoadStop}
+use Rattle.mufom_image_bytes.specs.declared.stop.ImageStop.{ImageStop}
+use Rattle.mufom_image_bytes.specs.declared.stop.ImageStop.TheVariants as stops
+use Rattle.mufom_image_bytes.specs.declared.refusal.LoadRefusal.{LoadRefusal}
 use Rattle.mufom_image_bytes.specs.Stops.{fact_of}
 use Rattle.mufom_image_bytes.specs.Chunks.{cells_of_chunks, cell_addresses, addresses_of, AreConsecutive}
 use Rattle.mufom_image_bytes.specs.Shared.{shares_from, EndsFirst}
@@ -59,15 +59,15 @@ module _ (cells : List Cell) (bytes : List ℕ) (chunks sorted : List Chunk) (h 
   low_addresses : AreLow cells → (a : ℕ) → Contains (addresses_of chunks) a → a < 2 ^ 64
   low_addresses low a there = low a (subst (λ all. Contains all a) (sym own_addresses) there)
 
-  first_end : (result : Option LoadStop) (stop : Option LocateFact) → EndsFirst sorted (length bytes) stop (option_map fact_of result) → AreLow cells
+  first_end : (result : Option LoadRefusal) (stop : Option LocateFact) → EndsFirst sorted (length bytes) stop (option_map fact_of result) → AreLow cells
       → (first_twice [] (cell_addresses cells) or_else stop) ≡ option_map fact_of result
   first_end result stop e low = ap (λ all. first_twice [] all or_else stop) own_addresses ∙ sym (e chunks (h.permuted, h.consecutive, low_addresses low))
 
-  pub refused : (other : LoadStop) (stop : Option LocateFact) → EndsFirst sorted (length bytes) stop (Some (fact_of other))
-      → IsRefusal cells stop (refusals.Stopped other)
+  pub refused : (other : LoadRefusal) (stop : Option LocateFact) → EndsFirst sorted (length bytes) stop (Some (fact_of other))
+      → IsRefusal cells stop (stops.Refused other)
   refused other stop e = λ low. first_end (Some other) stop e low
 
-  pub imaged : (stop : Option LoadStop) (runs : List Run) → EndsFirst sorted (length bytes) (option_map fact_of stop) None → stop ≡ None → AreApart 0 runs
+  pub imaged : (stop : Option LoadRefusal) (runs : List Run) → EndsFirst sorted (length bytes) (option_map fact_of stop) None → stop ≡ None → AreApart 0 runs
       → run_cells runs ≡ cells_of_chunks bytes sorted
       → IsImage cells (option_map fact_of stop) runs
   imaged stop runs e none apart rows = record {
@@ -135,10 +135,10 @@ module _ (layout : Layout) (valuation : ValuationAt) (loads : List Load) (high :
         subst (λ all. AreRunsOf all runs) (e ∙ w.1 none) i.rows,
       )
 
-  pub refusal_there : (cells : List Cell) (stop : Option LocateFact) (refusal : ImageRefusal) → cells ≡ outcome.0.cells → stop ≡ outcome.1
+  pub refusal_there : (cells : List Cell) (stop : Option LocateFact) (refusal : ImageStop) → cells ≡ outcome.0.cells → stop ≡ outcome.1
       → IsRefusal cells stop refusal → IsRefusalOf layout valuation loads refusal
-  refusal_there cells stop refusals.NoMemory e f i = tt {0}
-  refusal_there cells stop (refusals.Stopped other) e f i = λ s site h.
+  refusal_there cells stop stops.NoMemory e f i = tt {0}
+  refusal_there cells stop (stops.Refused other) e f i = λ s site h.
       (walk s site h).0
       ∙ ap (λ all. first_twice [] (cell_addresses all) or_else outcome.1) (sym e)
       ∙ ap (λ o. first_twice [] (cell_addresses cells) or_else o) (sym f)

@@ -37,8 +37,8 @@ use Rattle.mufom_meaning.proofs.values.Causes.{IsWellNamed}
 use Rattle.mufom_meaning.proofs.values.Lacks.{HasAllNamed, IsWellStep, Why, why}
 use Rattle.mufom_meaning.proofs.values.Named.{has_all_named}
 use Rattle.mufom_image_bytes.specs.declared.layout.Layout.{Layout}
-use Rattle.mufom_image_bytes.specs.declared.refusal.ImageRefusal.{ImageRefusal}
-use Rattle.mufom_image_bytes.specs.declared.refusal.ImageRefusal.TheVariants as refusals
+use Rattle.mufom_image_bytes.specs.declared.stop.ImageStop.{ImageStop}
+use Rattle.mufom_image_bytes.specs.declared.stop.ImageStop.TheVariants as stops
 use Rattle.mufom_image_bytes.specs.Images.{IsImageOf, IsRefusalOf}
 use Rattle.mufom_image_bytes.specs.Modules.{home_of, IsReady, IsImageOfModule, IsRefusalOfModule}
 use Rattle.mufom_image_bytes.specs.Outcomes.{ValuationAt}
@@ -237,8 +237,8 @@ module_image m valid layout bases valuation wide based sectioned ordered runs im
 
 pub module_refusal : (m : Parts) → IsValid m → (layout : Layout) (bases : List ℕ) (valuation : ValuationAt) → layout.width ≡ 8 * m.maus → layout.bases.now
     ≡ bases → layout.sections.now ≡ m.sections
-    → (refusal : ImageRefusal) → IsRefusalOf layout valuation m.loads refusal → IsRefusalOfModule m bases valuation refusal
-module_refusal m valid layout bases valuation wide based sectioned refusals.NoMemory there = tt {0}
-module_refusal m valid layout bases valuation wide based sectioned (refusals.Stopped stop) there = λ placed h.
+    → (refusal : ImageStop) → IsRefusalOf layout valuation m.loads refusal → IsRefusalOfModule m bases valuation refusal
+module_refusal m valid layout bases valuation wide based sectioned stops.NoMemory there = tt {0}
+module_refusal m valid layout bases valuation wide based sectioned (stops.Refused stop) there = λ placed h.
     ap (steps_fact (setting (m ∷ []) placed) []) (all_steps m valid placed bases valuation h)
     ∙ there (setting (m ∷ []) placed) (home_of m) (walked_so m valid placed bases valuation h layout wide based sectioned)

@@ -6,7 +6,7 @@ use Rattle.mufom_loads.specs.declared.load.Item.{Item}
 use Rattle.mufom_loads.specs.Lengths.{byte_count, repeated}
 use Rattle.mufom_meaning.specs.Facts.{LocateFact}
 use Rattle.mufom_image_bytes.specs.declared.layout.Layout.{Layout}
-use Rattle.mufom_image_bytes.specs.declared.stop.LoadStop.{LoadStop}
+use Rattle.mufom_image_bytes.specs.declared.refusal.LoadRefusal.{LoadRefusal}
 use Rattle.mufom_image_bytes.specs.Stops.{fact_of}
 use Rattle.mufom_image_bytes.specs.Walks.{has_bytes}
 use Rattle.mufom_image_bytes.specs.Outcomes.{ValuationAt, Progress, Outcome, continued, outside_in, placed_outcome, item_outcome, items_outcome}
@@ -74,14 +74,14 @@ module _ (layout : Layout) (valuation : ValuationAt) (section : ℕ) where
       ∙ items_outcome-append items (repeated (count - (counter + 1)) items) p
       ∙ ap (λ (first : Outcome). continued first.0 first.1 (λ q. items_outcome layout valuation section (repeated (count - (counter + 1)) items) q)) (sym e)
 
-  pub copies_go : (items : List Item) (count counter : ℕ) (first p q : Progress) (stop : Option LoadStop) → counter < count → is_some stop ≡ false
+  pub copies_go : (items : List Item) (count counter : ℕ) (first p q : Progress) (stop : Option LoadRefusal) → counter < count → is_some stop ≡ false
       → items_outcome layout valuation section (repeated count items) first ≡ items_outcome layout valuation section (repeated (count - counter) items) p
       → ◌≡◌ {A = Outcome} (q, option_map fact_of stop) (items_outcome layout valuation section items p)
       → items_outcome layout valuation section (repeated count items) first ≡ items_outcome layout valuation section (repeated (count - (counter + 1)) items) q
   copies_go items count counter first p q None less none before e = before ∙ copy_more items count counter p q None less e
   copies_go items count counter first p q (Some stop) less none before e = absurd cc
 
-  pub copies_end : (items : List Item) (count counter : ℕ) (first p q : Progress) (stop : Option LoadStop) → counter < count → is_some stop ≡ true
+  pub copies_end : (items : List Item) (count counter : ℕ) (first p q : Progress) (stop : Option LoadRefusal) → counter < count → is_some stop ≡ true
       → items_outcome layout valuation section (repeated count items) first ≡ items_outcome layout valuation section (repeated (count - counter) items) p
       → ◌≡◌ {A = Outcome} (q, option_map fact_of stop) (items_outcome layout valuation section items p)
       → ◌≡◌ {A = Outcome} (q, option_map fact_of stop) (items_outcome layout valuation section (repeated count items) first)

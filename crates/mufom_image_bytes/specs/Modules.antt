@@ -15,8 +15,8 @@ use Rattle.mufom_meaning.specs.Stands.{StandsIn, LinkFactStands}
 use Rattle.mufom_meaning.specs.Steps.{steps}
 use Rattle.mufom_meaning.specs.Values.{setting, value}
 use Rattle.mufom_meaning.specs.Walk.{base_number, size_at, public_fact, steps_fact}
-use Rattle.mufom_image_bytes.specs.declared.refusal.ImageRefusal.{ImageRefusal}
-use Rattle.mufom_image_bytes.specs.declared.refusal.ImageRefusal.TheVariants as refusals
+use Rattle.mufom_image_bytes.specs.declared.stop.ImageStop.{ImageStop}
+use Rattle.mufom_image_bytes.specs.declared.stop.ImageStop.TheVariants as stops
 use Rattle.mufom_image_bytes.specs.Stops.{fact_of}
 use Rattle.mufom_image_bytes.specs.Outcomes.{ValuationAt}
 
@@ -44,7 +44,7 @@ IsImageOfModule m bases valuation runs =
     (steps_fact s [] (steps (m ∷ [])) ≡ None) × AreRunsOf (address_map m.order s.modulus (readings (m ∷ []) placed).steps) runs
 
 -- if the module is ready, this is the first error that is found at its steps
-abbrev pub IsRefusalOfModule : Parts → List ℕ → ValuationAt → ImageRefusal → Type 0
-IsRefusalOfModule m bases valuation (refusals.Stopped stop) =
+abbrev pub IsRefusalOfModule : Parts → List ℕ → ValuationAt → ImageStop → Type 0
+IsRefusalOfModule m bases valuation (stops.Refused stop) =
     (placed : Bases) → IsReady m placed bases valuation → steps_fact (setting (m ∷ []) placed) [] (steps (m ∷ [])) ≡ Some (fact_of stop)
-IsRefusalOfModule m bases valuation refusals.NoMemory = Unit {0}
+IsRefusalOfModule m bases valuation stops.NoMemory = Unit {0}

@@ -17,9 +17,9 @@ use crate::doubles::first_double;
 use crate::layout::Layout;
 use crate::loaded::Loaded;
 use crate::loads::walk_loads;
-use crate::refusal::ImageRefusal;
+use crate::refusal::LoadRefusal;
 use crate::runs::maximal_runs;
-use crate::stop::LoadStop;
+use crate::stop::ImageStop;
 use crate::values::Values;
 use crate::walk::Walk;
 use mufom_loads::Load;
@@ -37,14 +37,14 @@ fn sort_by_address(chunks: &mut Vec<Chunk>)
 
 // The first address that is loaded twice, or otherwise the error that stopped the loads. The chunks must be
 // in order of address.
-fn first_stop(chunks: &[Chunk], count: usize, stop: Option<LoadStop>) -> Option<LoadStop>
+fn first_stop(chunks: &[Chunk], count: usize, stop: Option<LoadRefusal>) -> Option<LoadRefusal>
     requires { AreRisingFrom 0 chunks.now }
     ensures stop { EndsFirst chunks.now count (option_map fact_of stop) (option_map fact_of result) }
     ensures apart { result ≡ None → shares_from count 0 chunks.now ≡ false }
     ensures ended { result ≡ None → stop ≡ None }
 {
     match first_double(chunks, count) {
-        Some(address) => Some(LoadStop::Twice { address }),
+        Some(address) => Some(LoadRefusal::Twice { address }),
         None => stop,
     }
 }
@@ -74,8 +74,8 @@ fn runs_of(alloc: Global, chunks: &[Chunk], bytes: Vec<u8>) -> Result<List<Run>,
 pub fn runs_of_loaded(
     alloc: Global,
     loaded: Loaded,
-    stop: Option<LoadStop>,
-) -> Result<List<Run>, ImageRefusal>
+    stop: Option<LoadRefusal>,
+) -> Result<List<Run>, ImageStop>
     requires { IsTiled loaded }
     ensures image { IfOk result (λ runs. IsImage (loaded_cells loaded) (option_map fact_of stop) runs) }
     ensures refusal { IfErr result (λ refusal. IsRefusal (loaded_cells loaded) (option_map fact_of stop) refusal) }
@@ -83,7 +83,7 @@ pub fn runs_of_loaded(
     let (mut chunks, bytes) = loaded.finish()?;
     sort_by_address(&mut chunks);
     match first_stop(&chunks, bytes.len(), stop) {
-        Some(stop) => Err(ImageRefusal::Stopped(stop)),
+        Some(stop) => Err(ImageStop::Refused(stop)),
         None => Ok(runs_of(alloc, &chunks, bytes)?),
     }
 }
@@ -97,7 +97,7 @@ pub fn image_of<V: Values>(
     layout: &Layout<'_>,
     values: &V,
     loads: &[Load],
-) -> Result<List<Run>, ImageRefusal>
+) -> Result<List<Run>, ImageStop>
     requires low { 8 ≤ layout.now.width }
     requires high { layout.now.width ≤ 64 }
     requires narrow { All HasNarrowItems loads.now }

@@ -25,6 +25,6 @@ pub use image::{image_of, runs_of_loaded};
 pub use layout::Layout;
 pub use loaded::{Loaded, nothing_loaded};
 pub use module_image::image_of_module;
-pub use refusal::ImageRefusal;
-pub use stop::LoadStop;
+pub use refusal::LoadRefusal;
+pub use stop::ImageStop;
 pub use values::Values;

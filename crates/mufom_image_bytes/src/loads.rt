@@ -9,7 +9,7 @@ ghost use Rattle.mufom_image_bytes.specs.Walks.{LoadsItems, Copies, LoadsOne, Lo
 
 use crate::layout::Layout;
 use crate::loaded::nothing_loaded;
-use crate::stop::LoadStop;
+use crate::refusal::LoadRefusal;
 use crate::values::Values;
 use crate::walk::{Walk, counter_of, load_item, set_counter};
 use mufom_expr::Postfix;
@@ -25,7 +25,7 @@ fn load_items<V: Values>(
     section: u32,
     items: &[&Item],
     walk: &mut Walk,
-) -> Result<Option<LoadStop>, NoMemory>
+) -> Result<Option<LoadRefusal>, NoMemory>
     requires low { 8 ≤ layout.now.width }
     requires high { layout.now.width ≤ 64 }
     requires narrow { All (λ item. IsNarrow item.now) items.now }
@@ -50,7 +50,7 @@ fn load_copies<V: Values>(
     count: u64,
     items: &[&Item],
     walk: &mut Walk,
-) -> Result<Option<LoadStop>, NoMemory>
+) -> Result<Option<LoadRefusal>, NoMemory>
     requires low { 8 ≤ layout.now.width }
     requires high { layout.now.width ≤ 64 }
     requires narrow { All (λ item. IsNarrow item.now) items.now }
@@ -94,7 +94,7 @@ fn load_repeat<V: Values>(
     count: u64,
     items: &[Item],
     walk: &mut Walk,
-) -> Result<Option<LoadStop>, NoMemory>
+) -> Result<Option<LoadRefusal>, NoMemory>
     requires low { 8 ≤ layout.now.width }
     requires high { layout.now.width ≤ 64 }
     requires narrow { All IsNarrow items.now }
@@ -113,7 +113,7 @@ fn load_counter<V: Values>(
     section: u32,
     value: &Postfix,
     walk: &mut Walk,
-) -> Option<LoadStop>
+) -> Option<LoadRefusal>
     requires low { 8 ≤ layout.now.width }
     requires high { layout.now.width ≤ 64 }
     requires tiled { IsTiled walk.old.loaded }
@@ -126,7 +126,7 @@ fn load_counter<V: Values>(
             set_counter(&mut walk.counters, section, next);
             None
         }
-        None => Some(LoadStop::Counter { section }),
+        None => Some(LoadRefusal::Counter { section }),
     }
 }
 
@@ -138,7 +138,7 @@ fn load_one<V: Values>(
     current: Option<u32>,
     load: &Load,
     walk: &mut Walk,
-) -> Result<Option<LoadStop>, NoMemory>
+) -> Result<Option<LoadRefusal>, NoMemory>
     requires low { 8 ≤ layout.now.width }
     requires high { layout.now.width ≤ 64 }
     requires narrow { HasNarrowItems load.now }
@@ -187,7 +187,7 @@ pub fn walk_loads<V: Values>(
     layout: &Layout<'_>,
     values: &V,
     loads: &[Load],
-) -> Result<(Walk, Option<LoadStop>), NoMemory>
+) -> Result<(Walk, Option<LoadRefusal>), NoMemory>
     requires low { 8 ≤ layout.now.width }
     requires high { layout.now.width ≤ 64 }
     requires narrow { All HasNarrowItems loads.now }

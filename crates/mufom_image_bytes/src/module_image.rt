@@ -6,7 +6,7 @@ ghost use Rattle.mufom_image_bytes.specs.Modules.{IsImageOfModule, IsRefusalOfMo
 
 use crate::image::image_of;
 use crate::layout::Layout;
-use crate::refusal::ImageRefusal;
+use crate::stop::ImageStop;
 use crate::values::Values;
 use mufom_meaning::Run;
 use mufom_module::Parts;
@@ -20,7 +20,7 @@ pub fn image_of_module<V: Values>(
     parts: &Parts,
     bases: &[u64],
     values: &V,
-) -> Result<List<Run>, ImageRefusal>
+) -> Result<List<Run>, ImageStop>
     requires { IsValid parts.now }
     ensures image { IfOk result (λ runs. IsImageOfModule parts.now bases.now (V.meaning values.now (8 * parts.now.maus)) runs) }
     ensures refusal { IfErr result (λ refusal. IsRefusalOfModule parts.now bases.now (V.meaning values.now (8 * parts.now.maus)) refusal) }

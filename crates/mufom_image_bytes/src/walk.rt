@@ -12,7 +12,7 @@ ghost use Rattle.mufom_image_bytes.specs.Walks.{progress_of, PutsItem, LoadsItem
 use crate::field::{field_number, fits, spelled};
 use crate::layout::Layout;
 use crate::loaded::Loaded;
-use crate::stop::LoadStop;
+use crate::refusal::LoadRefusal;
 use crate::values::Values;
 use mufom_expr::{FieldKind, Postfix};
 use mufom_loads::{Item, item_length};
@@ -51,7 +51,7 @@ fn field_at(
     kind: FieldKind,
     size: u8,
     value: Option<u64>,
-) -> (u64, Option<LoadStop>)
+) -> (u64, Option<LoadRefusal>)
     requires width { layout.now.width ≤ 64 }
     requires size { size ≤ 8 }
     requires residue { IfSome value (λ v. v < 2 ^ layout.now.width) }
@@ -59,10 +59,10 @@ fn field_at(
     ensures stop { option_map fact_of result.1 ≡ (field_outcome (2 ^ layout.now.width) section address kind size value).1 }
 {
     let Some(value) = value else {
-        return (0, Some(LoadStop::Field { section, address }));
+        return (0, Some(LoadRefusal::Field { section, address }));
     };
     if !fits(layout.width, kind, size, value) {
-        let stop = LoadStop::Overflow {
+        let stop = LoadRefusal::Overflow {
             section,
             address,
             kind,
@@ -104,7 +104,7 @@ fn put_item<V: Values>(
     at: u64,
     item: &Item,
     walk: &mut Walk,
-) -> Result<Option<LoadStop>, NoMemory>
+) -> Result<Option<LoadRefusal>, NoMemory>
     requires low { 8 ≤ layout.now.width }
     requires high { layout.now.width ≤ 64 }
     requires narrow { IsNarrow item.now }
@@ -134,7 +134,7 @@ pub fn load_item<V: Values>(
     section: u32,
     item: &Item,
     walk: &mut Walk,
-) -> Result<Option<LoadStop>, NoMemory>
+) -> Result<Option<LoadRefusal>, NoMemory>
     requires low { 8 ≤ layout.now.width }
     requires high { layout.now.width ≤ 64 }
     requires narrow { IsNarrow item.now }
@@ -148,7 +148,7 @@ pub fn load_item<V: Values>(
     }
     let at = counter_of(&walk.counters, section);
     match layout.outside(section, at, count) {
-        Some(address) => Ok(Some(LoadStop::Outside { section, address })),
+        Some(address) => Ok(Some(LoadRefusal::Outside { section, address })),
         None => put_item(layout, values, section, at, item, walk),
     }
 }

@@ -5,7 +5,7 @@ use crate::draft::{COUNTER, Draft, module};
 use mufom_expr::FieldKind::Unsigned;
 use mufom_expr::Token::Number;
 use mufom_expr::{Env, Letter, Postfix};
-use mufom_image_bytes::{ImageRefusal, LoadStop, Values, image_of_module};
+use mufom_image_bytes::{ImageStop, LoadRefusal, Values, image_of_module};
 use std::alloc::Global;
 use std::process::Abort;
 
@@ -92,7 +92,7 @@ fn the_first_double_goes_by_the_order_of_the_loads(rt: HostRuntime) {
     let alloc = rt.alloc();
     let module = module(&rt, doubles(&rt, alloc));
     match image_of_module(alloc, module.parts(), &[256], &Counted) {
-        Err(ImageRefusal::Stopped(LoadStop::Twice { address })) => assert_eq!(rt; address, 260),
+        Err(ImageStop::Refused(LoadRefusal::Twice { address })) => assert_eq!(rt; address, 260),
         _ => panic!(rt; "no double"),
     }
 }

@@ -13,7 +13,8 @@ use Rattle.mufom_origins.specs.Origins.{numbered}
 use Rattle.mufom_origins.specs.Places.{with_chosen}
 use Rattle.mufom_text.specs.Words.{line}
 use Rattle.mufom_map.specs.Mapped.{mapped}
-use Rattle.mufom_map.specs.MapText.{hex, map_text}
+use Rattle.mufom_map.specs.MapText.{map_text}
+use Rattle.mufom_text.specs.Digits.{hex}
 use Rattle.mufom_map.specs.Room.{signs_from}
 
 abbrev first : Parts

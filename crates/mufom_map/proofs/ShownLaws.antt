@@ -19,7 +19,8 @@ use Rattle.mufom_meaning.specs.Placed.{common_section, common_sections, placed_c
 use Rattle.mufom_meaning.proofs.Tests.{get_enumerate}
 use Rattle.mufom_meaning.proofs.absolute.Places.{base_there}
 use Rattle.mufom_origins.specs.declared.origins.Origin.{Origin}
-use Rattle.mufom_map.specs.Mapped.{MappedSection, mapped_section, module_in}
+use Rattle.mufom_map.specs.Mapped.{MappedSection, mapped_section}
+use Rattle.mufom_origins.specs.Places.{module_in}
 use Rattle.mufom_map.specs.MapText.{extent_of}
 use Rattle.mufom_map.specs.Shown.{bare, section_extent, section_extents, shown_section, shown_sections}
 

@@ -1,30 +1,14 @@
 -- The text of a map: modules, regions, sections and commons by address, publics by value, the start, and totals.
-use Rattle.std.specs.Prelude.{ℕ, zero, suc, ◌-◌, ◌*◌, List, [], ◌∷◌, ◌++◌, length, map, flat_map, Option, Some, None, sum_by, nat_lt, codes, if◌then◌else◌}
-use Rattle.std.specs.Int.{bytes_high_first}
-use Rattle.std.specs.Fmt.{decimal}
-use Rattle.hex.specs.Hex.{encode_upper}
+use Rattle.std.specs.Prelude.{ℕ, ◌-◌, List, [], ◌∷◌, ◌++◌, length, map, flat_map, Option, Some, None, sum_by, nat_lt, codes, if◌then◌else◌}
 use Rattle.mufom_plan.specs.declared.plan.Region.{Region}
 use Rattle.mufom_place.specs.declared.placing.Extent.{Extent}
 use Rattle.mufom_text.specs.Words.{Text, each, line, quoted}
+use Rattle.mufom_text.specs.Digits.{counted, hex}
 use Rattle.mufom_origins.specs.declared.origins.Origin.{Origin}
 use Rattle.mufom_map.specs.Mapped.{Mapped, MappedPublic, MappedSection}
 use Rattle.mufom_map.specs.Room.{bar, used_in}
 
 -- ---- words
-
--- digits without leading zeros, of which at most this many are left out
-abbrev pub without_zeros : ℕ → Text → Text
-without_zeros zero digits = digits
-without_zeros (suc count) [] = []
-without_zeros (suc count) (digit ∷ digits) = if nat_lt 0x30 digit then digit ∷ digits else without_zeros count digits
-
--- an address in upper-case hexadecimal: two digits for each of the `maus` units, and more if the number needs them
-abbrev pub hex : ℕ → ℕ → Text
-hex maus a = without_zeros (16 - 2 * maus) (encode_upper (bytes_high_first 8 a))
-
--- a word and a number
-abbrev pub counted : Text → ℕ → Text
-counted word n = word ++ decimal n
 
 -- the position of a module, after the word
 abbrev pub in_module : Option ℕ → Text

@@ -10,9 +10,8 @@ use Rattle.mufom_meaning.specs.declared.located.PublicValue.{PublicValue}
 use Rattle.mufom_meaning.specs.Flat.{flat_sections}
 use Rattle.mufom_meaning.specs.Placed.{placed_commons}
 use Rattle.mufom_origins.specs.declared.origins.Origin.{Origin}
-use Rattle.mufom_origins.specs.declared.origins.Place.{Place}
 use Rattle.mufom_origins.specs.Origins.{FileModule, modules_of, origins_of}
-use Rattle.mufom_origins.specs.Places.{place_in}
+use Rattle.mufom_origins.specs.Places.{module_in}
 
 -- a section or a common: its number, its properties, its address and region, and the position of its module, which a common does not have
 pub record MappedSection : Type 0 where
@@ -40,10 +39,6 @@ pub record Mapped : Type 0 where
   pub publics : List MappedPublic
   pub start : Option (ℕ × Option ℕ)
   pub loaded : ℕ
-
--- the module of the entry with a number, given the numbers of entries of the modules
-abbrev pub module_in : List ℕ → ℕ → Option ℕ
-module_in counts number = option_map (λ (p : Place). p.«module») (place_in counts number)
 
 -- a section or a common with its number; `sections` and `commons` are those that the plan places
 abbrev pub mapped_section : List Origin → Plan → (sections commons : List Section) → ℕ × Section → MappedSection

@@ -4,7 +4,8 @@ use Rattle.std.specs.List.{enumerate_from}
 use Rattle.mufom_sections.specs.declared.section.Section.{Section}
 use Rattle.mufom_place.specs.declared.placing.Extent.{Extent}
 use Rattle.mufom_origins.specs.declared.origins.Origin.{Origin}
-use Rattle.mufom_map.specs.Mapped.{MappedSection, module_in}
+use Rattle.mufom_origins.specs.Places.{module_in}
+use Rattle.mufom_map.specs.Mapped.{MappedSection}
 
 -- a common as it was before it was placed: it had no base
 abbrev pub bare : Section → Section

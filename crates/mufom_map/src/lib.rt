@@ -17,8 +17,6 @@ mod points;
 mod print;
 mod regions;
 mod room;
-mod words;
 
 pub use laws::{cells_cover_a_region, sections_are_in_order, used_room_counts_addresses};
 pub use print::print_map;
-pub use words::{counted, hex};

@@ -3,16 +3,16 @@
 ghost use Rattle.std.specs.Prelude.{◌≡◌, ◌+◌, ◌++◌, option_map};
 ghost use Rattle.std.specs.Fmt.{decimal};
 ghost use Rattle.mufom_text.specs.Fitting.{IsUnitCount};
+ghost use Rattle.mufom_text.specs.Digits.{counted};
 ghost use Rattle.mufom_text.specs.Words.{each, line};
-ghost use Rattle.mufom_map.specs.MapText.{counted, in_module, in_region, kind_word, module_line, placed_text, public_line, section_line, start_line};
+ghost use Rattle.mufom_map.specs.MapText.{in_module, in_region, kind_word, module_line, placed_text, public_line, section_line, start_line};
 ghost use Rattle.mufom_map.specs.Shown.{base_of};
 
 use crate::room::base_of;
-use crate::words::{counted, hex};
 use mufom_meaning::PublicValue;
 use mufom_origins::Origin;
 use mufom_sections::Section;
-use mufom_text::{Output, quoted};
+use mufom_text::{Output, counted, hex, quoted};
 
 // ---- modules
 

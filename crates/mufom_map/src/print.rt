@@ -7,7 +7,7 @@ ghost use Rattle.mufom_plan.specs.Names.{AreDistinctNames, listed_names};
 ghost use Rattle.mufom_meaning.specs.Flat.{flat_sections};
 ghost use Rattle.mufom_meaning.specs.Location.{IsLocation};
 ghost use Rattle.mufom_meaning.specs.Placed.{placed_commons};
-ghost use Rattle.mufom_map.specs.Mapped.{mapped_by, mapped_public, module_in};
+ghost use Rattle.mufom_map.specs.Mapped.{mapped_by, mapped_public};
 ghost use Rattle.mufom_map.specs.MapText.{by_key, map_text, public_line, section_line, total_line};
 ghost use Rattle.mufom_map.specs.Shown.{shown_sections};
 ghost use Rattle.mufom_map.specs.ShownMap.{shown};
@@ -16,7 +16,6 @@ use crate::lines::{module_lines, public_line, section_line, start_line};
 use crate::making::map_of;
 use crate::map::Map;
 use crate::regions::region_lines;
-use crate::words::counted;
 use mufom_host::Host;
 use mufom_located::Located;
 use mufom_meaning::Run;
@@ -24,7 +23,7 @@ use mufom_module::Module;
 use mufom_origins::{Origins, Place};
 use mufom_plan::Plan;
 use mufom_sections::Section;
-use mufom_text::{Lines, Output, PrintStop, print_lines};
+use mufom_text::{Lines, Output, PrintStop, counted, print_lines};
 use std::alloc::Global;
 
 // The position of the module of a place.

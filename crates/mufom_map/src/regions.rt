@@ -9,9 +9,8 @@ ghost use Rattle.mufom_map.specs.Points.{most_point};
 ghost use Rattle.mufom_map.specs.Shown.{section_extents};
 
 use crate::room::Room;
-use crate::words::{counted, hex};
 use mufom_plan::Region;
-use mufom_text::{Output, quoted};
+use mufom_text::{Output, counted, hex, quoted};
 
 // The number of cells of a bar.
 const CELLS: u32 = 32;

@@ -1,4 +1,4 @@
-//! Laws about modules and their files. Each law is the contract of a function with an empty body.
+//! Laws about modules and their files. Each law is the contract of a function that does nothing.
 
 ghost use Rattle.std.specs.Prelude.{◌≡◌, ◌≤◌, ℕ, Bool, List, true};
 ghost use Rattle.mufom_expr.specs.Tree.{Tree};
@@ -10,7 +10,10 @@ ghost use Rattle.mufom_module.specs.SpelledRecords.{positioned, are_listed};
 ghost use Rattle.mufom_module.specs.Grammar.{SpellsModule};
 ghost use Rattle.mufom_loads.specs.Lengths.{lengths_once};
 ghost use Rattle.mufom_module.specs.Defects.{IsValid};
+ghost use Rattle.mufom_module.specs.Made.{IsMade};
 ghost use Rattle.mufom_module.specs.Written.{weight};
+
+use crate::module::Module;
 
 /// The expression of a record is the tree that its bytes spell.
 pub fn expressions_are_as_spelled()
@@ -26,6 +29,15 @@ pub fn positions_stand_for_indexes()
 pub fn a_file_is_one_module()
     ensures { (m n : Parts) (bytes : List ℕ) (reads_debug : Bool) → SpellsModule m bytes reads_debug → SpellsModule n bytes reads_debug → m ≡ n }
 {}
+
+/// A module has no defect and is within the bounds of its types. The type guarantees this, but a proof
+/// knows it of a value only after a call that states it.
+pub fn a_module_is_valid(module: &Module)
+    ensures valid { IsValid «module».now }
+    ensures made { IsMade «module».now }
+{
+    let _parts = module.parts();
+}
 
 /// The number of bytes that a module loads, with the items of each repeat counted once, is at most its
 /// weight. So [`loaded_bytes`](mufom_loads::loaded_bytes) may be called with the loads of any module.

@@ -25,8 +25,8 @@ mod weight;
 
 pub use current::current_after;
 pub use laws::{
-    a_file_is_one_module, expressions_are_as_spelled, items_are_within_the_weight,
-    positions_stand_for_indexes,
+    a_file_is_one_module, a_module_is_valid, expressions_are_as_spelled,
+    items_are_within_the_weight, positions_stand_for_indexes,
 };
 pub use module::{Defect, Module, Order, Parts};
 pub use validity::assemble;

@@ -1,5 +1,5 @@
 //! Numbers and strings as object modules spell them, the errors that the bytes of a module can have,
-//! and the lists and texts that the other crates store.
+//! the limits of modules and files, and the lists and texts that the other crates store.
 //!
 //! This is the lowest layer: it depends only on `std`, `arrayvec`, `smallvec` and `thiserror`. Its
 //! main clause is that [`read_number`] and [`read_string`] accept exactly the spellings. If the input
@@ -9,6 +9,7 @@
 
 mod bytes;
 pub mod codes;
+mod digits;
 mod laws;
 pub mod limits;
 mod list;
@@ -19,6 +20,7 @@ mod taken;
 mod text;
 
 pub use bytes::Bytes;
+pub use digits::hex_digit;
 pub use laws::{number_spellings_exclude, shortest_spellings_are_read, string_spellings_exclude};
 pub use list::List;
 pub use memory::NoMemory;

@@ -1,5 +1,5 @@
 -- Numbering the entries of several lists: all entries are counted through the lists, in order.
-use Rattle.std.specs.Prelude.{ℕ, zero, suc, ◌+◌, ◌-◌, ◌<◌, ◌≤◌, length, slice_index, List, [], ◌∷◌, ◌++◌, take, drop, min, flat_map, Option, Some}
+use Rattle.std.specs.Prelude.{ℕ, zero, suc, ◌+◌, ◌-◌, ◌<◌, ◌≤◌, length, slice_index, List, [], ◌∷◌, ◌++◌, take, drop, min, flat_map, Option, Some, option_map}
 use Rattle.std.specs.Prelude.{None, option_to_list, slice_get, nat_lt, count_by, Bool, true, false, if◌then◌else◌}
 use Rattle.mufom_origins.specs.declared.origins.Place.{Place}
 
@@ -12,6 +12,10 @@ place_from position (count ∷ counts) number =
 -- the place of the entry with a number, in lists with these numbers of entries; none after the last entry
 abbrev pub place_in : List ℕ → ℕ → Option Place
 place_in counts number = place_from 0 counts number
+
+-- the list of the entry with a number, by its position
+abbrev pub module_in : List ℕ → ℕ → Option ℕ
+module_in counts number = option_map (λ (p : Place). p.«module») (place_in counts number)
 
 -- the number of entries up to the end of each list, with this many others before
 abbrev pub ends_from : ℕ → List ℕ → List ℕ

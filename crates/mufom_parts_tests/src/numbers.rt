@@ -1,7 +1,8 @@
 //! Tests of numbers and strings in each spelling, and of lists, byte strings and texts.
 
 use mufom_numbers::{
-    Bytes, List, Reason, Span, Taken, Text, number_spelling, read_number, read_string, string_lead,
+    Bytes, List, Reason, Span, Taken, Text, hex_digit, number_spelling, read_number, read_string,
+    string_lead,
 };
 use std::alloc::Global;
 use std::process::Abort;
@@ -176,4 +177,24 @@ fn lists_stand_in_a_type_that_holds_itself(rt: HostRuntime) {
     assert_eq!(rt; root.value, 1);
     assert_eq!(rt; root.below.len(), 2);
     assert_eq!(rt; root.below.get(1).map(|node| node.value), Some(3));
+}
+
+// Bytes, and their values as hexadecimal digits.
+static DIGITS: [(u8, Option<u8>); 9] = [
+    (b'/', None),
+    (b'0', Some(0)),
+    (b'9', Some(9)),
+    (b'A', Some(10)),
+    (b'F', Some(15)),
+    (b'G', None),
+    (b'a', Some(10)),
+    (b'f', Some(15)),
+    (b'g', None),
+];
+
+#[test]
+fn digits_have_values_of_either_case(rt: HostRuntime) {
+    for (byte, want) in &DIGITS {
+        assert_eq!(rt; hex_digit(*byte), *want, "{byte}");
+    }
 }

@@ -6,3 +6,4 @@ pub mod Terms
 pub mod Image
 pub mod Addresses
 pub mod Fitting
+pub mod Digits

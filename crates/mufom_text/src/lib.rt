@@ -13,6 +13,7 @@
 
 mod addresses;
 mod debug;
+mod digits;
 mod form;
 mod gathered;
 mod image;
@@ -28,6 +29,7 @@ mod sections;
 mod show;
 mod words;
 
+pub use digits::{counted, hex};
 pub use form::TextForm;
 pub use image_lines::print_image;
 pub use output::Output;

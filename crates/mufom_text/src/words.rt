@@ -5,12 +5,10 @@ ghost use Rattle.std.specs.Fmt.{decimal};
 ghost use Rattle.hex.specs.Hex.{encode_upper};
 ghost use Rattle.mufom_text.specs.Words.{quoted, quoted_byte, spaced_numbers, hex_bytes, indent};
 
+use crate::digits::DIGITS;
 use crate::output::Output;
 use crate::quoting::stands_for_itself;
 use itoa::Buffer;
-
-// The upper-case hexadecimal digits.
-const DIGITS: &[u8; 16] = b"0123456789ABCDEF";
 
 /// A number in decimal.
 pub fn number<K: Output>(out: &mut K, value: u64)

@@ -8,7 +8,8 @@ use Rattle.std.specs.Option.{option_and_then}
 use Rattle.mufom_numbers.specs.Spelling.{AreBytes, value_after}
 use Rattle.mufom_numbers.proofs.ShortestLaws.{bytes_high_first-bytes, to_be_bytes-value}
 use Rattle.mufom_numbers.proofs.Choices.{equal_numbers}
-use Rattle.mufom_titxt.specs.Lines.{hex_digit, hex_after, address_of, byte_of}
+use Rattle.mufom_numbers.specs.Digits.{hex_digit}
+use Rattle.mufom_titxt.specs.Lines.{hex_after, address_of, byte_of}
 use Rattle.mufom_titxt.specs.Written.{upper_digit, byte_digits, without_zeros, address_digits}
 
 -- ---- a digit
@@ -16,25 +17,26 @@ use Rattle.mufom_titxt.specs.Written.{upper_digit, byte_digits, without_zeros, a
 both : (s t : Bool) (x y : Option ℕ) → s ≡ true → t ≡ true → (if s && t then x else y) ≡ x
 both s t x y a b = rw (a, b) refl
 
-not_both : (s t : Bool) (x y : Option ℕ) → t ≡ false → (if s && t then x else y) ≡ y
-not_both true t x y e = rw e refl
-not_both false t x y e = refl
+below : (s t : Bool) (x y : Option ℕ) → s ≡ false → (if s && t then x else y) ≡ y
+below s t x y e = rw e refl
 
 decimal : (d : ℕ) → d < 10 → hex_digit (48 + d) ≡ Some d
 decimal d h =
+    let upper : nat_le 65 (48 + d) ≡ false = grind (arith, h) in
+    let lower : nat_le 97 (48 + d) ≡ false = grind (arith, h) in
     let low : nat_le 48 (48 + d) ≡ true = grind arith in
     let high : nat_le (48 + d) 57 ≡ true = grind (arith, h) in
     let back : 48 + d - 48 ≡ d = omega arith in
-    both (nat_le 48 (48 + d)) (nat_le (48 + d) 57) _ _ low high ∙ ap (λ n. Some n) back
+    below (nat_le 65 (48 + d)) (nat_le (48 + d) 70) _ _ upper
+    ∙ (below (nat_le 97 (48 + d)) (nat_le (48 + d) 102) _ _ lower
+    ∙ (both (nat_le 48 (48 + d)) (nat_le (48 + d) 57) _ _ low high ∙ ap (λ n. Some n) back))
 
 letter : (d : ℕ) → 10 ≤ d → d < 16 → hex_digit (55 + d) ≡ Some d
 letter d most h =
-    let past : nat_le (55 + d) 57 ≡ false = grind (arith, most) in
     let low : nat_le 65 (55 + d) ≡ true = grind (arith, most) in
     let high : nat_le (55 + d) 70 ≡ true = grind (arith, h) in
     let back : 55 + d - 55 ≡ d = omega arith in
-    not_both (nat_le 48 (55 + d)) (nat_le (55 + d) 57) _ _ past
-    ∙ (both (nat_le 65 (55 + d)) (nat_le (55 + d) 70) _ _ low high ∙ ap (λ n. Some n) back)
+    both (nat_le 65 (55 + d)) (nat_le (55 + d) 70) _ _ low high ∙ ap (λ n. Some n) back
 
 -- a digit spells its value
 digit_back : (d : ℕ) → d < 16 → hex_digit (upper_digit d) ≡ Some d

@@ -5,6 +5,7 @@ use Rattle.std.specs.Prelude.{◌==◌, slice_get, option_map, unwrap_or, Contai
 use Rattle.std.specs.List.{enumerate_from}
 use Rattle.std.proofs.Math.Nat.{mod-eq_of_lt}
 use Rattle.std.proofs.lemmas.List.{take-append-drop}
+use Rattle.mufom_numbers.specs.declared.limits.TheConstants.{MOST_STRING_BYTES as longest}
 use Rattle.mufom_sections.specs.declared.section.Section.{Section}
 use Rattle.mufom_loads.specs.declared.load.Item.TheVariants.{Literal}
 use Rattle.mufom_loads.specs.declared.load.Load.{Load}
@@ -83,7 +84,7 @@ module _ (order : Order) (s : Setting) (site : Sited) where
             ∙ ap (λ (l : List Cell). l ++ cells) (sym (cells_from-append at p rest) ∙ ap (cells_from at) cut)),
       )
 
-  rest_few : (b most : ℕ) (bytes : List ℕ) → suc (length bytes) ≤ suc most → length (drop 65535 (b ∷ bytes)) ≤ most
+  rest_few : (b most : ℕ) (bytes : List ℕ) → suc (length bytes) ≤ suc most → length (drop longest (b ∷ bytes)) ≤ most
   rest_few b most bytes few = let left = length-drop 65534 bytes in omega (arith, few, left)
 
   -- the literals of bytes
@@ -95,9 +96,9 @@ module _ (order : Order) (s : Setting) (site : Sited) where
   literals_walk n (suc most) [] at earlier few ready lies later loads cells after = after earlier later
   literals_walk n zero (b ∷ bytes) at earlier few ready lies later loads cells after = absurd (omega (arith, few))
   literals_walk n (suc most) (b ∷ bytes) at earlier few ready lies later loads cells after =
-      literal_first n (take 65535 (b ∷ bytes)) (drop 65535 (b ∷ bytes)) (b ∷ bytes) (take-append-drop 65535 (b ∷ bytes)) at earlier
-      (ready (some bytes)) lies later (steps_of site (Some n) (literals most (drop 65535 (b ∷ bytes)) ++ loads)) cells
-      (λ e start left unmoved. literals_walk n most (drop 65535 (b ∷ bytes)) (at + length (take 65535 (b ∷ bytes))) e
+      literal_first n (take longest (b ∷ bytes)) (drop longest (b ∷ bytes)) (b ∷ bytes) (take-append-drop longest (b ∷ bytes)) at earlier
+      (ready (some bytes)) lies later (steps_of site (Some n) (literals most (drop longest (b ∷ bytes)) ++ loads)) cells
+      (λ e start left unmoved. literals_walk n most (drop longest (b ∷ bytes)) (at + length (take longest (b ∷ bytes))) e
       (rest_few b most bytes few) start left unmoved loads cells after) where
         some : (bytes : List ℕ) → 0 < suc (length bytes)
         some bytes = omega arith

@@ -3,6 +3,7 @@ use Rattle.std.proofs.Common.{◌≡◌, ℕ, zero, suc, ◌<◌, ◌≤◌, min
 use Rattle.std.specs.Prelude.{nat_lt}
 use Rattle.std.proofs.Math.ListN.{drop_of_length-le}
 use Rattle.std.proofs.lemmas.List.{length-drop, take_all}
+use Rattle.mufom_numbers.specs.declared.limits.TheConstants.{MOST_STRING_BYTES}
 use Rattle.mufom_numbers.proofs.Choices.{of_lt, of_not_lt}
 use Rattle.mufom_loads.specs.declared.load.Item.TheVariants.{Literal}
 use Rattle.mufom_loads.specs.declared.load.Load.{Load}
@@ -19,32 +20,32 @@ literals-enough (suc m) zero (b ∷ bytes) few less = absurd (omega (arith, less
 literals-enough (suc m) (suc n) [] few less = refl
 literals-enough (suc m) (suc n) (b ∷ bytes) few less =
     let e = length-drop 65534 bytes in
-    ap (λ (loads : List Load). One (Literal (take 65535 (b ∷ bytes))) ∷ loads)
-    (literals-enough m n (drop 65535 (b ∷ bytes)) (omega (arith, few, e)) (omega (arith, less, e)))
+    ap (λ (loads : List Load). One (Literal (take MOST_STRING_BYTES (b ∷ bytes))) ∷ loads)
+    (literals-enough m n (drop MOST_STRING_BYTES (b ∷ bytes)) (omega (arith, few, e)) (omega (arith, less, e)))
 
 -- the first literal
-pub literals-step : (n : ℕ) (rest : List ℕ) → 0 < length rest → n ≡ min (length rest) 65535
+pub literals-step : (n : ℕ) (rest : List ℕ) → 0 < length rest → n ≡ min (length rest) MOST_STRING_BYTES
     → literals (length rest) rest ≡ One (Literal (take n rest)) ∷ literals (length (drop n rest)) (drop n rest)
 literals-step n [] some e = absurd (omega (arith, some))
 literals-step n (b ∷ bytes) some e =
-    let same : take 65535 (b ∷ bytes) ≡ take n (b ∷ bytes) = by_take (nat_lt 65535 (length (b ∷ bytes))) refl in
-    let left : drop 65535 (b ∷ bytes) ≡ drop n (b ∷ bytes) = by_drop (nat_lt 65535 (length (b ∷ bytes))) refl in
+    let same : take MOST_STRING_BYTES (b ∷ bytes) ≡ take n (b ∷ bytes) = by_take (nat_lt MOST_STRING_BYTES (length (b ∷ bytes))) refl in
+    let left : drop MOST_STRING_BYTES (b ∷ bytes) ≡ drop n (b ∷ bytes) = by_drop (nat_lt MOST_STRING_BYTES (length (b ∷ bytes))) refl in
     let count = length-drop n (b ∷ bytes) in
     let most : 1 ≤ n = omega (arith, e) in
-    ap (λ (part : List ℕ). One (Literal part) ∷ literals (length bytes) (drop 65535 (b ∷ bytes))) same
+    ap (λ (part : List ℕ). One (Literal part) ∷ literals (length bytes) (drop MOST_STRING_BYTES (b ∷ bytes))) same
     ∙ (ap (λ (rest : List ℕ). One (Literal (take n (b ∷ bytes))) ∷ literals (length bytes) rest) left
     ∙ ap (λ (loads : List Load). One (Literal (take n (b ∷ bytes))) ∷ loads)
     (literals-enough (length bytes) (length (drop n (b ∷ bytes))) (drop n (b ∷ bytes)) (omega (arith, count, most)) (omega arith))) where
-      by_take : (t : Bool) → nat_lt 65535 (length (b ∷ bytes)) ≡ t → take 65535 (b ∷ bytes) ≡ take n (b ∷ bytes)
-      by_take true less = let more : 65535 < length (b ∷ bytes) = of_lt _ _ less in
-          let same : n ≡ 65535 = omega (arith, e, more) in ap (λ k. take k (b ∷ bytes)) (sym same)
-      by_take false less = let few : length (b ∷ bytes) ≤ 65535 = of_not_lt _ _ less in
+      by_take : (t : Bool) → nat_lt MOST_STRING_BYTES (length (b ∷ bytes)) ≡ t → take MOST_STRING_BYTES (b ∷ bytes) ≡ take n (b ∷ bytes)
+      by_take true less = let more : MOST_STRING_BYTES < length (b ∷ bytes) = of_lt _ _ less in
+          let same : n ≡ MOST_STRING_BYTES = omega (arith, e, more) in ap (λ k. take k (b ∷ bytes)) (sym same)
+      by_take false less = let few : length (b ∷ bytes) ≤ MOST_STRING_BYTES = of_not_lt _ _ less in
           let same : n ≡ length (b ∷ bytes) = omega (arith, e, few) in
-          take_all 65535 (b ∷ bytes) few ∙ sym (take_all n (b ∷ bytes) (omega (arith, same)))
+          take_all MOST_STRING_BYTES (b ∷ bytes) few ∙ sym (take_all n (b ∷ bytes) (omega (arith, same)))
 
-      by_drop : (t : Bool) → nat_lt 65535 (length (b ∷ bytes)) ≡ t → drop 65535 (b ∷ bytes) ≡ drop n (b ∷ bytes)
-      by_drop true less = let more : 65535 < length (b ∷ bytes) = of_lt _ _ less in
-          let same : n ≡ 65535 = omega (arith, e, more) in ap (λ k. drop k (b ∷ bytes)) (sym same)
-      by_drop false less = let few : length (b ∷ bytes) ≤ 65535 = of_not_lt _ _ less in
+      by_drop : (t : Bool) → nat_lt MOST_STRING_BYTES (length (b ∷ bytes)) ≡ t → drop MOST_STRING_BYTES (b ∷ bytes) ≡ drop n (b ∷ bytes)
+      by_drop true less = let more : MOST_STRING_BYTES < length (b ∷ bytes) = of_lt _ _ less in
+          let same : n ≡ MOST_STRING_BYTES = omega (arith, e, more) in ap (λ k. drop k (b ∷ bytes)) (sym same)
+      by_drop false less = let few : length (b ∷ bytes) ≤ MOST_STRING_BYTES = of_not_lt _ _ less in
           let same : length (b ∷ bytes) ≤ n = omega (arith, e, few) in
           drop_of_length-le (b ∷ bytes) few ∙ sym (drop_of_length-le (b ∷ bytes) same)

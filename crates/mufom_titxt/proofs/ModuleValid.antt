@@ -5,6 +5,7 @@ use Rattle.std.specs.Prelude.{◌||◌, nat_le, ◌==◌}
 use Rattle.std.specs.List.{find, list_any}
 use Rattle.std.proofs.lemmas.List.{length-take, length-append, take-append-drop}
 use Rattle.std.proofs.lemmas.List.Sums.{sum_by-append}
+use Rattle.mufom_numbers.specs.declared.limits.TheConstants.{MOST_STRING_BYTES as longest}
 use Rattle.mufom_sections.specs.declared.section.Section.{Section}
 use Rattle.mufom_loads.specs.declared.load.Item.TheVariants.{Literal, Field}
 use Rattle.mufom_loads.specs.declared.load.Load.{Load}
@@ -47,7 +48,7 @@ abbrev pub ArePlain : ℕ → List Load → Type 0
 ArePlain n [] = Unit {0}
 ArePlain n (SetSection section ∷ loads) = (section < n) × ArePlain n loads
 ArePlain n (SetPc section value ∷ loads) = ⊥
-ArePlain n (One (Literal bytes) ∷ loads) = (length bytes ≤ 65535) × ArePlain n loads
+ArePlain n (One (Literal bytes) ∷ loads) = (length bytes ≤ longest) × ArePlain n loads
 ArePlain n (One (Field kind size value) ∷ loads) = ⊥
 ArePlain n (Repeat count items ∷ loads) = ⊥
 
@@ -67,7 +68,7 @@ plain-literals : (n most : ℕ) (bytes : List ℕ) → ArePlain n (literals most
 plain-literals n zero [] = tt
 plain-literals n (suc most) [] = tt
 plain-literals n zero (b ∷ bytes) = tt
-plain-literals n (suc most) (b ∷ bytes) = (taken_most 65535 (b ∷ bytes), plain-literals n most (drop 65535 (b ∷ bytes)))
+plain-literals n (suc most) (b ∷ bytes) = (taken_most longest (b ∷ bytes), plain-literals n most (drop longest (b ∷ bytes)))
 
 plain-loads : (n section : ℕ) (runs : List Run) → section + length runs ≤ n → ArePlain n (loads_from section runs)
 plain-loads n section [] few = tt
@@ -110,7 +111,7 @@ short : (n : ℕ) (loads : List Load) → ArePlain n loads → list_any (any_ite
 short n [] p = refl
 short n (SetSection section ∷ loads) p = short n loads p.1
 short n (SetPc section value ∷ loads) p = absurd p
-short n (One (Literal bytes) ∷ loads) p = two_false (is_long bytes) (list_any (any_item is_long_literal) loads) (not_lt 65535 (length bytes) p.0)
+short n (One (Literal bytes) ∷ loads) p = two_false (is_long bytes) (list_any (any_item is_long_literal) loads) (not_lt longest (length bytes) p.0)
     (short n loads p.1)
 short n (One (Field kind size value) ∷ loads) p = absurd p
 short n (Repeat count items ∷ loads) p = absurd p
@@ -155,9 +156,9 @@ literals_weigh zero [] = omega arith
 literals_weigh (suc most) [] = omega arith
 literals_weigh zero (b ∷ bytes) = omega arith
 literals_weigh (suc most) (b ∷ bytes) =
-    let e = sum_by-append load_weight (One (Literal (take 65535 (b ∷ bytes))) ∷ []) (literals most (drop 65535 (b ∷ bytes))) in
-    one_more_literal _ _ _ (length (take 65535 (b ∷ bytes))) (length (drop 65535 (b ∷ bytes))) (length (b ∷ bytes)) e
-    (own (take 65535 (b ∷ bytes))) (literals_weigh most (drop 65535 (b ∷ bytes))) (cut 65535 (b ∷ bytes)) (some_taken 65534 b bytes) where
+    let e = sum_by-append load_weight (One (Literal (take longest (b ∷ bytes))) ∷ []) (literals most (drop longest (b ∷ bytes))) in
+    one_more_literal _ _ _ (length (take longest (b ∷ bytes))) (length (drop longest (b ∷ bytes))) (length (b ∷ bytes)) e
+    (own (take longest (b ∷ bytes))) (literals_weigh most (drop longest (b ∷ bytes))) (cut longest (b ∷ bytes)) (some_taken 65534 b bytes) where
       own : (part : List ℕ) → sum_by load_weight (One (Literal part) ∷ []) ≡ 10 + length part
       own part = omega arith
 

@@ -6,7 +6,7 @@ use Rattle.std.proofs.lemmas.Bool.{cases_lt}
 use Rattle.std.proofs.lemmas.List.{take-append-drop}
 use Rattle.std.proofs.lemmas.List.Elements.{All-contains}
 use Rattle.std.proofs.lemmas.List.Sums.{sum_by-cons}
-use Rattle.mufom_numbers.specs.declared.limits.TheConstants.{MOST_IMAGE_BYTES}
+use Rattle.mufom_numbers.specs.declared.limits.TheConstants.{MOST_IMAGE_BYTES, MOST_STRING_BYTES as longest}
 use Rattle.mufom_sections.specs.declared.section.Section.{Section}
 use Rattle.mufom_loads.specs.declared.load.Item.TheVariants.{Literal}
 use Rattle.mufom_loads.specs.declared.load.Load.{Load}
@@ -98,10 +98,10 @@ literals_loaded zero [] loads few = sym (zero-add (sum_by length_loaded loads))
 literals_loaded (suc most) [] loads few = sym (zero-add (sum_by length_loaded loads))
 literals_loaded zero (b ∷ bytes) loads few = absurd (omega (arith, few))
 literals_loaded (suc most) (b ∷ bytes) loads few =
-    sum_by-cons length_loaded (One (Literal (take 65535 (b ∷ bytes)))) (literals most (drop 65535 (b ∷ bytes)) ++ loads)
-    ∙ (ap (λ n. length (take 65535 (b ∷ bytes)) + n) (literals_loaded most (drop 65535 (b ∷ bytes)) loads (left b bytes most few))
-    ∙ both (take 65535 (b ∷ bytes)) (drop 65535 (b ∷ bytes)) (b ∷ bytes) (sum_by length_loaded loads) (take-append-drop 65535 (b ∷ bytes))) where
-      left : (b : ℕ) (bytes : List ℕ) (most : ℕ) → suc (length bytes) ≤ suc most → length (drop 65535 (b ∷ bytes)) ≤ most
+    sum_by-cons length_loaded (One (Literal (take longest (b ∷ bytes)))) (literals most (drop longest (b ∷ bytes)) ++ loads)
+    ∙ (ap (λ n. length (take longest (b ∷ bytes)) + n) (literals_loaded most (drop longest (b ∷ bytes)) loads (left b bytes most few))
+    ∙ both (take longest (b ∷ bytes)) (drop longest (b ∷ bytes)) (b ∷ bytes) (sum_by length_loaded loads) (take-append-drop longest (b ∷ bytes))) where
+      left : (b : ℕ) (bytes : List ℕ) (most : ℕ) → suc (length bytes) ≤ suc most → length (drop longest (b ∷ bytes)) ≤ most
       left b bytes most few = let rest = length-drop 65534 bytes in omega (arith, few, rest)
 
       both : (p q whole : List ℕ) (n : ℕ) → p ++ q ≡ whole → length p + (length q + n) ≡ length whole + n

@@ -15,9 +15,10 @@ use Rattle.mufom_numbers.proofs.Choices.{equal_numbers, some_same}
 use Rattle.std.proofs.lemmas.List.Elements.{All-contains}
 use Rattle.mufom_meaning.proofs.Members.{Contains-In, In, In-Contains, In-append, In-left, In-map, In-right}
 use Rattle.mufom_meaning.proofs.locations.CellRuns.{AreRising, rising-In, run_cells-rise}
+use Rattle.mufom_numbers.specs.Digits.{hex_digit}
 use Rattle.mufom_titxt.specs.Lines.{Line, blank_line, address_line, byte_line, end_line, address_of, alone, byte_of, bytes_of, ended_lines, has_bytes}
 use Rattle.mufom_titxt.specs.Lines.{line_of, line_of_words, lines_of, without_return, words_of}
-use Rattle.mufom_titxt.specs.Lines.{hex_digit, hex_after}
+use Rattle.mufom_titxt.specs.Lines.{hex_after}
 use Rattle.mufom_titxt.specs.TextModules.{EndBelow, HaveModule, HaveText}
 use Rattle.mufom_titxt.specs.Texts.{IsTxtOf, SoFar, cells_after, cells_at, cells_on, line_cells, nothing_stated, so_far, txt_cells}
 use Rattle.mufom_titxt.proofs.AcceptLaws.{accepted_is_map}
@@ -252,11 +253,11 @@ half-of-text text =
 
 digit-small : (b d : ℕ) → hex_digit b ≡ Some d → d < 16
 digit-small b d e =
-    let lower : Option ℕ = if nat_le 97 b && nat_le b 102 then Some (b - 87) else None in
-    let letters : Option ℕ = if nat_le 65 b && nat_le b 70 then Some (b - 55) else lower in
-    one (nat_le 48 b) (nat_le b 57) (b - 48) letters (λ t. below 57 48 t (omega arith))
-    (one (nat_le 65 b) (nat_le b 70) (b - 55) lower (λ t. below 70 55 t (omega arith))
-    (one (nat_le 97 b) (nat_le b 102) (b - 87) None (λ t. below 102 87 t (omega arith)) (λ f. absurd (cc f)))) e where
+    let figures : Option ℕ = if nat_le 48 b && nat_le b 57 then Some (b - 48) else None in
+    let lower : Option ℕ = if nat_le 97 b && nat_le b 102 then Some (b - 87) else figures in
+    one (nat_le 65 b) (nat_le b 70) (b - 55) lower (λ t. below 70 55 t (omega arith))
+    (one (nat_le 97 b) (nat_le b 102) (b - 87) figures (λ t. below 102 87 t (omega arith))
+    (one (nat_le 48 b) (nat_le b 57) (b - 48) None (λ t. below 57 48 t (omega arith)) (λ f. absurd (cc f)))) e where
       below : (most from : ℕ) → nat_le b most ≡ true → most < from + 16 → b - from < 16
       below most from t near = let low : b ≤ most = grind (arith, t) in omega (arith, low, near)
 

@@ -6,7 +6,8 @@ use Rattle.std.specs.Prelude.{◌==◌}
 use Rattle.std.specs.List.{position_or_len}
 use Rattle.std.proofs.lemmas.Bool.{eqb-true}
 use Rattle.std.proofs.lemmas.List.Sums.{position_or_len_is}
-use Rattle.mufom_titxt.specs.Lines.{hex_digit, byte_of, bytes_of, words_of}
+use Rattle.mufom_numbers.specs.Digits.{hex_digit}
+use Rattle.mufom_titxt.specs.Lines.{byte_of, bytes_of, words_of}
 use Rattle.mufom_titxt.proofs.LineLaws.{words_space, words_to_space}
 
 -- a digit more

@@ -10,15 +10,15 @@ use Rattle.mufom_meaning.specs.Walk.{first_twice}
 use Rattle.mufom_image_bytes.specs.Chunks.{cell_addresses}
 use Rattle.mufom_image_bytes.specs.Images.{AreLow, IsRefusal}
 use Rattle.mufom_image_bytes.specs.Stops.{fact_of}
-use Rattle.mufom_image_bytes.specs.declared.stop.LoadStop.{LoadStop}
-use Rattle.mufom_image_bytes.specs.declared.stop.LoadStop.TheVariants as stops
-use Rattle.mufom_image_bytes.specs.declared.refusal.ImageRefusal.{ImageRefusal}
-use Rattle.mufom_image_bytes.specs.declared.refusal.ImageRefusal.TheVariants as refusals
+use Rattle.mufom_image_bytes.specs.declared.refusal.LoadRefusal.{LoadRefusal}
+use Rattle.mufom_image_bytes.specs.declared.refusal.LoadRefusal.TheVariants as refusals
+use Rattle.mufom_image_bytes.specs.declared.stop.ImageStop.{ImageStop}
+use Rattle.mufom_image_bytes.specs.declared.stop.ImageStop.TheVariants as stops
 use Rattle.mufom_titxt.specs.declared.refusal.TxtReason.TheVariants.{Twice}
 use Rattle.mufom_titxt.specs.declared.refusal.TxtRefusal.{TxtRefusal}
 use Rattle.mufom_titxt.specs.declared.refusal.TxtStop.{TxtStop}
 use Rattle.mufom_titxt.specs.declared.refusal.TxtStop.TheVariants as answers
-use Rattle.mufom_titxt.specs.Rows.{NamesTwice}
+use Rattle.mufom_titxt.specs.Twice.{NamesTwice}
 use Rattle.mufom_titxt.specs.Lines.{Line, line_of, lines_of}
 use Rattle.mufom_titxt.specs.Texts.{nothing_stated, refusal_at, refusal_after, txt_refusal, IsTxtOf}
 use Rattle.mufom_titxt.specs.Reading.{Place, cells_read, places_read, stop_read, second_line}
@@ -61,7 +61,7 @@ module _ (text : List ℕ) (width modulus : ℕ) (same : modulus ≡ 2 ^ width) 
   refused_by_twice a twice = refusal_is
       ∙ ap (λ o. o or_else stop_read modulus 0 nothing_stated lines) (second-some places [] a (ap (first_twice []) addresses ∙ twice))
 
-  -- if nothing stopped it either, the text is one of the rows
+  -- if nothing stopped it either, the text is one of these runs
   pub accepted_text : (runs : List Run) → first_twice [] (cell_addresses cells) ≡ None
       → None ≡ stop_read modulus 0 nothing_stated (map line_of (lines_of text)) → AreRunsOf cells runs → IsTxtOf text width runs
   accepted_text runs once whole rows = record {
@@ -76,21 +76,21 @@ or_none None = refl
 or_none (Some fact) = refl
 
 -- a refusal of bytes names such an address
-pub refusal_names : (cells : List Cell) (refusal : ImageRefusal) (stop : LoadStop) → AreLow cells → refusal ≡ refusals.Stopped stop
+pub refusal_names : (cells : List Cell) (refusal : ImageStop) (stop : LoadRefusal) → AreLow cells → refusal ≡ stops.Refused stop
     → IsRefusal cells None refusal → NamesTwice (fact_of stop)
 refusal_names cells refusal stop low is h =
-    let P : ImageRefusal → Type 0 = λ r. IsRefusal cells None r in
-    let stopped : IsRefusal cells None (refusals.Stopped stop) = subst P is h in
+    let P : ImageStop → Type 0 = λ r. IsRefusal cells None r in
+    let stopped : IsRefusal cells None (stops.Refused stop) = subst P is h in
     let named = twice-names (cell_addresses cells) [] (fact_of stop) (sym (or_none (first_twice [] (cell_addresses cells))) ∙ stopped low) in
     record { address = named.0; same = named.1 }
 
 -- no other stop does
-pub names_only : (stop : LoadStop) → NamesTwice (fact_of stop) → ((a : ℕ) → stop ≡ stops.Twice a → ⊥) → ⊥
-names_only (stops.Counter section) h other = cc h.same
-names_only (stops.Field section address) h other = cc h.same
-names_only (stops.Outside section address) h other = cc h.same
-names_only (stops.Overflow section address kind size value) h other = cc h.same
-names_only (stops.Twice address) h other = other address refl
+pub names_only : (stop : LoadRefusal) → NamesTwice (fact_of stop) → ((a : ℕ) → stop ≡ refusals.Twice a → ⊥) → ⊥
+names_only (refusals.Counter section) h other = cc h.same
+names_only (refusals.Field section address) h other = cc h.same
+names_only (refusals.Outside section address) h other = cc h.same
+names_only (refusals.Overflow section address kind size value) h other = cc h.same
+names_only (refusals.Twice address) h other = other address refl
 
 -- a refusal in an answer
 pub refused_same : (r s : TxtRefusal) → ◌≡◌ {A = Result (List Run) TxtStop} (Err (answers.Refused r)) (Err (answers.Refused s)) → r ≡ s

@@ -4,4 +4,4 @@ pub mod Written
 pub mod TextModules
 pub mod Scans
 pub mod Reading
-pub mod Rows
+pub mod Twice

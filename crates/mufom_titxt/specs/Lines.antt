@@ -1,8 +1,9 @@
 -- The lines of a TI-TXT text, and what each line states.
-use Rattle.std.specs.Prelude.{ℕ, ◌+◌, ◌-◌, ◌*◌, ◌==◌, ◌&&◌, ◌||◌, nat_le, Bool, true, false, not, List, [], ◌∷◌, length, filter, Option, Some, None}
+use Rattle.std.specs.Prelude.{ℕ, ◌+◌, ◌*◌, ◌==◌, ◌&&◌, ◌||◌, nat_le, Bool, true, false, not, List, [], ◌∷◌, length, filter, Option, Some, None}
 use Rattle.std.specs.Prelude.{option_map, if◌then◌else◌}
 use Rattle.std.specs.List.{slice_split}
 use Rattle.std.specs.Option.{option_and_then}
+use Rattle.mufom_numbers.specs.Digits.{hex_digit}
 
 -- ---- lines and words
 
@@ -32,12 +33,6 @@ abbrev pub words_of : List ℕ → List (List ℕ)
 words_of line = filter has_bytes (slice_split (λ b. b == 32) line)
 
 -- ---- hexadecimal digits
-
--- the value of a hexadecimal digit, of either case
-abbrev pub hex_digit : ℕ → Option ℕ
-hex_digit b = if nat_le 48 b && nat_le b 57 then Some (b - 48)
-    else if nat_le 65 b && nat_le b 70 then Some (b - 55)
-    else if nat_le 97 b && nat_le b 102 then Some (b - 87) else None
 
 -- the number that the digits spell, after other digits that spell `high`
 abbrev pub hex_after : ℕ → List ℕ → Option ℕ

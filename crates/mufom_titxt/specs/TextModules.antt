@@ -1,6 +1,7 @@
 -- The module of the runs of a text.
 use Rattle.std.specs.Prelude.{ℕ, zero, suc, ◌+◌, ◌^◌, ◌≤◌, List, [], ◌∷◌, ◌++◌, map, length, sum_by, take, drop, Some, None, codes, true}
 use Rattle.std.specs.List.{AllByRecursion}
+use Rattle.mufom_numbers.specs.declared.limits.TheConstants.{MOST_STRING_BYTES}
 use Rattle.mufom_numbers.specs.Spelling.{AreBytes}
 use Rattle.mufom_sections.specs.declared.section.Section.{Section}
 use Rattle.mufom_loads.specs.declared.load.Item.TheVariants.{Literal}
@@ -20,7 +21,7 @@ run_section run = record { name = codes "txt"; absolute = true; purpose = None; 
 abbrev pub literals : (most : ℕ) → List ℕ → List Load
 literals most [] = []
 literals zero (b ∷ bytes) = []
-literals (suc most) (b ∷ bytes) = One (Literal (take 65535 (b ∷ bytes))) ∷ literals most (drop 65535 (b ∷ bytes))
+literals (suc most) (b ∷ bytes) = One (Literal (take MOST_STRING_BYTES (b ∷ bytes))) ∷ literals most (drop MOST_STRING_BYTES (b ∷ bytes))
 
 -- the loads of a run, whose section has this position
 abbrev pub run_loads : ℕ → Run → List Load

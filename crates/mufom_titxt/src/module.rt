@@ -8,12 +8,10 @@ ghost use Rattle.mufom_titxt.specs.TextModules.{run_section, literals, loads_fro
 use mufom_loads::{Item, Load};
 use mufom_meaning::Run;
 use mufom_module::{Module, Order, Parts};
+use mufom_numbers::limits::MOST_STRING_BYTES;
 use mufom_numbers::{Bytes, List, NoMemory};
 use mufom_sections::Section;
 use std::alloc::Global;
-
-// The greatest length of a literal, in bytes.
-const MOST_LITERAL: usize = 65_535;
 
 // The section of a run.
 fn run_section(alloc: Global, run: &Run) -> Result<Section, NoMemory>
@@ -46,7 +44,7 @@ fn add_literals(alloc: Global, loads: &mut List<Load>, bytes: &[u8]) -> Result<(
 {
     let mut rest = bytes;
     while !rest.is_empty() {
-        let (part, after) = rest.split_at(rest.len().min(MOST_LITERAL));
+        let (part, after) = rest.split_at(rest.len().min(MOST_STRING_BYTES));
         loads.push(Load::One(Item::Literal(Bytes::from_slice(alloc, part)?)))?;
         rest = after;
     }

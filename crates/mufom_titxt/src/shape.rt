@@ -1,11 +1,12 @@
 //! What a line of a text states.
 
 ghost use Rattle.std.specs.Prelude.{◌≡◌, Some, ◌≤◌, ◌<◌, [], length, IsTrue, ◌↔◌, is_some, IfSome, option_map, ◌==◌, ◌&&◌, ◌||◌, not, ◌∷◌, MatchOption};
-ghost use Rattle.mufom_titxt.specs.Lines.{has_bytes, hex_digit, hex_after, address_of, byte_of, bytes_of, words_of, line_of, address_line, byte_line};
+ghost use Rattle.mufom_titxt.specs.Lines.{has_bytes, hex_after, address_of, byte_of, bytes_of, words_of, line_of, address_line, byte_line};
 ghost use Rattle.mufom_titxt.specs.Scans.{shape_of, alone_shape, bytes_from};
 
 use crate::lines::next_word;
 use arrayvec::ArrayVec;
+use mufom_numbers::hex_digit;
 
 /// What a line states, except for its bytes.
 #[derive(Clone, Copy, Debug)]
@@ -22,19 +23,6 @@ pub(crate) const MOST_SHORT_BYTES: usize = 32;
 
 // The most digits of an address.
 const MOST_DIGITS: usize = 16;
-
-// The value of a hexadecimal digit.
-fn hex_digit(byte: u8) -> Option<u8>
-    ensures value { result ≡ hex_digit byte }
-    ensures low { IfSome result (λ d. d < 16) }
-{
-    match byte {
-        b'0'..=b'9' => Some(byte - b'0'),
-        b'A'..=b'F' => Some(byte - b'A' + 10),
-        b'a'..=b'f' => Some(byte - b'a' + 10),
-        _ => None,
-    }
-}
 
 // The number that digits spell.
 fn hex_number(digits: &[u8]) -> Option<u64>

@@ -16,48 +16,48 @@ ghost use Rattle.mufom_titxt.specs.Lines.{line_of, lines_of};
 ghost use Rattle.mufom_titxt.specs.TextModules.{HaveModule};
 ghost use Rattle.mufom_titxt.specs.Texts.{nothing_stated, refusal_at, txt_refusal, IsTxtOf};
 ghost use Rattle.mufom_titxt.specs.Reading.{cells_read, places_read, stop_read, second_line};
-ghost use Rattle.mufom_titxt.specs.Rows.{IsTwice, NamesTwice};
+ghost use Rattle.mufom_titxt.specs.Twice.{IsTwice, NamesTwice};
 
 use crate::lines::next_line;
 use crate::reading::Reading;
 use crate::refusal::{TxtReason, TxtRefusal, TxtStop};
 use crate::store::Store;
-use mufom_image_bytes::{ImageRefusal, LoadStop, Loaded, runs_of_loaded};
+use mufom_image_bytes::{ImageStop, LoadRefusal, Loaded, runs_of_loaded};
 use mufom_meaning::Run;
 use mufom_numbers::{List, NoMemory};
 use std::alloc::Global;
 
 // Why bytes could not be joined into runs.
 #[derive(Clone, Copy, Debug)]
-enum RowsStop {
+enum RunsStop {
     // The first address with two bytes.
     Twice(u64),
     NoMemory,
 }
 
 // The address with two bytes.
-fn twice_address(stop: LoadStop) -> u64
+fn twice_address(stop: LoadRefusal) -> u64
     requires { NamesTwice (fact_of stop) }
     ensures { fact_of stop ≡ loaded_twice result }
 {
     match stop {
-        LoadStop::Twice { address } => address,
+        LoadRefusal::Twice { address } => address,
         _ => unreachable!(),
     }
 }
 
-// The runs of bytes.
-fn rows(alloc: Global, loaded: Loaded) -> Result<List<Run>, RowsStop>
+// The runs of loaded bytes.
+fn joined_runs(alloc: Global, loaded: Loaded) -> Result<List<Run>, RunsStop>
     requires tiled { IsTiled loaded }
     requires low { AreLow (loaded_cells loaded) }
     ensures once { IfOk result (λ runs. first_twice [] (cell_addresses (loaded_cells loaded)) ≡ None) }
-    ensures rows { IfOk result (λ runs. AreRunsOf (loaded_cells loaded) runs) }
+    ensures runs { IfOk result (λ runs. AreRunsOf (loaded_cells loaded) runs) }
     ensures twice { IfErr result (IsTwice (first_twice [] (cell_addresses (loaded_cells loaded)))) }
 {
     match runs_of_loaded(alloc, loaded, None) {
         Ok(runs) => Ok(runs),
-        Err(ImageRefusal::NoMemory) => Err(RowsStop::NoMemory),
-        Err(ImageRefusal::Stopped(stop)) => Err(RowsStop::Twice(twice_address(stop))),
+        Err(ImageStop::NoMemory) => Err(RunsStop::NoMemory),
+        Err(ImageStop::Refused(stop)) => Err(RunsStop::Twice(twice_address(stop))),
     }
 }
 
@@ -149,13 +149,13 @@ pub fn read_txt(alloc: Global, text: &[u8], maus: u8) -> Result<List<Run>, TxtSt
 {
     let modulus = modulus_of(maus);
     let (loaded, stop) = loaded_of(alloc, modulus, text)?;
-    match rows(alloc, loaded) {
+    match joined_runs(alloc, loaded) {
         Ok(runs) => match stop {
             None => Ok(runs),
             Some(refusal) => Err(TxtStop::Refused(refusal)),
         },
-        Err(RowsStop::NoMemory) => Err(TxtStop::NoMemory),
-        Err(RowsStop::Twice(address)) => {
+        Err(RunsStop::NoMemory) => Err(TxtStop::NoMemory),
+        Err(RunsStop::Twice(address)) => {
             let refusal = twice_refusal(alloc, modulus, text, address)?;
             Err(TxtStop::Refused(refusal))
         }

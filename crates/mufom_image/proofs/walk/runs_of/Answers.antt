@@ -9,7 +9,7 @@ returns-in-Ok-clause-passed c = (c.in-Ok.ensures.image (bases_of c.args.valued.n
 pub returns-in-Ok-clause-runs : goal.returns-in-Ok-clause-runs
 returns-in-Ok-clause-runs c = (c.in-Ok.ensures.image (bases_of c.args.valued.now.placed.now) c.requires.ready).1
 
-pub returns-in-Err-Stopped-clause-refused : goal.returns-in-Err-Stopped-clause-refused
-returns-in-Err-Stopped-clause-refused c =
-    let there = rw c.in-Err-Stopped.field-0-is at c.in-Err-Stopped.ensures.refusal in
+pub returns-in-Err-Refused-clause-refused : goal.returns-in-Err-Refused-clause-refused
+returns-in-Err-Refused-clause-refused c =
+    let there = rw c.in-Err-Refused.field-0-is at c.in-Err-Refused.ensures.refusal in
     subst (λ met. IsMet met c.refusal_of.result) (sym (there (bases_of c.args.valued.now.placed.now) c.requires.ready)) c.refusal_of.ensures

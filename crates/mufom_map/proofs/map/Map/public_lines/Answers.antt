@@ -4,7 +4,8 @@ use Rattle.mufom_meaning.specs.declared.located.PublicValue.{PublicValue}
 use Rattle.mufom_origins.specs.declared.origins.Origin.{Origin}
 use Rattle.mufom_origins.specs.declared.origins.Place.{Place}
 use Rattle.mufom_text.proofs.Loops.{flat-step, flat-end}
-use Rattle.mufom_map.specs.Mapped.{MappedPublic, mapped_public, module_in}
+use Rattle.mufom_map.specs.Mapped.{MappedPublic, mapped_public}
+use Rattle.mufom_origins.specs.Places.{module_in}
 use Rattle.mufom_map.specs.MapText.{public_line}
 use Rattle.mufom_map.proofs.OrderedLaws.{element-at, inside, key-at, long, made-in-order, number-inside, ordered}
 use Rattle.mufom_map.proofs.map.Map.public_lines.Goals as goal

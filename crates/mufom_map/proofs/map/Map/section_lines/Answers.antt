@@ -4,7 +4,8 @@ use Rattle.mufom_sections.specs.declared.section.Section.{Section}
 use Rattle.mufom_origins.specs.declared.origins.Origin.{Origin}
 use Rattle.mufom_origins.specs.declared.origins.Place.{Place}
 use Rattle.mufom_text.proofs.Loops.{flat-step, flat-end}
-use Rattle.mufom_map.specs.Mapped.{MappedSection, module_in}
+use Rattle.mufom_map.specs.Mapped.{MappedSection}
+use Rattle.mufom_origins.specs.Places.{module_in}
 use Rattle.mufom_map.specs.MapText.{section_line}
 use Rattle.mufom_map.specs.Shown.{base_of, shown_section}
 use Rattle.mufom_map.proofs.OrderedLaws.{element-at, inside, key-at, long, made-in-order, number-inside, ordered}

@@ -1,7 +1,7 @@
 use Rattle.std.proofs.Common.{get_or, [], ◌∷◌, ◌∙◌, ◌/◌, ◌%◌}
 use Rattle.std.specs.Prelude.{slice_index}
 use Rattle.hex.specs.Hex.{encode_with, upper_digits}
-use Rattle.mufom_map.proofs.words.digits_of.Goals as goal
+use Rattle.mufom_text.proofs.digits.digits_of.Goals as goal
 
 pub returns : goal.returns
 unfolding encode_with

@@ -1,17 +1,17 @@
-//! Numbers and addresses of a map.
+//! A word with a number after it, and addresses in hexadecimal.
 
 ghost use Rattle.std.specs.Prelude.{◌≡◌, ◌-◌, ◌*◌, ◌/◌, ◌%◌, slice_index};
 ghost use Rattle.std.specs.Fmt.{decimal};
 ghost use Rattle.std.specs.Int.{bytes_high_first};
 ghost use Rattle.hex.specs.Hex.{encode_upper, upper_digits};
 ghost use Rattle.mufom_text.specs.Fitting.{IsUnitCount};
-ghost use Rattle.mufom_map.specs.MapText.{counted, hex, without_zeros};
+ghost use Rattle.mufom_text.specs.Digits.{counted, hex, without_zeros};
 
+use crate::output::Output;
 use itoa::Buffer;
-use mufom_text::Output;
 
-// The upper-case hexadecimal digits.
-const DIGITS: &[u8; 16] = b"0123456789ABCDEF";
+/// The upper-case hexadecimal digits.
+pub(crate) const DIGITS: &[u8; 16] = b"0123456789ABCDEF";
 
 /// Puts a word and, right after it, a number of up to 128 bits in decimal.
 pub fn counted<K: Output>(out: &mut K, word: &[u8], value: u128)

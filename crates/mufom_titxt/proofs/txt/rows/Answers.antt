@@ -1,8 +1,0 @@
-use Rattle.mufom_image_bytes.specs.Loaded.{loaded_cells}
-use Rattle.mufom_titxt.proofs.TxtLaws.{refusal_names}
-use Rattle.mufom_titxt.proofs.txt.rows.Goals as goal
-
-pub twice_address-requires : goal.twice_address-requires
-twice_address-requires c =
-    refusal_names (loaded_cells c.args.loaded) c.in-Err-Stopped.field-0 c.in-Err-Stopped.stop c.requires.low c.in-Err-Stopped.field-0-is
-    c.in-Err-Stopped.ensures.refusal
