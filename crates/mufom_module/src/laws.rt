@@ -11,6 +11,7 @@ ghost use Rattle.mufom_module.specs.Grammar.{SpellsModule};
 ghost use Rattle.mufom_loads.specs.Lengths.{lengths_once};
 ghost use Rattle.mufom_module.specs.Defects.{IsValid};
 ghost use Rattle.mufom_module.specs.Written.{weight};
+ghost use Rattle.mufom_records.specs.declared.options.ReadOptions.{ReadOptions};
 
 /// The expression of a record is the tree that its bytes spell.
 pub fn expressions_are_as_spelled()
@@ -24,7 +25,7 @@ pub fn positions_stand_for_indexes()
 
 /// A file is the file of one module: no other module has the same file.
 pub fn a_file_is_one_module()
-    ensures { (m n : Parts) (bytes : List ℕ) (reads_debug : Bool) → SpellsModule m bytes reads_debug → SpellsModule n bytes reads_debug → m ≡ n }
+    ensures { (m n : Parts) (bytes : List ℕ) (options : ReadOptions) → SpellsModule m bytes options → SpellsModule n bytes options → m ≡ n }
 {}
 
 /// The number of bytes that a module loads, with the items of each repeat counted once, is at most its
