@@ -143,6 +143,29 @@ class Fields:
             raise Fault(self.place, "SurplusTerms")
         return variables
 
+    def sized_expression(self):
+        """An expression, and the size after it if that has no comma."""
+        start, last, terms, variables = self.place, None, 0, []
+        tokens = 0
+        while self.begins_token():
+            token, byte, last = self.place, self.peek(), None
+            if byte <= 0x88:
+                last = self.number()
+            elif byte <= 0xB9:
+                terms -= self.function(terms)
+            else:
+                variables.append(self.variable(tokens))
+            if tokens == 255:
+                raise Fault(token, "TooLong")
+            tokens, terms = tokens + 1, terms + 1
+        if terms == 2 and last in range(1, 9) and self.peek() in PARTNERS.values():
+            return variables, last
+        if tokens == 0:
+            raise Fault(start, "Empty")
+        if terms != 1:
+            raise Fault(self.place, "SurplusTerms")
+        return variables, None
+
     def close(self, bracket):
         if self.peek() != PARTNERS[bracket]:
             raise Fault(self.place, "BracketMismatch")
@@ -325,15 +348,15 @@ def record(data, start):
     return rows[code](), fields.place
 
 
-def item(data, start):
+def item(data, start, gnu):
     fields = Fields(data, start)
     bracket = fields.peek()
     if bracket not in PARTNERS:
         fields.counted()
         return Row("literal"), fields.place
     fields.place += 1
-    variables = fields.expression()
-    if fields.peek() == 0x90:
+    variables, size = fields.sized_expression() if gnu else (fields.expression(), None)
+    if size is None and fields.peek() == 0x90:
         fields.place += 1
         fields.checked("BadFieldSize", lambda value: 1 <= value <= 8)
     fields.close(bracket)
@@ -341,8 +364,9 @@ def item(data, start):
 
 
 class Judge:
-    def __init__(self, data, reads_debug):
-        self.data, self.reads_debug = data, reads_debug
+    def __init__(self, data, reads_debug, gnu=False):
+        self.data, self.reads_debug, self.gnu = data, reads_debug, gnu
+        self.raw = 0  # the offset of a debug part before which the records end
         self.declared = {kind: [] for kind in ("section", "public", "reference", "debug name")}
         self.said, self.current, self.blocks = set(), None, []
         self.sections, self.publics, self.values = [], [], []
@@ -420,15 +444,29 @@ class Judge:
             raise Fault(place, "PartGap")
         return offsets, place
 
+    def row(self, start, items):
+        """The record or item at an offset. Before raw debug data, its first byte counts as E1."""
+        def read(data):
+            first = Fields(data, start).peek()
+            if items and (first <= 0x88 or first in PARTNERS):
+                return item(data, start, self.gnu)
+            return record(data, start)
+
+        if start < self.raw < len(self.data):
+            try:
+                row, place = read(self.data[:self.raw] + b"\xE1")
+                if place <= self.raw:
+                    return row, place
+            except More:
+                pass
+        return read(self.data)
+
     def part(self, number, place, end):
         items = False
         while place < end:
             start = place
-            fields = Fields(self.data, start)
-            if items and (fields.peek() <= 0x88 or fields.peek() in PARTNERS):
-                row, place = item(self.data, start)
-            else:
-                row, place = record(self.data, start)
+            row, place = self.row(start, items)
+            if row.kind not in ("literal", "field"):
                 items = row.kind in ("LR", "RE LR")
                 self.loader = row.kind
             if place > end:
@@ -445,6 +483,8 @@ class Judge:
         if bits != 8 or units not in range(1, 9):
             raise Fault(start, "BadDescriptor")
         offsets, place = self.offsets(place)
+        if self.gnu and not self.reads_debug:
+            self.raw = offsets[4]
         for number in range(7):
             if not offsets[number]:
                 continue
@@ -467,9 +507,9 @@ def quoted(name):
     return '"%s"' % "".join(chr(byte) if byte in plain_bytes else "\\x%02X" % byte for byte in name)
 
 
-def answer(data, reads_debug):
+def answer(data, reads_debug, gnu=False):
     """Returns the status, the output and the error output of `check` for a file with these bytes."""
-    judge = Judge(data, reads_debug)
+    judge = Judge(data, reads_debug, gnu)
     try:
         judge.judge()
     except Fault as fault:

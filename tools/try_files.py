@@ -3,7 +3,8 @@
     python3 tools/try_files.py PROGRAM SEED COUNT
     python3 tools/try_files.py PROGRAM --hostile [SECONDS]
 
-Each random file is checked with its debug part read or skipped. If the program and the judge disagree
+Each random file is checked with its debug part read or skipped, and with or without the forms of GNU
+binutils (--gnu). If the program and the judge disagree
 about a file, it is kept in the folder for temporary files and its path is printed. The last line gives
 the number of these files and how often each result occurred. The status is 0 if there are none.
 
@@ -118,7 +119,9 @@ class Maker:
         if self.chance(0.4):
             return self.number(2) + b"\x4E\x71"
         bracket = self.choose(0xBA, 0xBC, 0xBE)
-        size = b"\x90" + self.number(self.choose(1, 2, 4, 8, 0, 9)) if self.chance(0.4) else b""
+        size = self.number(self.choose(1, 2, 4, 8, 0, 9)) if self.chance(0.4) else b""
+        if size and self.chance(0.6):
+            size = b"\x90" + size
         partner = bracket + 1 if self.chance(0.95) else 0xBF
         return bytes([bracket]) + self.expression() + size + bytes([partner])
 
@@ -160,6 +163,8 @@ class Maker:
         )
 
     def debug_part(self):
+        if self.chance(0.1):  # data of another format
+            return bytes(self.random.choice(b"\x00\x01\x05\x82\xA5\xC9\xE1") for _ in range(self.random.randint(1, 6)))
         part, kinds = b"\xF0\x20\x01n" if self.chance(0.4) else b"", []
         for _ in range(self.choose(0, 0, 1, 2, 4, 8)):
             if kinds and self.chance(0.3):
@@ -229,8 +234,8 @@ class Maker:
         return bytes(data)
 
 
-def told(program, path, reads_debug):
-    words = [program, "check", path] + ([] if reads_debug else ["--no-debug"])
+def told(program, path, reads_debug, gnu):
+    words = [program, "check", path] + ([] if reads_debug else ["--no-debug"]) + (["--gnu"] if gnu else [])
     run = subprocess.run(words, capture_output=True, check=False)
     return run.returncode, run.stdout.decode("ascii"), run.stderr.decode("ascii")
 
@@ -291,17 +296,17 @@ def main():
         data = maker.file() if maker.chance(0.8) else sample
         if data is sample or maker.chance(0.3):
             data = maker.changed(data)
-        reads_debug = maker.chance(0.5)
+        reads_debug, gnu = maker.chance(0.5), maker.chance(0.5)
         path = os.path.join(folder, "%d.695" % number)
         with open(path, "wb") as file:
             file.write(data)
-        wanted = judge.answer(data, reads_debug)
+        wanted = judge.answer(data, reads_debug, gnu)
         answers[wanted[2].split(": ")[-1].strip() or "module"] += 1
-        if told(program, path, reads_debug) == wanted:
+        if told(program, path, reads_debug, gnu) == wanted:
             os.remove(path)
         else:
             differences += 1
-            print(path, reads_debug, "should be", wanted)
+            print(path, "debug" * reads_debug, "gnu" * gnu, "should be", wanted)
     if not differences:
         os.rmdir(folder)
     print("%d of %d files answered differently:" % (differences, count), dict(answers.most_common()))

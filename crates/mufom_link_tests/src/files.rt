@@ -5,7 +5,7 @@ use mufom_host::{Host, MemHost};
 use mufom_link::{LinkRefusal, link, link_owned, may_be_linked};
 use mufom_module::Module;
 use mufom_numbers::List;
-use mufom_read::Reader;
+use mufom_read::{ReadOptions, Reader};
 use mufom_write::write_module;
 use std::alloc::Global;
 use std::process::Abort;
@@ -93,9 +93,15 @@ fn add_all(rt: &impl Abort, file: &mut Vec<u8>, parts: &[&[u8]]) {
     }
 }
 
+// The debug part is read, and no form of GNU binutils is accepted.
+const OPTIONS: ReadOptions = ReadOptions {
+    debug: true,
+    gnu: false,
+};
+
 /// The module of this file.
 pub(crate) fn read(rt: &impl Abort, alloc: Global, file: &[u8]) -> Module {
-    let mut reader = Reader::new(alloc, true).expect(rt, "memory");
+    let mut reader = Reader::new(alloc, OPTIONS).expect(rt, "memory");
     reader.feed(file).expect(rt, "the bytes of a module");
     reader.finish().expect(rt, "a module")
 }

@@ -7,6 +7,7 @@ use Rattle.std.proofs.lemmas.List.{take-append-le, drop-append-le, take-append-d
 use Rattle.mufom_numbers.specs.declared.taken.Taken.{Taken}
 use Rattle.mufom_numbers.specs.declared.taken.Taken.TheVariants.{Got, More, Bad}
 use Rattle.mufom_numbers.specs.Spelling.{AreBytes, IfGot}
+use Rattle.mufom_records.specs.declared.options.ReadOptions.{ReadOptions}
 use Rattle.mufom_records.specs.declared.record.Mode.{Mode}
 use Rattle.mufom_records.specs.declared.record.Record.{Record}
 use Rattle.mufom_records.specs.Fields.{first_of}
@@ -46,11 +47,11 @@ cut_by bytes More rest = None
 cut_by bytes (Bad offset reason) rest = None
 
 -- the records and items of these bytes, at most `n`, with other bytes after them
-abbrev pub cut : ℕ → Bool → List ℕ → List ℕ → Option (List SpelledRecord)
-cut zero items bytes after = None
-cut (suc n) items [] after = Some []
-cut (suc n) items (b ∷ bytes) after = cut_by (b ∷ bytes) (record_at (mode_of items (b ∷ bytes)) ((b ∷ bytes) ++ after))
-    (λ row used. cut n (opens_items row) (drop used (b ∷ bytes)) after)
+abbrev pub cut : ReadOptions → ℕ → Bool → List ℕ → List ℕ → Option (List SpelledRecord)
+cut options zero items bytes after = None
+cut options (suc n) items [] after = Some []
+cut options (suc n) items (b ∷ bytes) after = cut_by (b ∷ bytes) (record_at (mode_of options items (b ∷ bytes)) ((b ∷ bytes) ++ after))
+    (λ row used. cut options n (opens_items row) (drop used (b ∷ bytes)) after)
 
 -- a record of each mode
 abbrev pub cut_modes : List Mode → List ℕ → List ℕ → Option (List SpelledRecord)
@@ -118,27 +119,29 @@ cut_off m bytes after rest records (Got row used) fits got h =
     }
 
 -- the first byte shows how a record is read
-mode_of-take : (items : Bool) (used b : ℕ) (bytes : List ℕ) → 0 < used → mode_of items (take used (b ∷ bytes)) ≡ mode_of items (b ∷ bytes)
-mode_of-take items zero b bytes h = absurd (omega (arith, h))
-mode_of-take items (suc used) b bytes h = refl
+mode_of-take : (options : ReadOptions) (items : Bool) (used b : ℕ) (bytes : List ℕ) → 0 < used → mode_of options items
+    (take used (b ∷ bytes)) ≡ mode_of options items (b ∷ bytes)
+mode_of-take options items zero b bytes h = absurd (omega (arith, h))
+mode_of-take options items (suc used) b bytes h = refl
 
 -- the records of a part are complete, and have its bytes
-pub cut-whole : (n : ℕ) (items : Bool) (bytes after : List ℕ) (records : List SpelledRecord) → AreBytes (bytes ++ after) → cut n items bytes after
+pub cut-whole : (options : ReadOptions) (n : ℕ) (items : Bool) (bytes after : List ℕ) (records : List SpelledRecord) → AreBytes (bytes ++ after)
+    → cut options n items bytes after
     ≡ Some records
-    → AreWhole items records after × (bytes_of records ≡ bytes)
-cut-whole zero items bytes after records fits h = cc
-cut-whole (suc n) items [] after records fits h = let e : [] ≡ records = cc in
-    subst (λ (l : List SpelledRecord). AreWhole items l after × (bytes_of l ≡ [])) e (tt, refl)
-cut-whole (suc n) items (b ∷ bytes) after records fits h =
+    → AreWhole options items records after × (bytes_of records ≡ bytes)
+cut-whole options zero items bytes after records fits h = cc
+cut-whole options (suc n) items [] after records fits h = let e : [] ≡ records = cc in
+    subst (λ (l : List SpelledRecord). AreWhole options items l after × (bytes_of l ≡ [])) e (tt, refl)
+cut-whole options (suc n) items (b ∷ bytes) after records fits h =
     let all = b ∷ bytes in
-    let m = mode_of items all in
-    let first = cut_off m all after (λ row used. cut n (opens_items row) (drop used all) after) records (record_at m (all ++ after)) fits
+    let m = mode_of options items all in
+    let first = cut_off m all after (λ row used. cut options n (opens_items row) (drop used all) after) records (record_at m (all ++ after)) fits
     (record_at-got m (all ++ after) fits) h in
-    let later = cut-whole n (opens_items first.row) (drop first.used all) after first.others first.fits first.gives in
+    let later = cut-whole options n (opens_items first.row) (drop first.used all) after first.others first.fits first.gives in
     let its = subst (λ (l : List ℕ). IsWholeRecord m first.row (take first.used all) (first_of (l ++ after) None)) (sym later.1) first.is_whole in
     let so = subst (λ (mode : Mode). IsWholeRecord mode first.row (take first.used all) (first_of (bytes_of first.others ++ after) None))
-    (sym (mode_of-take items first.used b bytes first.some)) its in
-    subst (λ (l : List SpelledRecord). AreWhole items l after × (bytes_of l ≡ all)) (sym first.are)
+    (sym (mode_of-take options items first.used b bytes first.some)) its in
+    subst (λ (l : List SpelledRecord). AreWhole options items l after × (bytes_of l ≡ all)) (sym first.are)
     ((so, later.0), ap (λ l. take first.used all ++ l) later.1 ∙ take-append-drop first.used all)
 
 -- and those of a header
@@ -190,10 +193,12 @@ follow-by_test before (p ∷ records) h =
 
 -- ---- the facts of a file, by computing
 
-pub is_part : (part : Part) (records : List SpelledRecord) (after : List ℕ) → list_all (λ b. nat_lt b 256) (bytes_of records ++ after) ≡ true
-    → cut (suc (length records)) false (bytes_of records) after ≡ Some records → list_all (λ p. stands_in part p.row) records ≡ true → IsPart part records after
-is_part part records after small cuts own = record {
-  are_whole = (cut-whole (suc (length records)) false (bytes_of records) after records (are_bytes-by_test (bytes_of records ++ after) small) cuts).0;
+pub is_part : (options : ReadOptions) (part : Part) (records : List SpelledRecord) (after : List ℕ) → list_all (λ b. nat_lt b 256)
+    (bytes_of records ++ after) ≡ true
+    → cut options (suc (length records)) false (bytes_of records) after ≡ Some records → list_all (λ p. stands_in part p.row) records ≡ true
+    → IsPart options part records after
+is_part options part records after small cuts own = record {
+  are_whole = (cut-whole options (suc (length records)) false (bytes_of records) after records (are_bytes-by_test (bytes_of records ++ after) small) cuts).0;
   own = own;
 }
 

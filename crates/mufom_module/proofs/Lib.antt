@@ -6,6 +6,7 @@ pub mod ItemWeights
 pub mod MadeLemmas
 pub mod SpelledLaws
 pub mod OneModule
+pub mod GnuLaws
 pub mod Cutting
 mod Worked
 mod WorkedFile

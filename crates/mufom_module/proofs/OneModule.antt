@@ -1,8 +1,9 @@
 -- A file is one module: its bytes determine its records, its parts, and what they state.
-use Rattle.std.proofs.Common.{◌≡◌, ◌⊎◌, ℕ, zero, suc, ◌+◌, ◌<◌, Bool, true, false, List, [], ◌∷◌, ◌++◌, length, Option, Some, None, refl, sym, ap}
+use Rattle.std.proofs.Common.{◌≡◌, ◌⊎◌, ℕ, zero, suc, ◌+◌, ◌<◌, Bool, true, false, List, [], ◌∷◌, ◌++◌, length, Option, Some, None, refl, sym, ap, cond}
 use Rattle.std.proofs.Common.{subst, ◌∙◌, inl, inr, arith, append_assoc}
 use Rattle.std.specs.Prelude.{MatchBool, option_to_list}
 use Rattle.std.proofs.lemmas.List.{append-nil, length-append}
+use Rattle.mufom_records.specs.declared.options.ReadOptions.{ReadOptions}
 use Rattle.mufom_records.specs.declared.record.Mode.{Mode}
 use Rattle.mufom_records.specs.declared.record.Mode.TheVariants as mode
 use Rattle.mufom_records.specs.declared.record.Record.{Record}
@@ -18,9 +19,9 @@ use Rattle.mufom_module.specs.declared.module.Parts.{Parts}
 use Rattle.mufom_module.specs.SpelledRecords.{SpelledRecord, bytes_of}
 use Rattle.mufom_module.specs.RecordParts.{opens_items, mode_of}
 use Rattle.mufom_module.specs.Gathered.{loads_of}
-use Rattle.mufom_module.specs.Grammar.{FileParts, header_of, parts_of, module_end, from_trailer, from_loads, from_debug, from_externals, after_header}
+use Rattle.mufom_module.specs.Grammar.{FileParts, header_of, parts_of, module_end, from_trailer, from_loads, from_debug, after_header}
 use Rattle.mufom_module.specs.Grammar.{AreOfModes, header_modes, AreWhole, offsets_in, StandAt, IsCutInto, indexes_of, NamesModule, Describes}
-use Rattle.mufom_module.specs.Grammar.{IsLetterOf, States, SpellsModule}
+use Rattle.mufom_module.specs.Grammar.{IsLetterOf, States, SpellsModule, ends_before_debug, seen_from_debug, seen_from_externals}
 
 -- ---- lists
 
@@ -57,20 +58,22 @@ no_record : (row : Record) (bytes : List ℕ) (next : Option ℕ) → IsWholeRec
 no_record row bytes next (x, prefix, back, first, others, split) none =
     absurd (let e : x ∷ back ≡ [] = ap (λ (l : List ℕ). l ++ back) (sym first) ∙ sym split ∙ none in cc)
 
-no_item : (items : Bool) → mode_of items [] ≡ mode.Body
-no_item true = refl
-no_item false = refl
+no_item : (options : ReadOptions) (items : Bool) → mode_of options items [] ≡ mode.Body
+no_item options true = refl
+no_item options false = refl
 
 -- no record is empty
-none_spelled : (items : Bool) (p : SpelledRecord) (next : Option ℕ) → IsWholeRecord (mode_of items p.bytes) p.row p.bytes next → p.bytes ≡ [] → ⊥
-none_spelled items p next is none =
-    let so = subst (λ (m : Mode). IsWholeRecord m p.row p.bytes next) (ap (mode_of items) none ∙ no_item items) is in
+none_spelled : (options : ReadOptions) (items : Bool) (p : SpelledRecord) (next : Option ℕ) → IsWholeRecord
+    (mode_of options items p.bytes) p.row p.bytes next → p.bytes ≡ [] → ⊥
+none_spelled options items p next is none =
+    let so = subst (λ (m : Mode). IsWholeRecord m p.row p.bytes next) (ap (mode_of options items) none ∙ no_item options items) is in
     no_record p.row p.bytes next so none
 
-same_mode : (items : Bool) (xs ys rest more : List ℕ) → (xs ≡ [] → ⊥) → (ys ≡ [] → ⊥) → xs ++ rest ≡ ys ++ more → mode_of items xs ≡ mode_of items ys
-same_mode items [] ys rest more some any same = absurd (some refl)
-same_mode items (x ∷ xs) [] rest more some any same = absurd (any refl)
-same_mode items (x ∷ xs) (y ∷ ys) rest more some any same = let e : x ≡ y = cc in ap (λ (b : ℕ). mode_of items (b ∷ [])) e
+same_mode : (options : ReadOptions) (items : Bool) (xs ys rest more : List ℕ) → (xs ≡ [] → ⊥) → (ys ≡ [] → ⊥) → xs ++ rest ≡ ys ++ more
+    → mode_of options items xs ≡ mode_of options items ys
+same_mode options items [] ys rest more some any same = absurd (some refl)
+same_mode options items (x ∷ xs) [] rest more some any same = absurd (any refl)
+same_mode options items (x ∷ xs) (y ∷ ys) rest more some any same = let e : x ≡ y = cc in ap (λ (b : ℕ). mode_of options items (b ∷ [])) e
 
 empty_prefix : (xs ys : List ℕ) → xs ++ ys ≡ [] → xs ≡ []
 empty_prefix [] ys e = refl
@@ -94,24 +97,25 @@ header_once (m ∷ modes) (p ∷ ps) (q ∷ qs) after more first second same =
 
 -- ---- the records of a part
 
-records_once : (items : Bool) (ps qs : List SpelledRecord) (after : List ℕ) → AreWhole items ps after → AreWhole items qs after → bytes_of ps
+records_once : (options : ReadOptions) (items : Bool) (ps qs : List SpelledRecord) (after : List ℕ) → AreWhole options items ps after
+    → AreWhole options items qs after → bytes_of ps
     ≡ bytes_of qs → ps ≡ qs
-records_once items [] [] after first second same = refl
-records_once items [] (q ∷ qs) after first second same = absurd
-    (none_spelled items q (first_of (bytes_of qs ++ after) None) second.0 (empty_prefix q.bytes (bytes_of qs) (sym same)))
-records_once items (p ∷ ps) [] after first second same = absurd
-    (none_spelled items p (first_of (bytes_of ps ++ after) None) first.0 (empty_prefix p.bytes (bytes_of ps) same))
-records_once items (p ∷ ps) (q ∷ qs) after first second same =
-    let some = none_spelled items p (first_of (bytes_of ps ++ after) None) first.0 in
-    let any = none_spelled items q (first_of (bytes_of qs ++ after) None) second.0 in
+records_once options items [] [] after first second same = refl
+records_once options items [] (q ∷ qs) after first second same = absurd
+    (none_spelled options items q (first_of (bytes_of qs ++ after) None) second.0 (empty_prefix q.bytes (bytes_of qs) (sym same)))
+records_once options items (p ∷ ps) [] after first second same = absurd
+    (none_spelled options items p (first_of (bytes_of ps ++ after) None) first.0 (empty_prefix p.bytes (bytes_of ps) same))
+records_once options items (p ∷ ps) (q ∷ qs) after first second same =
+    let some = none_spelled options items p (first_of (bytes_of ps ++ after) None) first.0 in
+    let any = none_spelled options items q (first_of (bytes_of qs ++ after) None) second.0 in
     let all = ap (λ (l : List ℕ). l ++ after) same in
     let split = sym (append_assoc p.bytes (bytes_of ps) after) ∙ all ∙ append_assoc q.bytes (bytes_of qs) after in
-    let modes = same_mode items p.bytes q.bytes (bytes_of ps ++ after) (bytes_of qs ++ after) some any split in
+    let modes = same_mode options items p.bytes q.bytes (bytes_of ps ++ after) (bytes_of qs ++ after) some any split in
     let its = subst (λ (m : Mode). IsWholeRecord m q.row q.bytes (first_of (bytes_of qs ++ after) None)) (sym modes) second.0 in
-    let one = one_spelled (mode_of items p.bytes) p q (bytes_of ps ++ after) (bytes_of qs ++ after) first.0 its split in
+    let one = one_spelled (mode_of options items p.bytes) p q (bytes_of ps ++ after) (bytes_of qs ++ after) first.0 its split in
     let rest = same_after p.bytes (bytes_of ps) (bytes_of qs) (same ∙ ap (λ (x : SpelledRecord). x.bytes ++ bytes_of qs) (sym one.0)) in
-    let opens = subst (λ (x : SpelledRecord). AreWhole (opens_items x.row) qs after) (sym one.0) second.1 in
-    let later = records_once (opens_items p.row) ps qs after first.1 opens rest in
+    let opens = subst (λ (x : SpelledRecord). AreWhole options (opens_items x.row) qs after) (sym one.0) second.1 in
+    let later = records_once options (opens_items p.row) ps qs after first.1 opens rest in
     λ i. one.0 i ∷ later i
 
 -- ---- the parts
@@ -185,14 +189,15 @@ abbrev bytes_rest : List (List ℕ) → List (List ℕ)
 bytes_rest [] = []
 bytes_rest (_ ∷ xs) = xs
 
-debug_once : (reads_debug : Bool) (ps qs : List SpelledRecord) (skipped passed after : List ℕ) → MatchBool reads_debug (skipped ≡ []) (ps ≡ [])
+debug_once : (options : ReadOptions) (reads_debug : Bool) (ps qs : List SpelledRecord) (skipped passed after : List ℕ) → MatchBool reads_debug
+    (skipped ≡ []) (ps ≡ [])
     → MatchBool reads_debug (passed ≡ []) (qs ≡ [])
-    → AreWhole false ps after → AreWhole false qs after → bytes_of ps ++ skipped ≡ bytes_of qs ++ passed → (ps ≡ qs) × (skipped ≡ passed)
-debug_once true ps qs skipped passed after none also first second same =
+    → AreWhole options false ps after → AreWhole options false qs after → bytes_of ps ++ skipped ≡ bytes_of qs ++ passed → (ps ≡ qs) × (skipped ≡ passed)
+debug_once options true ps qs skipped passed after none also first second same =
     let bytes = sym (append-nil (bytes_of ps)) ∙ ap (λ (l : List ℕ). bytes_of ps ++ l) (sym none) ∙ same ∙ ap (λ (l : List ℕ). bytes_of qs ++ l) also
     ∙ append-nil (bytes_of qs) in
-    (records_once false ps qs after first second bytes, none ∙ sym also)
-debug_once false ps qs skipped passed after none also first second same =
+    (records_once options false ps qs after first second bytes, none ∙ sym also)
+debug_once options false ps qs skipped passed after none also first second same =
     (none ∙ sym also, ap (λ (l : List SpelledRecord). bytes_of l ++ skipped) (sym none) ∙ same ∙ ap (λ (l : List SpelledRecord). bytes_of l ++ passed) also)
 
 positive_header : (f : FileParts) (after : List ℕ) → AreOfModes header_modes (header_of f) after → 0 < length (bytes_of (header_of f))
@@ -203,8 +208,8 @@ positive_header f after is = some f.begin.bytes refl where
     begins (x, prefix, back, first, others, split) none = absurd (let e : x ∷ back ≡ [] = ap (λ (l : List ℕ). l ++ back) (sym first) ∙ sym split ∙ none in cc)
   some (x ∷ xs) e = omega (arith, ap length e, length-append f.begin.bytes (bytes_of (f.descriptor ∷ f.offsets)))
 
-one_file : (bytes : List ℕ) (reads_debug : Bool) (f g : FileParts) → IsCutInto bytes reads_debug f → IsCutInto bytes reads_debug g → f ≡ g
-one_file bytes reads_debug f g first second =
+one_file : (bytes : List ℕ) (options : ReadOptions) (f g : FileParts) → IsCutInto bytes options f → IsCutInto bytes options g → f ≡ g
+one_file bytes options f g first second =
     let header = header_once header_modes (header_of f) (header_of g) (after_header f) (after_header g) first.header second.header (sym first.all
     ∙ second.all) in
     let begin = ap (λ (l : List SpelledRecord). the_first l f.begin) header.0 in
@@ -224,16 +229,19 @@ one_file bytes reads_debug f g first second =
     let after_loads : from_trailer f ≡ from_trailer g = λ i. trailer i ++ module_end in
     let after_debug : from_loads f ≡ from_loads g = λ i. loads i ++ after_loads i in
     let after_externals : from_debug f ≡ from_debug g = λ i. debug i ++ after_debug i in
-    let after_sections : from_externals f ≡ from_externals g = λ i. externals i ++ after_externals i in
-    let section_records = records_once false f.sections g.sections (from_externals f) first.sections.are_whole
-    (subst (λ (l : List ℕ). AreWhole false g.sections l) (sym after_sections) second.sections.are_whole) sections in
-    let external_records = records_once false f.externals g.externals (from_debug f) first.externals.are_whole
-    (subst (λ (l : List ℕ). AreWhole false g.externals l) (sym after_externals) second.externals.are_whole) externals in
-    let debug_records = debug_once reads_debug f.debug g.debug f.skipped g.skipped (from_loads f) first.debug_read second.debug_read
-    first.debug.are_whole (subst (λ (l : List ℕ). AreWhole false g.debug l) (sym after_debug) second.debug.are_whole) debug in
-    let load_records = records_once false f.loads g.loads (from_trailer f) first.loads.are_whole
-    (subst (λ (l : List ℕ). AreWhole false g.loads l) (sym after_loads) second.loads.are_whole) loads in
-    let trailer_records = records_once false f.trailer g.trailer module_end first.trailer.are_whole second.trailer.are_whole trailer in
+    let ends : ends_before_debug options (offsets_in f.offsets) ≡ ends_before_debug options (offsets_in g.offsets) =
+    ap (λ (l : List SpelledRecord). ends_before_debug options (offsets_in l)) offsets in
+    let seen_externals : seen_from_debug options f ≡ seen_from_debug options g = λ i. cond (ends i) module_end (after_externals i) in
+    let seen_sections : seen_from_externals options f ≡ seen_from_externals options g = λ i. externals i ++ seen_externals i in
+    let section_records = records_once options false f.sections g.sections (seen_from_externals options f) first.sections.are_whole
+    (subst (λ (l : List ℕ). AreWhole options false g.sections l) (sym seen_sections) second.sections.are_whole) sections in
+    let external_records = records_once options false f.externals g.externals (seen_from_debug options f) first.externals.are_whole
+    (subst (λ (l : List ℕ). AreWhole options false g.externals l) (sym seen_externals) second.externals.are_whole) externals in
+    let debug_records = debug_once options options.debug f.debug g.debug f.skipped g.skipped (from_loads f) first.debug_read second.debug_read
+    first.debug.are_whole (subst (λ (l : List ℕ). AreWhole options false g.debug l) (sym after_debug) second.debug.are_whole) debug in
+    let load_records = records_once options false f.loads g.loads (from_trailer f) first.loads.are_whole
+    (subst (λ (l : List ℕ). AreWhole options false g.loads l) (sym after_loads) second.loads.are_whole) loads in
+    let trailer_records = records_once options false f.trailer g.trailer module_end first.trailer.are_whole second.trailer.are_whole trailer in
     λ i. record {
       begin = begin i;
       descriptor = descriptor i;
@@ -304,7 +312,7 @@ stated_once f m n first second =
       start = start i;
     }
 
-pub one_module : (m n : Parts) (bytes : List ℕ) (reads_debug : Bool) → SpellsModule m bytes reads_debug → SpellsModule n bytes reads_debug → m ≡ n
-one_module m n bytes reads_debug (f, cut, names, states, valid) (g, cut_too, names_too, states_too, valid_too) =
-    let same = one_file bytes reads_debug f g cut cut_too in
+pub one_module : (m n : Parts) (bytes : List ℕ) (options : ReadOptions) → SpellsModule m bytes options → SpellsModule n bytes options → m ≡ n
+one_module m n bytes options (f, cut, names, states, valid) (g, cut_too, names_too, states_too, valid_too) =
+    let same = one_file bytes options f g cut cut_too in
     stated_once f m n states (subst (λ (h : FileParts). States h (indexes_of h) n) (sym same) states_too)

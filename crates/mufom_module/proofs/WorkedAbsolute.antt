@@ -1,12 +1,12 @@
 -- A small absolute module: 120 bytes are its file, and so are the 122 of its written form; with a debug part that is
 -- passed over, 124 bytes are its file too.
-use Rattle.std.proofs.Common.{ℕ, true, false, List, [], ◌∷◌, refl, inl, inr}
+use Rattle.std.proofs.Common.{ℕ, List, [], ◌∷◌, refl, inl, inr}
 use Rattle.mufom_records.specs.declared.record.Record.TheVariants as r
 use Rattle.mufom_records.specs.Fields.{span_at}
 use Rattle.mufom_module.specs.SpelledRecords.{SpelledRecord}
 use Rattle.mufom_module.specs.Grammar.{FileParts, SpellsModule}
 use Rattle.mufom_module.proofs.Cutting.{spelled}
-use Rattle.mufom_module.proofs.WorkedFile.{absolute_code, begin_of, lettered_descriptor, offsets_from, spells}
+use Rattle.mufom_module.proofs.WorkedFile.{absolute_code, begin_of, lettered_descriptor, offsets_from, spells, with_debug, without_debug}
 use Rattle.mufom_module.proofs.Worked.{small, small_is_valid}
 
 -- a file of the module: its offsets, a debug part that is passed over, and the start
@@ -40,8 +40,8 @@ plain_bytes =
 abbrev plain_file : FileParts
 plain_file = small_file (0 ∷ 0 ∷ 77 ∷ 0 ∷ 0 ∷ 100 ∷ 114 ∷ 119 ∷ []) [] (spelled (r.Start (span_at 2 3)) (0xE2 ∷ 0xC7 ∷ 0x82 ∷ 0x10 ∷ 0x00 ∷ []))
 
-plain_spells : SpellsModule small plain_bytes true
-plain_spells = spells small plain_bytes true plain_file small_is_valid
+plain_spells : SpellsModule small plain_bytes with_debug
+plain_spells = spells small plain_bytes with_debug plain_file small_is_valid
     (inr (refl, refl), (inr (refl, refl), (inl refl, (inr (refl, refl), (inr (refl, refl), (inl refl, (inl refl, refl)))))))
     (refl, refl, refl, refl, (refl, refl, refl), (refl, refl, refl), (refl, refl, refl), (refl, refl, refl), (refl, refl, refl), refl)
     (refl, refl, refl)
@@ -59,8 +59,8 @@ located_bytes =
 abbrev located_file : FileParts
 located_file = small_file (0 ∷ 0 ∷ 77 ∷ 0 ∷ 0 ∷ 100 ∷ 114 ∷ 121 ∷ []) [] (spelled (r.Start (span_at 3 3)) (0xE2 ∷ 0xC7 ∷ 0xBE ∷ 0x82 ∷ 0x10 ∷ 0x00 ∷ 0xBF ∷ []))
 
-located_spells : SpellsModule small located_bytes true
-located_spells = spells small located_bytes true located_file small_is_valid
+located_spells : SpellsModule small located_bytes with_debug
+located_spells = spells small located_bytes with_debug located_file small_is_valid
     (inr (refl, refl), (inr (refl, refl), (inl refl, (inr (refl, refl), (inr (refl, refl), (inl refl, (inl refl, refl)))))))
     (refl, refl, refl, refl, (refl, refl, refl), (refl, refl, refl), (refl, refl, refl), (refl, refl, refl), (refl, refl, refl), refl)
     (refl, refl, refl)
@@ -81,8 +81,8 @@ abbrev skipped_file : FileParts
 skipped_file = small_file (0 ∷ 0 ∷ 77 ∷ 0 ∷ 100 ∷ 104 ∷ 118 ∷ 123 ∷ []) (0xF2 ∷ 0x20 ∷ 0xCE ∷ 0x01 ∷ [])
     (spelled (r.Start (span_at 2 3)) (0xE2 ∷ 0xC7 ∷ 0x82 ∷ 0x10 ∷ 0x00 ∷ []))
 
-skipped_spells : SpellsModule small skipped_bytes false
-skipped_spells = spells small skipped_bytes false skipped_file small_is_valid
+skipped_spells : SpellsModule small skipped_bytes without_debug
+skipped_spells = spells small skipped_bytes without_debug skipped_file small_is_valid
     (inr (refl, refl), (inr (refl, refl), (inl refl, (inr (refl, refl), (inl refl, (inl refl, (inl refl, refl)))))))
     (refl, refl, refl, refl, (refl, refl, refl), (refl, refl, refl), (refl, refl, refl), (refl, refl, refl), (refl, refl, refl), refl)
     (refl, refl, refl)

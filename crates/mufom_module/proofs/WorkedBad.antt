@@ -7,7 +7,7 @@ use Rattle.mufom_module.specs.SpelledRecords.{SpelledRecord}
 use Rattle.mufom_module.specs.RecordParts.{external_part, stands_in}
 use Rattle.mufom_module.specs.Grammar.{StandAt, declares_again, states_again, names_unknown, has_no_section}
 use Rattle.mufom_module.proofs.Cutting.{spelled, cut}
-use Rattle.mufom_module.proofs.WorkedFile.{absolute_code}
+use Rattle.mufom_module.proofs.WorkedFile.{absolute_code, with_debug}
 
 -- parts of 23, 14 and 5 bytes after a header of 77, whose data part is stated to begin at 101 instead of 100
 abbrev data_bytes : List ℕ
@@ -56,5 +56,5 @@ elsewhere : stands_in external_part (r.SetSection 1) ≡ false
 elsewhere = refl
 
 -- an item cannot be the first record of a part
-no_item : cut 2 false (0x01 ∷ 0x4E ∷ []) (0xE1 ∷ []) ≡ None
+no_item : cut with_debug 2 false (0x01 ∷ 0x4E ∷ []) (0xE1 ∷ []) ≡ None
 no_item = refl

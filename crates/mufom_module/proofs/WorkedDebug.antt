@@ -13,6 +13,7 @@ use Rattle.mufom_module.specs.RecordParts.{debug_part}
 use Rattle.mufom_module.specs.Gathered.{marks}
 use Rattle.mufom_module.specs.Grammar.{IsPart}
 use Rattle.mufom_module.proofs.Cutting.{spelled, is_part}
+use Rattle.mufom_module.proofs.WorkedFile.{with_debug}
 
 abbrev records : List SpelledRecord
 records = spelled (r.BlockBegin 3 0 (span_at 4 4) tail.Module) (0xF8 ∷ 0x03 ∷ 0x00 ∷ 0x04 ∷ 0x70 ∷ 0x72 ∷ 0x6F ∷ 0x67 ∷ [])
@@ -33,8 +34,8 @@ has_bytes : bytes_of records
 has_bytes = refl
 
 -- the data part begins after it
-is_debug_part : IsPart debug_part records (0xE5 ∷ 0x01 ∷ 0xE1 ∷ [])
-is_debug_part = is_part debug_part records (0xE5 ∷ 0x01 ∷ 0xE1 ∷ []) refl refl refl
+is_debug_part : IsPart with_debug debug_part records (0xE5 ∷ 0x01 ∷ 0xE1 ∷ [])
+is_debug_part = is_part with_debug debug_part records (0xE5 ∷ 0x01 ∷ 0xE1 ∷ []) refl refl refl
 
 abbrev indexes : Indexes
 indexes = record { sections = 1 ∷ []; publics = []; references = []; debug_names = declared debug_name records }

@@ -1,5 +1,5 @@
 -- A module with two debug blocks, names, a note and a value: the bytes of its debug part are 48, and all bytes are its file.
-use Rattle.std.proofs.Common.{◌≡◌, ℕ, true, false, List, [], ◌∷◌, Some, None, refl, inl, inr, rules}
+use Rattle.std.proofs.Common.{◌≡◌, ℕ, false, List, [], ◌∷◌, Some, None, refl, inl, inr, rules}
 use Rattle.mufom_expr.specs.Tree.{number, variable, two, plus}
 use Rattle.mufom_expr.specs.declared.token.Letter.TheVariants as letters
 use Rattle.mufom_records.specs.declared.record.Record.TheVariants as r
@@ -16,7 +16,7 @@ use Rattle.mufom_module.specs.Written.{weight}
 use Rattle.mufom_module.specs.Defects.{IsValid}
 use Rattle.mufom_module.specs.Grammar.{FileParts, SpellsModule}
 use Rattle.mufom_module.proofs.Cutting.{spelled}
-use Rattle.mufom_module.proofs.WorkedFile.{begin_of, lettered_descriptor, offsets_from, spells}
+use Rattle.mufom_module.proofs.WorkedFile.{begin_of, lettered_descriptor, offsets_from, spells, with_debug}
 
 -- the function inside the block of the module
 abbrev inner : List DebugItem
@@ -114,8 +114,8 @@ debugged_file = record {
   trailer = [];
 }
 
-debugged_spells : SpellsModule debugged debugged_bytes true
-debugged_spells = spells debugged debugged_bytes true debugged_file debugged_is_valid
+debugged_spells : SpellsModule debugged debugged_bytes with_debug
+debugged_spells = spells debugged debugged_bytes with_debug debugged_file debugged_is_valid
     (inr (refl, refl), (inr (refl, refl), (inl refl, (inr (refl, refl), (inl refl, (inr (refl, refl), (inr (refl, refl), refl)))))))
     (refl, refl, refl, refl, (refl, refl, refl), (refl, refl, refl), (refl, refl, refl), (refl, refl, refl), (refl, refl, refl), refl)
     (refl, refl, refl)

@@ -1,11 +1,11 @@
 -- A module without parts: the 78 bytes of its header and its end are its file.
-use Rattle.std.proofs.Common.{ℕ, true, List, [], ◌∷◌, None, refl, inl, inr}
+use Rattle.std.proofs.Common.{ℕ, List, [], ◌∷◌, None, refl, inl, inr}
 use Rattle.mufom_module.specs.declared.module.Order.TheVariants as orders
 use Rattle.mufom_module.specs.declared.module.Parts.{Parts}
 use Rattle.mufom_module.specs.Written.{weight}
 use Rattle.mufom_module.specs.Defects.{IsValid}
 use Rattle.mufom_module.specs.Grammar.{FileParts, SpellsModule}
-use Rattle.mufom_module.proofs.WorkedFile.{begin_of, lettered_descriptor, offsets_from, spells}
+use Rattle.mufom_module.proofs.WorkedFile.{begin_of, lettered_descriptor, offsets_from, spells, with_debug}
 
 abbrev empty : Parts
 empty = record {
@@ -48,8 +48,8 @@ empty_file = record {
   trailer = [];
 }
 
-empty_spells : SpellsModule empty empty_bytes true
-empty_spells = spells empty empty_bytes true empty_file empty_is_valid
+empty_spells : SpellsModule empty empty_bytes with_debug
+empty_spells = spells empty empty_bytes with_debug empty_file empty_is_valid
     (inr (refl, refl), (inr (refl, refl), (inr (refl, refl), (inr (refl, refl), (inr (refl, refl), (inr (refl, refl), (inr (refl, refl), refl)))))))
     (refl, refl, refl, refl, (refl, refl, refl), (refl, refl, refl), (refl, refl, refl), (refl, refl, refl), (refl, refl, refl), refl)
     (refl, refl, refl)

@@ -1,5 +1,5 @@
 -- A relocatable module without raw parts and without a start, record by record: its 111 bytes are its file.
-use Rattle.std.proofs.Common.{ℕ, true, false, List, [], ◌∷◌, Some, None, refl, inl, inr}
+use Rattle.std.proofs.Common.{ℕ, false, List, [], ◌∷◌, Some, None, refl, inl, inr}
 use Rattle.mufom_expr.specs.Tree.{variable}
 use Rattle.mufom_expr.specs.declared.token.Letter.TheVariants as letters
 use Rattle.mufom_records.specs.declared.record.Record.TheVariants as r
@@ -13,7 +13,7 @@ use Rattle.mufom_module.specs.Written.{weight}
 use Rattle.mufom_module.specs.Defects.{IsValid}
 use Rattle.mufom_module.specs.Grammar.{FileParts, SpellsModule}
 use Rattle.mufom_module.proofs.Cutting.{spelled}
-use Rattle.mufom_module.proofs.WorkedFile.{begin_of, plain_descriptor, offsets_from, spells}
+use Rattle.mufom_module.proofs.WorkedFile.{begin_of, plain_descriptor, offsets_from, spells, with_debug}
 
 abbrev library : Parts
 library = record {
@@ -67,8 +67,8 @@ library_file = record {
   trailer = [];
 }
 
-library_spells : SpellsModule library library_bytes true
-library_spells = spells library library_bytes true library_file library_is_valid
+library_spells : SpellsModule library library_bytes with_debug
+library_spells = spells library library_bytes with_debug library_file library_is_valid
     (inr (refl, refl), (inr (refl, refl), (inl refl, (inl refl, (inr (refl, refl), (inl refl, (inr (refl, refl), refl)))))))
     (refl, refl, refl, refl, (refl, refl, refl), (refl, refl, refl), (refl, refl, refl), (refl, refl, refl), (refl, refl, refl), refl)
     (refl, refl, refl)

@@ -1,5 +1,5 @@
 -- A relocatable module with all parts except the debug part, record by record: its 164 bytes are its file.
-use Rattle.std.proofs.Common.{ℕ, true, false, List, [], ◌∷◌, Some, None, refl, inl, inr}
+use Rattle.std.proofs.Common.{ℕ, false, List, [], ◌∷◌, Some, None, refl, inl, inr}
 use Rattle.mufom_expr.specs.Tree.{Tree, number, variable, two, plus, minus}
 use Rattle.mufom_expr.specs.declared.token.Letter.TheVariants as letters
 use Rattle.mufom_expr.specs.declared.token.FieldKind.TheVariants as kinds
@@ -14,7 +14,7 @@ use Rattle.mufom_module.specs.Written.{weight}
 use Rattle.mufom_module.specs.Defects.{IsValid}
 use Rattle.mufom_module.specs.Grammar.{FileParts, SpellsModule}
 use Rattle.mufom_module.proofs.Cutting.{spelled}
-use Rattle.mufom_module.proofs.WorkedFile.{begin_of, plain_descriptor, offsets_from, spells}
+use Rattle.mufom_module.proofs.WorkedFile.{begin_of, plain_descriptor, offsets_from, spells, with_debug}
 
 -- the base of the section and 4
 abbrev entry : Tree
@@ -93,8 +93,8 @@ program_file = record {
       ∷ [];
 }
 
-program_spells : SpellsModule program program_bytes true
-program_spells = spells program program_bytes true program_file program_is_valid
+program_spells : SpellsModule program program_bytes with_debug
+program_spells = spells program program_bytes with_debug program_file program_is_valid
     (inl refl, (inl refl, (inl refl, (inl refl, (inr (refl, refl), (inl refl, (inl refl, refl)))))))
     (refl, refl, refl, refl, (refl, refl, refl), (refl, refl, refl), (refl, refl, refl), (refl, refl, refl), (refl, refl, refl), refl)
     (refl, refl, refl)

@@ -1,11 +1,12 @@
 -- Which bytes are the file of a module, as a relation on the whole file (IEEE Std 695, module structure, in this project's
 -- profile).
 use Rattle.std.specs.Prelude.{◌≡◌, ◌⊎◌, ℕ, ◌+◌, ◌≤◌, Bool, true, false, not, ◌&&◌, List, [], ◌∷◌, ◌++◌, length, filter_map, Option, Some, None}
-use Rattle.std.specs.Prelude.{option_to_list, MatchBool}
+use Rattle.std.specs.Prelude.{option_to_list, MatchBool, ◌==◌, if◌then◌else◌}
 use Rattle.std.specs.List.{list_all, list_any}
 use Rattle.mufom_numbers.specs.declared.limits.TheConstants.{MOST_FILE_BYTES}
 use Rattle.mufom_numbers.specs.declared.codes.TheConstants.{LETTER_L, LETTER_M, MODULE_END}
 use Rattle.mufom_expr.specs.Spelled.{Indexes}
+use Rattle.mufom_records.specs.declared.options.ReadOptions.{ReadOptions}
 use Rattle.mufom_records.specs.declared.record.Mode.{Mode}
 use Rattle.mufom_records.specs.declared.record.Mode.TheVariants as mode
 use Rattle.mufom_records.specs.declared.record.Record.{Record}
@@ -98,14 +99,14 @@ header_modes = mode.Begin ∷ mode.Descriptor ∷ mode.Offset 0 ∷ mode.Offset 
     ∷ mode.Offset 5 ∷ mode.Offset 6 ∷ mode.Offset 7 ∷ []
 
 -- the records are complete (items may occur after an LR, and at the start if the flag is true), and these bytes follow them
-abbrev pub AreWhole : Bool → List SpelledRecord → List ℕ → Type 0
-AreWhole items [] after = Unit {0}
-AreWhole items (p ∷ records) after = IsWholeRecord (mode_of items p.bytes) p.row p.bytes (first_of (bytes_of records ++ after) None)
-    × AreWhole (opens_items p.row) records after
+abbrev pub AreWhole : ReadOptions → Bool → List SpelledRecord → List ℕ → Type 0
+AreWhole options items [] after = Unit {0}
+AreWhole options items (p ∷ records) after = IsWholeRecord (mode_of options items p.bytes) p.row p.bytes (first_of (bytes_of records ++ after) None)
+    × AreWhole options (opens_items p.row) records after
 
 -- complete records of this part, the first of which is not an item
-pub record IsPart (part : Part) (records : List SpelledRecord) (after : List ℕ) : Type 0 where
-  pub are_whole : AreWhole false records after
+pub record IsPart (options : ReadOptions) (part : Part) (records : List SpelledRecord) (after : List ℕ) : Type 0 where
+  pub are_whole : AreWhole options false records after
   pub own : list_all (λ p. stands_in part p.row) records ≡ true
 
 -- ---- offsets
@@ -129,18 +130,37 @@ StandAt (w ∷ offsets) at (bytes ∷ parts) = ((w ≡ at) ⊎ ((w ≡ 0) × (by
 abbrev pub file_limit : ℕ
 file_limit = MOST_FILE_BYTES
 
--- The file consists of these parts. The debug part is read, or its bytes are skipped.
-pub record IsCutInto (bytes : List ℕ) (reads_debug : Bool) (f : FileParts) : Type 0 where
+-- W4: the offset of the debug part
+abbrev pub debug_offset : List ℕ → ℕ
+debug_offset (_ ∷ (_ ∷ (_ ∷ (_ ∷ (w ∷ _))))) = w
+debug_offset _ = 0
+
+-- The records before the debug part end before its first byte, whatever that byte is: with the forms of GNU binutils, if the
+-- part is skipped and its offset is not 0. Binutils puts debug data of other formats into this part.
+abbrev pub ends_before_debug : ReadOptions → List ℕ → Bool
+ends_before_debug options offsets = options.gnu && (not options.debug && not (debug_offset offsets == 0))
+
+-- What follows the external part, as its records see it: the bytes from the debug part on, or instead the code of the module's
+-- end, at which every record ends.
+abbrev pub seen_from_debug : ReadOptions → FileParts → List ℕ
+seen_from_debug options f = if ends_before_debug options (offsets_in f.offsets) then module_end else from_debug f
+
+-- what follows the section part, as its records see it
+abbrev pub seen_from_externals : ReadOptions → FileParts → List ℕ
+seen_from_externals options f = bytes_of f.externals ++ seen_from_debug options f
+
+-- The file consists of these parts. By the options, the debug part is read, or its bytes are skipped.
+pub record IsCutInto (bytes : List ℕ) (options : ReadOptions) (f : FileParts) : Type 0 where
   pub all : bytes ≡ bytes_of (header_of f) ++ after_header f
   pub limit : length bytes ≤ file_limit
   pub header : AreOfModes header_modes (header_of f) (after_header f)
   pub offsets : StandAt (offsets_in f.offsets) (length (bytes_of (header_of f))) (parts_of f)
-  pub sections : IsPart section_part f.sections (from_externals f)
-  pub externals : IsPart external_part f.externals (from_debug f)
-  pub debug : IsPart debug_part f.debug (from_loads f)
-  pub debug_read : MatchBool reads_debug (f.skipped ≡ []) (f.debug ≡ [])
-  pub loads : IsPart data_part f.loads (from_trailer f)
-  pub trailer : IsPart trailer_part f.trailer module_end
+  pub sections : IsPart options section_part f.sections (seen_from_externals options f)
+  pub externals : IsPart options external_part f.externals (seen_from_debug options f)
+  pub debug : IsPart options debug_part f.debug (from_loads f)
+  pub debug_read : MatchBool options.debug (f.skipped ≡ []) (f.debug ≡ [])
+  pub loads : IsPart options data_part f.loads (from_trailer f)
+  pub trailer : IsPart options trailer_part f.trailer module_end
 
 -- ---- names
 
@@ -223,6 +243,6 @@ pub record States (f : FileParts) (ix : Indexes) (m : Parts) : Type 0 where
   pub loads : m.loads ≡ loads_of ix m.maus f.loads
   pub start : option_to_list m.start ≡ starts_of ix f.trailer
 
--- The bytes are a file of the module. Its debug part is read if the flag is true, and skipped otherwise.
-abbrev pub SpellsModule : Parts → List ℕ → Bool → Type 0
-SpellsModule m bytes reads_debug = (f : FileParts) × IsCutInto bytes reads_debug f × HasNames f × States f (indexes_of f) m × IsValid m
+-- The bytes are a file of the module, if it is read with these options.
+abbrev pub SpellsModule : Parts → List ℕ → ReadOptions → Type 0
+SpellsModule m bytes options = (f : FileParts) × IsCutInto bytes options f × HasNames f × States f (indexes_of f) m × IsValid m

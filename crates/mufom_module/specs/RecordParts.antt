@@ -1,6 +1,7 @@
 -- The parts of a file, and the records that are in each (IEEE Std 695, module structure, in this project's profile).
 use Rattle.std.specs.Prelude.{ℕ, ◌==◌, ◌&&◌, ◌||◌, Bool, true, false, List, [], ◌∷◌, Option, Some, None, if◌then◌else◌}
 use Rattle.mufom_expr.specs.TokenAt.{begins_number}
+use Rattle.mufom_records.specs.declared.options.ReadOptions.{ReadOptions}
 use Rattle.mufom_records.specs.declared.record.Mode.{Mode}
 use Rattle.mufom_records.specs.declared.record.Mode.TheVariants as mode
 use Rattle.mufom_records.specs.declared.record.Record.{Record}
@@ -83,9 +84,13 @@ abbrev pub begins_item : List ℕ → Bool
 begins_item [] = false
 begins_item (b ∷ _) = begins_number b || is_one_of opening_brackets b
 
+-- an item of an LR; with the forms of GNU binutils, one in which the comma before a size is optional
+abbrev pub items_mode : ReadOptions → Mode
+items_mode options = if options.gnu then mode.GnuItems else mode.Items
+
 -- what begins with these bytes: an item if items may occur here and the first byte begins one, and otherwise a record
-abbrev pub mode_of : Bool → List ℕ → Mode
-mode_of items bytes = if items && begins_item bytes then mode.Items else mode.Body
+abbrev pub mode_of : ReadOptions → Bool → List ℕ → Mode
+mode_of options items bytes = if items && begins_item bytes then items_mode options else mode.Body
 
 -- LD, LR and RE
 abbrev pub is_loading : Record → Bool

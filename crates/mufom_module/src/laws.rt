@@ -12,6 +12,7 @@ ghost use Rattle.mufom_loads.specs.Lengths.{lengths_once};
 ghost use Rattle.mufom_module.specs.Defects.{IsValid};
 ghost use Rattle.mufom_module.specs.Made.{IsMade};
 ghost use Rattle.mufom_module.specs.Written.{weight};
+ghost use Rattle.mufom_records.specs.declared.options.ReadOptions.{ReadOptions};
 
 use crate::module::Module;
 
@@ -27,7 +28,7 @@ pub fn positions_stand_for_indexes()
 
 /// A file is the file of one module: no other module has the same file.
 pub fn a_file_is_one_module()
-    ensures { (m n : Parts) (bytes : List ℕ) (reads_debug : Bool) → SpellsModule m bytes reads_debug → SpellsModule n bytes reads_debug → m ≡ n }
+    ensures { (m n : Parts) (bytes : List ℕ) (options : ReadOptions) → SpellsModule m bytes options → SpellsModule n bytes options → m ≡ n }
 {}
 
 /// A module has no defect and is within the bounds of its types. The type guarantees this, but a proof

@@ -1,5 +1,6 @@
 -- The offset of a record's error is that of a byte of the input, or of the byte right after its last.
-use Rattle.std.proofs.Common.{inl, inr, ℕ, ◌+◌, ◌≤◌, Bool, true, false, cond, ◌==◌, List, length, Option, Some, None, ap, arith, length-append}
+use Rattle.std.proofs.Common.{inl, inr, ℕ, ◌+◌, ◌≤◌, Bool, true, false, cond, ◌==◌, ◌≡◌}
+use Rattle.std.proofs.Common.{List, [], ◌∷◌, length, take, length-take, Option, Some, None, ap, arith, length-append}
 use Rattle.mufom_numbers.specs.declared.reason.Reason.{Reason}
 use Rattle.mufom_numbers.specs.declared.reason.Reason.TheVariants as why
 use Rattle.mufom_numbers.specs.declared.taken.Span.{Span}
@@ -8,8 +9,13 @@ use Rattle.mufom_records.specs.declared.record.Mode.TheVariants as mode
 use Rattle.mufom_records.specs.declared.record.Record.{Record}
 use Rattle.mufom_records.specs.declared.record.Record.TheVariants as r
 use Rattle.mufom_records.specs.Fields.{Field, ValueOf, byte, number, string, run, letter, optional_number, numbers, expression, optional_expression, is_one_of}
+use Rattle.mufom_records.specs.Fields.{sized_expression}
+use Rattle.mufom_numbers.specs.Spelling.{AreBytes}
+use Rattle.mufom_numbers.specs.declared.taken.Taken.TheVariants.{Bad}
+use Rattle.mufom_records.specs.Reading.{record_within, closed_at}
+use Rattle.mufom_records.proofs.BeforeLaws.{record_within-bad}
 use Rattle.mufom_records.specs.Layouts
-use Rattle.mufom_records.specs.Faults.{TokenFault, ExpressionFault, FieldFault, HasFault, IsFaulty}
+use Rattle.mufom_records.specs.Faults.{TokenFault, ExpressionFault, SizedFault, FieldFault, HasFault, IsFaulty}
 
 abbrev Layout : Type 0
 Layout = Layouts.Layout
@@ -66,6 +72,10 @@ expression_near : (at : ℕ) (bytes : List ℕ) (fault_offset : ℕ) (reason : R
 expression_near at bytes fault_offset reason (offset, (tokens, terms, prefix, rest, spells, leaves, few, (fault, here), all)) =
     omega (arith, here, token_near _ _ rest offset reason fault, ap length all, length-append prefix rest)
 
+sized_near : (at : ℕ) (bytes : List ℕ) (fault_offset : ℕ) (reason : Reason) → SizedFault at bytes fault_offset reason → fault_offset ≤ at + length bytes
+sized_near at bytes fault_offset reason (offset, tokens, terms, prefix, rest, spells, leaves, few, fault, here, test, all) =
+    omega (arith, here, token_near _ _ rest offset reason fault, ap length all, length-append prefix rest)
+
 field_near : (f : Field) (at : ℕ) (bytes : List ℕ) (fault_offset : ℕ) (reason : Reason) → IsNear f → FieldFault f at bytes fault_offset reason
     → fault_offset ≤ at + length bytes
 field_near byte at bytes fault_offset reason near is = absurd is
@@ -78,6 +88,7 @@ field_near optional_number at bytes fault_offset reason near is = absurd is
 field_near (numbers most) at bytes fault_offset reason near is = absurd is
 field_near expression at bytes fault_offset reason near is = expression_near at bytes fault_offset reason is
 field_near optional_expression at bytes fault_offset reason near is = expression_near at bytes fault_offset reason is.1
+field_near sized_expression at bytes fault_offset reason near is = sized_near at bytes fault_offset reason is
 
 near : (layout : Layout) (at : ℕ) (bytes : List ℕ) (fault_offset : ℕ) (reason : Reason) → AreNear layout
     → HasFault layout at bytes fault_offset reason → fault_offset ≤ at + length bytes
@@ -143,6 +154,18 @@ comma_near b v (Some c) = (
 bracket_near : (o : Option ℕ) → AreNear (Layouts.item_by_bracket o)
 bracket_near None = constant_near r.ConstantItem
 bracket_near (Some b) = (tt, λ (v : Span). (tt, λ (c : Option ℕ). comma_near b v c))
+
+size_near : (b : ℕ) (x : ValueOf sized_expression) → AreNear (Layouts.item_by_size b x.0 x.1)
+size_near b (v, None) = (tt, λ (c : Option ℕ). comma_near b v c)
+size_near b (v, Some last) = (
+  tt,
+  λ (e : ℕ). by_test (e == Layouts.partner b)
+      (Layouts.whole (r.FieldItem (Layouts.kind_without_comma b last.uses_pc) v (Some last.size))) _ tt tt,
+)
+
+gnu_bracket_near : (o : Option ℕ) → AreNear (Layouts.gnu_item_by_bracket o)
+gnu_bracket_near None = constant_near r.ConstantItem
+gnu_bracket_near (Some b) = (tt, λ (x : ValueOf sized_expression). size_near b x)
 
 block_near : AreNear Layouts.block_begin
 block_near = (
@@ -219,6 +242,16 @@ mode_near (mode.Offset k) = (
 )
 mode_near mode.Body = (tt, λ (b : ℕ). coded_near b)
 mode_near mode.Items = (tt, λ (o : Option ℕ). bracket_near o)
+mode_near mode.GnuItems = (tt, λ (o : Option ℕ). gnu_bracket_near o)
 
 pub bad-within : (m : Mode) (input : List ℕ) (offset : ℕ) (reason : Reason) → IsFaulty m input offset reason → offset ≤ length input
 bad-within m input offset reason is = let e = near (Layouts.layout_of m) 0 input offset reason (mode_near m) is in omega (arith, e)
+
+pub within-bad : (end : Option ℕ) (m : Mode) (input : List ℕ) (offset : ℕ) (reason : Reason) → AreBytes input
+    → record_within end m input ≡ Bad offset reason → offset ≤ length input
+within-bad end m input offset reason fits e = elim (record_within-bad end m input fits offset reason e) [
+  | inl is ↦ bad-within m input offset reason is
+  | inr closed ↦
+      let near = bad-within m (closed_at closed.0 input) offset reason closed.2 in
+      omega (arith, near, closed.1, length-append (take closed.0 input) (0xE1 ∷ []), length-take closed.0 input)
+]

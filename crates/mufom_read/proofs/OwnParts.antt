@@ -8,7 +8,7 @@ use Rattle.mufom_expr.specs.Spelled.{SpellsTree}
 use Rattle.mufom_records.specs.declared.record.Record.{Record}
 use Rattle.mufom_records.specs.declared.record.Record.TheVariants as r
 use Rattle.mufom_records.specs.Fields.{Field, ValueOf, byte, number, string, run, letter, optional_number, numbers, expression, optional_expression}
-use Rattle.mufom_records.specs.Fields.{is_one_of, SpellsField, span_at, first_of}
+use Rattle.mufom_records.specs.Fields.{sized_expression, is_one_of, SpellsField, span_at, first_of}
 use Rattle.mufom_records.specs.Layouts
 use Rattle.mufom_records.specs.Parts.{LiesIn, IsExpressionIn, IsOptionalExpressionIn, HasParts}
 
@@ -28,6 +28,7 @@ Owned text optional_number n = Unit {0}
 Owned text (numbers most) ns = Unit {0}
 Owned text expression span = IsExpressionIn text span
 Owned text optional_expression span = IsOptionalExpressionIn text span
+Owned text sized_expression x = IsExpressionIn text x.0
 
 -- each record of the layout has its parts in the text
 abbrev pub Owns : List ℕ → Layout → Type 0
@@ -74,6 +75,11 @@ field_owned (numbers most) x text pre bytes back next all is = tt
 field_owned expression x text pre bytes back next all is = expression_in text pre bytes back x all is.0 is.1
 field_owned optional_expression None text pre bytes back next all is = tt
 field_owned optional_expression (Some span) text pre bytes back next all is = expression_in text pre bytes back span all is.0 is.1
+field_owned sized_expression (span, None) text pre bytes back next all is = expression_in text pre bytes back span all is.0 is.1
+field_owned sized_expression (span, Some last) text pre bytes back next all
+    (tree, own, number_bytes, spells, few, spelled, fits, uses, span_is, closed, parts) =
+    expression_in text pre own (number_bytes ++ back) span
+    (all ∙ ap (λ l. pre ++ (l ++ back)) parts ∙ ap (λ l. pre ++ l) (append_assoc own number_bytes back)) (tree, spells) span_is
 
 owned : (text pre bytes : List ℕ) (layout : Layout) (row : Record) (next : Option ℕ) → text ≡ pre ++ bytes
     → Layouts.SpellsRecord layout row (length pre) bytes next → Owns text layout → HasParts text row
@@ -115,6 +121,15 @@ comma_owned text b v (Some c) x = λ (n : ℕ) _ (e : ℕ) _. by_test text (e ==
 bracket_owned : (text : List ℕ) (o : Option ℕ) → Owns text (Layouts.item_by_bracket o)
 bracket_owned text None = λ (n : ℕ) _ (span : Span) x. x
 bracket_owned text (Some b) = λ (v : Span) x (c : Option ℕ) _. comma_owned text b v c x
+
+size_owned : (text : List ℕ) (b : ℕ) (s : ValueOf sized_expression) → IsExpressionIn text s.0 → Owns text (Layouts.item_by_size b s.0 s.1)
+size_owned text b (v, None) x = λ (c : Option ℕ) _. comma_owned text b v c x
+size_owned text b (v, Some last) x = λ (e : ℕ) _. by_test text (e == Layouts.partner b)
+    (Layouts.whole (r.FieldItem (Layouts.kind_without_comma b last.uses_pc) v (Some last.size))) _ x tt
+
+gnu_bracket_owned : (text : List ℕ) (o : Option ℕ) → Owns text (Layouts.gnu_item_by_bracket o)
+gnu_bracket_owned text None = λ (n : ℕ) _ (span : Span) x. x
+gnu_bracket_owned text (Some b) = λ (v : ValueOf sized_expression) x. size_owned text b v x
 
 block_owned : (text : List ℕ) → Owns text Layouts.block_begin
 block_owned text = λ (kind : ℕ) _ (n : ℕ) _ (name : Span) x.
@@ -166,6 +181,9 @@ body_owned it bytes next is = owned bytes [] bytes Layouts.body it next refl is 
 
 pub item_owned : (it : Record) (bytes : List ℕ) (next : Option ℕ) → Layouts.SpellsRecord Layouts.item it 0 bytes next → HasParts bytes it
 item_owned it bytes next is = owned bytes [] bytes Layouts.item it next refl is (λ (o : Option ℕ) _. bracket_owned bytes o)
+
+pub gnu_item_owned : (it : Record) (bytes : List ℕ) (next : Option ℕ) → Layouts.SpellsRecord Layouts.gnu_item it 0 bytes next → HasParts bytes it
+gnu_item_owned it bytes next is = owned bytes [] bytes Layouts.gnu_item it next refl is (λ (o : Option ℕ) _. gnu_bracket_owned bytes o)
 
 pub begin_owned : (it : Record) (bytes : List ℕ) (next : Option ℕ)
     → Layouts.SpellsRecord (Layouts.begins_with 1 0xE0 Layouts.module_begin) it 0 bytes next → HasParts bytes it

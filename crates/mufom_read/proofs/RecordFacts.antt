@@ -6,10 +6,12 @@ use Rattle.mufom_records.specs.declared.record.Mode.TheVariants as mode
 use Rattle.mufom_records.specs.declared.record.Record.TheVariants as r
 use Rattle.mufom_records.specs.Layouts
 use Rattle.mufom_read.proofs.ended.Rows.{begin_row, descriptor_row, offset_row, body_kind, items_kind}
-use Rattle.mufom_read.proofs.OwnParts.{body_owned, item_owned, begin_owned}
+use Rattle.mufom_read.proofs.OwnParts.{body_owned, item_owned, gnu_item_owned, begin_owned}
 use Rattle.mufom_records.specs.declared.record.Mode.{Mode}
 use Rattle.mufom_records.specs.declared.record.Record.{Record}
 use Rattle.mufom_records.specs.Parts.{HasParts}
+use Rattle.mufom_records.specs.declared.options.ReadOptions.{ReadOptions}
+use Rattle.mufom_module.specs.RecordParts.{items_mode}
 use Rattle.mufom_module.specs.Grammar.{offset_in}
 use Rattle.mufom_read.specs.declared.prefix.Location as code
 use Rattle.mufom_read.specs.declared.prefix.Location.TheVariants as fault_offset
@@ -37,6 +39,9 @@ got-some mode.Body row bytes after is = byte_some is.0 is.1 is.2 bytes is.3 is.5
 got-some mode.Items row bytes after (None, prefix, back, none, constant, all) =
     item_some row (0 + length prefix) after back bytes constant (all ∙ ap (λ l. l ++ back) none.0)
 got-some mode.Items row bytes after (Some b, prefix, back, here, field, all) = byte_some b prefix back bytes here.0 all
+got-some mode.GnuItems row bytes after (None, prefix, back, none, constant, all) =
+    item_some row (0 + length prefix) after back bytes constant (all ∙ ap (λ l. l ++ back) none.0)
+got-some mode.GnuItems row bytes after (Some b, prefix, back, here, field, all) = byte_some b prefix back bytes here.0 all
 
 -- the positions in a record are within its bytes
 pub got-own : (m : Mode) (row : Record) (bytes : List ℕ) (after : Option ℕ) → Layouts.IsWholeRecord m row bytes after → HasParts bytes row
@@ -45,6 +50,7 @@ got-own mode.Descriptor row bytes after is = let d = descriptor_row row bytes af
 got-own (mode.Offset k) row bytes after is = let o = offset_row k row bytes after is in subst (HasParts bytes) (sym o.1) tt
 got-own mode.Body row bytes after is = body_owned row bytes after is
 got-own mode.Items row bytes after is = item_owned row bytes after is
+got-own mode.GnuItems row bytes after is = gnu_item_owned row bytes after is
 
 -- the records of the header are MB, AD and ASW
 pub got-header : (k : ℕ) (row : Record) (bytes : List ℕ) (after : Option ℕ) → Layouts.IsWholeRecord (header_mode k) row bytes after → IsHeaderRow row
@@ -61,13 +67,13 @@ got-offset (suc (suc k)) row bytes after is = let o = offset_row k row bytes aft
     ∙ sym (le-leb 2 (suc (suc k)) (omega arith))
 
 -- the kind of a block is one with what it adds
-got-kind : (items : Bool) (row : Record) (bytes : List ℕ) (after : Option ℕ) → Layouts.IsWholeRecord (cond items mode.Items mode.Body) row bytes after
-    → HasKind row
-got-kind true row bytes after is = items_kind row bytes after is
-got-kind false row bytes after is = body_kind row bytes after is
+got-kind : (options : ReadOptions) (items : Bool) (row : Record) (bytes : List ℕ) (after : Option ℕ)
+    → Layouts.IsWholeRecord (cond items (items_mode options) mode.Body) row bytes after → HasKind row
+got-kind options true row bytes after is = items_kind options.gnu row bytes after is
+got-kind options false row bytes after is = body_kind row bytes after is
 
-pub got-placed : (prefix : List Step) (at : code.Location) (rest : List ℕ) (row : Record) (bytes : List ℕ) (after : Option ℕ)
-    → Layouts.IsWholeRecord (mode_at prefix (as_location at) rest) row bytes after → IsPlacedWell at row
-got-placed prefix (fault_offset.Header k) rest row bytes after is = (got-header k row bytes after is, got-offset k row bytes after is)
-got-placed prefix (fault_offset.Part e) rest row bytes after is = got-kind _ row bytes after is
-got-placed prefix fault_offset.End rest row bytes after is = tt
+pub got-placed : (options : ReadOptions) (prefix : List Step) (at : code.Location) (rest : List ℕ) (row : Record) (bytes : List ℕ) (after : Option ℕ)
+    → Layouts.IsWholeRecord (mode_at options prefix (as_location at) rest) row bytes after → IsPlacedWell at row
+got-placed options prefix (fault_offset.Header k) rest row bytes after is = (got-header k row bytes after is, got-offset k row bytes after is)
+got-placed options prefix (fault_offset.Part e) rest row bytes after is = got-kind options _ row bytes after is
+got-placed options prefix fault_offset.End rest row bytes after is = tt

@@ -4,6 +4,7 @@ use Rattle.mufom_numbers.specs.declared.reason.Reason.{Reason}
 use Rattle.mufom_numbers.specs.declared.reason.Reason.TheVariants as why
 use Rattle.mufom_numbers.specs.declared.taken.Taken.{Taken}
 use Rattle.mufom_numbers.specs.declared.taken.Taken.TheVariants.{Got}
+use Rattle.mufom_records.specs.declared.options.ReadOptions.{ReadOptions}
 use Rattle.mufom_read.specs.Prefixes.{Step, size_of, next_step, is_ended}
 use Rattle.mufom_read.specs.Faults.{Fault, fault_after}
 
@@ -26,16 +27,16 @@ unless_ended true size next = ended size
 unless_ended false size next = next 0
 
 -- the result of this number of steps after a prefix
-abbrev judged_from : ℕ → Bool → List Step → List ℕ → Outcome
-judged_from zero reads_debug prefix rest = waiting 0
-judged_from (suc k) reads_debug prefix rest = unless_ended (is_ended prefix) (size_of prefix) (λ _. after_fault (fault_after reads_debug prefix rest)
-    (λ _. after_step prefix (next_step reads_debug prefix rest) (λ step used. judged_from k reads_debug (prefix ++ step ∷ []) (drop used rest))))
+abbrev judged_from : ℕ → ReadOptions → List Step → List ℕ → Outcome
+judged_from zero options prefix rest = waiting 0
+judged_from (suc k) options prefix rest = unless_ended (is_ended prefix) (size_of prefix) (λ _. after_fault (fault_after options prefix rest)
+    (λ _. after_step prefix (next_step options prefix rest) (λ step used. judged_from k options (prefix ++ step ∷ []) (drop used rest))))
 
 abbrev judged : List ℕ → Outcome
-judged bytes = judged_from 200 true [] bytes
+judged bytes = judged_from 200 (record { debug = true; gnu = false }) [] bytes
 
 abbrev judged_without_debug : List ℕ → Outcome
-judged_without_debug bytes = judged_from 200 false [] bytes
+judged_without_debug bytes = judged_from 200 (record { debug = false; gnu = false }) [] bytes
 
 -- the bytes with another one at an offset
 abbrev patched : ℕ → ℕ → List ℕ → List ℕ
@@ -242,3 +243,43 @@ relocatable_whole = refl
 
 relocatable_cut_off : judged (take 150 relocatable) ≡ waiting 148
 relocatable_cut_off = refl
+
+-- ---- the forms of GNU binutils
+
+abbrev judged_gnu : Bool → List ℕ → Outcome
+judged_gnu reads_debug bytes = judged_from 200 (record { debug = reads_debug; gnu = true }) [] bytes
+
+-- the header and sections with this external part and these bytes of a debug part
+abbrev with_externals_and_debug : List ℕ → List ℕ → List ℕ
+with_externals_and_debug part raw = take 100 (patched 44 100 (patched 52 (100 + length part) (patched 60 0 (patched 68 0
+    (patched 76 (100 + length part + length raw) small))))) ++ part ++ raw ++ 0xE1 ∷ []
+
+abbrev size_without_comma : List ℕ
+size_without_comma = with_data (0xE5 ∷ 0x01 ∷ 0xE4 ∷ 0xBE ∷ 0xD2 ∷ 0x01 ∷ 0x02 ∷ 0xBF ∷ [])
+
+size_after_one_term : judged_gnu true size_without_comma ≡ ended 109
+size_after_one_term = refl
+
+comma_missing : judged size_without_comma ≡ fault (107, why.SurplusTerms)
+comma_missing = refl
+
+size_of_nine_bytes : judged_gnu true (with_data (0xE5 ∷ 0x01 ∷ 0xE4 ∷ 0xBE ∷ 0x00 ∷ 0x09 ∷ 0xBF ∷ [])) ≡ fault (106, why.SurplusTerms)
+size_of_nine_bytes = refl
+
+-- the value of a public, and debug data that would continue it
+abbrev ended_by_debug : List ℕ
+ended_by_debug = with_externals_and_debug (0xE8 ∷ 0x20 ∷ 0x01 ∷ 0x61 ∷ 0xE2 ∷ 0xC9 ∷ 0x20 ∷ 0x00 ∷ []) (0x01 ∷ 0x02 ∷ 0x03 ∷ 0xE1 ∷ [])
+
+value_ends_before_debug : judged_gnu false ended_by_debug ≡ ended 113
+value_ends_before_debug = refl
+
+value_goes_on_into_debug : judged_without_debug ended_by_debug ≡ fault (111, why.SurplusTerms)
+value_goes_on_into_debug = refl
+
+debug_that_is_read_ends_nothing : judged_gnu true ended_by_debug ≡ fault (111, why.SurplusTerms)
+debug_that_is_read_ends_nothing = refl
+
+-- a name whose last letters are debug data
+name_goes_on_into_debug : judged_gnu false (with_externals_and_debug (0xE8 ∷ 0x20 ∷ 0x03 ∷ 0x61 ∷ []) (0x62 ∷ 0x63 ∷ 0xE1 ∷ 0xE1 ∷ []))
+    ≡ fault (100, why.PartGap)
+name_goes_on_into_debug = refl

@@ -2,6 +2,7 @@
 pub mod Walk
 pub mod Rows
 pub mod Header
+pub mod Seen
 pub mod Parts
 pub mod Chunks
 pub mod Nesting

@@ -1,5 +1,5 @@
 -- What the code keeps of a complete stream, from which the module is built (IEEE Std 695, module structure).
-use Rattle.std.specs.Prelude.{◌≡◌, ℕ, ◌≤◌, Bool, true, List, length, map, Some}
+use Rattle.std.specs.Prelude.{◌≡◌, ℕ, ◌≤◌, true, List, length, map, Some}
 use Rattle.mufom_numbers.specs.Spelling.{AreBytes}
 use Rattle.mufom_module.specs.declared.module.Parts.{Parts}
 use Rattle.mufom_module.specs.Grammar.{file_limit}
@@ -10,6 +10,7 @@ use Rattle.mufom_read.specs.Kept.{indexes_by}
 use Rattle.mufom_read.specs.NamesSoFar.{placed_public}
 use Rattle.mufom_read.specs.LoadsSoFar.{closed}
 use Rattle.mufom_read.specs.PrefixOfCode.{IsPrefixOf}
+use Rattle.mufom_records.specs.declared.options.ReadOptions.{ReadOptions}
 
 -- The module consists of what the code has kept.
 pub record IsStatedByKept (f : Prefix) (m : Parts) : Type 0 where
@@ -25,10 +26,10 @@ pub record IsStatedByKept (f : Prefix) (m : Parts) : Type 0 where
   pub start : m.start ≡ f.contents.start
 
 -- The code keeps this prefix, which contains no error, has ended, and is the whole stream of these bytes.
-pub record IsWhole (reads_debug : Bool) (f : Prefix) (prefix : List Step) (bytes : List ℕ) : Type 0 where
+pub record IsWhole (options : ReadOptions) (f : Prefix) (prefix : List Step) (bytes : List ℕ) : Type 0 where
   pub kept : IsPrefixOf f prefix
   pub fits : AreBytes bytes
   pub limit : length bytes ≤ file_limit
-  pub sound : IsSoundPrefix reads_debug prefix bytes
+  pub sound : IsSoundPrefix options prefix bytes
   pub ends : is_ended prefix ≡ true
   pub all : size_of prefix ≡ length bytes

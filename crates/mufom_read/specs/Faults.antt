@@ -19,6 +19,7 @@ use Rattle.mufom_module.specs.RecordParts.{Part, section_part, external_part, de
 use Rattle.mufom_module.specs.Grammar.{declares_again, states_again, names_unknown, has_no_section}
 use Rattle.mufom_read.specs.Prefixes.{Step, raw, read, OffsetRecord, Extent, Location, in_header, in_part, at_end, size_of, records_of}
 use Rattle.mufom_read.specs.Prefixes.{offset_records_of, offsets_of, first_present, part_at, location_after, next_step}
+use Rattle.mufom_records.specs.declared.options.ReadOptions.{ReadOptions}
 
 -- an error in a stream: its offset and its reason
 abbrev pub Fault : Type 0
@@ -212,5 +213,5 @@ ended_part_fault prefix = ended_fault prefix (part_at prefix (size_of prefix - 1
 -- ---- together
 
 -- The first error after a prefix: the error of the part that has just ended, and otherwise the error of the next step.
-abbrev pub fault_after : Bool → List Step → List ℕ → Option Fault
-fault_after reads_debug prefix rest = option_or (ended_part_fault prefix) (step_fault prefix (next_step reads_debug prefix rest))
+abbrev pub fault_after : ReadOptions → List Step → List ℕ → Option Fault
+fault_after options prefix rest = option_or (ended_part_fault prefix) (step_fault prefix (next_step options prefix rest))

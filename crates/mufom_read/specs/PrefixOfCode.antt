@@ -1,5 +1,5 @@
 -- What the code keeps of a prefix, and what its functions do to it.
-use Rattle.std.specs.Prelude.{◌≡◌, ◌⊎◌, ℕ, ◌+◌, ◌-◌, ◌<◌, ◌≤◌, nat_lt, nat_le, min, Bool, true, false, List, [], ◌∷◌, ◌++◌, length, take, drop, None}
+use Rattle.std.specs.Prelude.{◌≡◌, ◌⊎◌, ℕ, ◌+◌, ◌-◌, ◌<◌, ◌≤◌, nat_lt, nat_le, min, Bool, true, false, List, [], ◌∷◌, ◌++◌, length, take, drop, Option, None}
 use Rattle.std.specs.Prelude.{Some, is_some, if◌then◌else◌}
 use Rattle.std.specs.List.{last_or, cons_option}
 use Rattle.mufom_records.specs.declared.record.Mode.{Mode}
@@ -19,7 +19,8 @@ use Rattle.mufom_read.specs.declared.part.Part.TheVariants as part_of_code
 use Rattle.mufom_read.specs.declared.part.Extent as extents
 use Rattle.mufom_read.specs.declared.prefix.Next.{Next}
 use Rattle.mufom_read.specs.declared.prefix.Next.TheVariants as next
-use Rattle.mufom_read.specs.Prefixes.{Step, step_bytes, read, header_mode, body_mode, is_raw, part_among, parts_in_order, location_by, location_after}
+use Rattle.mufom_read.specs.Prefixes.{Step, step_bytes, read, header_mode, body_mode}
+use Rattle.mufom_read.specs.Prefixes.{bytes_to_debug, is_raw, part_among, parts_in_order, location_by, location_after}
 use Rattle.mufom_read.specs.Prefixes.{size_of, records_of, offset_records_of, offsets_of, first_present, header_count, Location, in_header, in_part}
 use Rattle.mufom_read.specs.Prefixes.{at_end, next_step, awaits_items, is_module_end, is_ended}
 use Rattle.mufom_read.specs.Faults.{open_blocks, ends_badly, record_fault, step_fault, ended_part_fault, fault_after}
@@ -30,6 +31,7 @@ use Rattle.mufom_read.specs.Kept.{tables_of, with_row, is_new, as_fault}
 use Rattle.mufom_read.specs.NamesSoFar.{AreRising}
 use Rattle.mufom_read.specs.DebugSoFar.{HasKind}
 use Rattle.mufom_read.specs.ContentsSoFar.{AreContentsOf}
+use Rattle.mufom_records.specs.declared.options.ReadOptions.{ReadOptions}
 
 -- a location of the code as a location of the specs
 abbrev pub as_location : code.Location → Location
@@ -124,10 +126,16 @@ IsPlacedWell (offset.Part e) row = HasKind row
 IsPlacedWell offset.End row = Unit {0}
 
 -- the mode in which to read the bytes at a location
-abbrev pub mode_at : List Step → Location → List ℕ → Mode
-mode_at prefix (in_header k) rest = header_mode k
-mode_at prefix (in_part e) rest = body_mode prefix e rest
-mode_at prefix at_end rest = mode.Body
+abbrev pub mode_at : ReadOptions → List Step → Location → List ℕ → Mode
+mode_at options prefix (in_header k) rest = header_mode k
+mode_at options prefix (in_part e) rest = body_mode options prefix e rest
+mode_at options prefix at_end rest = mode.Body
+
+-- the number of bytes up to those of the debug part that belong to no record, at a location
+abbrev pub end_at : ReadOptions → List Step → Location → Option ℕ
+end_at options prefix (in_header k) = None
+end_at options prefix (in_part e) = bytes_to_debug options prefix
+end_at options prefix at_end = None
 
 -- The result of taking a complete record after a prefix: it has no error and was added, or it has this error.
 abbrev pub HasTaken : List Step → SpelledRecord → Prefix → Next → Type 0
@@ -137,14 +145,14 @@ HasTaken prefix p new next.More = ⊥
 HasTaken prefix p new (next.Refused f) = record_fault prefix (location_after prefix) (size_of prefix) p ≡ Some (as_fault f)
 
 -- the bytes at the location are read as records
-abbrev pub IsRead : Bool → code.Location → Type 0
-IsRead reads_debug (offset.Header k) = Unit {0}
-IsRead reads_debug (offset.Part e) = is_raw reads_debug (as_part e.part) ≡ false
-IsRead reads_debug offset.End = Unit {0}
+abbrev pub IsRead : ReadOptions → code.Location → Type 0
+IsRead options (offset.Header k) = Unit {0}
+IsRead options (offset.Part e) = is_raw options.debug (as_part e.part) ≡ false
+IsRead options offset.End = Unit {0}
 
 -- the location is in this part, whose bytes are not read as records
-abbrev pub IsRawPart : Bool → code.Location → extents.Extent → Type 0
-IsRawPart reads_debug at e = (at ≡ offset.Part e) × (is_raw reads_debug (as_part e.part) ≡ true)
+abbrev pub IsRawPart : ReadOptions → code.Location → extents.Extent → Type 0
+IsRawPart options at e = (at ≡ offset.Part e) × (is_raw options.debug (as_part e.part) ≡ true)
 
 -- The result of reading after a prefix: a step without an error was taken, more bytes are needed, or there is this error.
 abbrev pub HasJudged : List Step → Taken Step → List ℕ → Prefix → Next → Type 0
@@ -183,18 +191,18 @@ HasSkipped old part most rest new next.More = (rest ≡ []) × (new ≡ old)
 HasSkipped old part most rest new (next.Refused f) = ⊥
 
 -- The result of the next step after a prefix: steps without an error were taken, more bytes are needed, or there is this error.
-abbrev pub IsStepTaken : Bool → List Step → List ℕ → Prefix → Next → Type 0
-IsStepTaken reads_debug prefix rest new (next.Took n) = (steps : List Step) × IsPrefixOf new (prefix ++ steps) × IsSoundFrom reads_debug prefix steps rest
+abbrev pub IsStepTaken : ReadOptions → List Step → List ℕ → Prefix → Next → Type 0
+IsStepTaken options prefix rest new (next.Took n) = (steps : List Step) × IsPrefixOf new (prefix ++ steps) × IsSoundFrom options prefix steps rest
     × (size_of steps ≡ n) × (0 < n) × (n ≤ length rest)
-IsStepTaken reads_debug prefix rest new next.More = IsPrefixOf new prefix × (next_step reads_debug prefix rest ≡ More)
-IsStepTaken reads_debug prefix rest new (next.Refused f) = step_fault prefix (next_step reads_debug prefix rest) ≡ Some (as_fault f)
+IsStepTaken options prefix rest new next.More = IsPrefixOf new prefix × (next_step options prefix rest ≡ More)
+IsStepTaken options prefix rest new (next.Refused f) = step_fault prefix (next_step options prefix rest) ≡ Some (as_fault f)
 
 -- The result of advancing from a prefix over these bytes: steps without an error were taken, more bytes are needed, or there
 -- is an error, maybe after steps without one.
-abbrev pub HasAdvanced : Bool → List Step → List ℕ → Prefix → Next → Type 0
-HasAdvanced reads_debug prefix rest new (next.Took n) = (steps : List Step) × IsPrefixOf new (prefix ++ steps) × IsSoundFrom reads_debug prefix steps rest
+abbrev pub HasAdvanced : ReadOptions → List Step → List ℕ → Prefix → Next → Type 0
+HasAdvanced options prefix rest new (next.Took n) = (steps : List Step) × IsPrefixOf new (prefix ++ steps) × IsSoundFrom options prefix steps rest
     × (size_of steps ≡ n) × (0 < n) × (n ≤ length rest) × (is_ended (prefix ++ steps) ≡ false → ended_part_fault (prefix ++ steps) ≡ None)
-HasAdvanced reads_debug prefix rest new next.More = IsPrefixOf new prefix × (next_step reads_debug prefix rest ≡ More)
-HasAdvanced reads_debug prefix rest new (next.Refused f) = (steps : List Step) × IsSoundFrom reads_debug prefix steps rest
+HasAdvanced options prefix rest new next.More = IsPrefixOf new prefix × (next_step options prefix rest ≡ More)
+HasAdvanced options prefix rest new (next.Refused f) = (steps : List Step) × IsSoundFrom options prefix steps rest
     × (is_ended (prefix ++ steps) ≡ false)
-    × (fault_after reads_debug (prefix ++ steps) (drop (size_of steps) rest) ≡ Some (as_fault f))
+    × (fault_after options (prefix ++ steps) (drop (size_of steps) rest) ≡ Some (as_fault f))

@@ -1,20 +1,21 @@
 -- Prefixes of a stream: the records with which it begins, and the bytes of parts that are not read as records; the location of
 -- the next byte; and how the stream is read on from there (IEEE Std 695, module structure).
-use Rattle.std.specs.Prelude.{ℕ, zero, suc, ◌==◌, ◌&&◌, nat_lt, nat_le, Bool, true, false, not, List, [], ◌∷◌, length, map, take, filter_map, Option}
+use Rattle.std.specs.Prelude.{ℕ, zero, suc, ◌-◌, ◌==◌, ◌&&◌, nat_lt, nat_le, Bool, true, false, not, List, [], ◌∷◌, length, map, take, filter_map, Option}
 use Rattle.std.specs.Prelude.{Some, None, if◌then◌else◌}
 use Rattle.std.specs.List.{last_or}
 use Rattle.mufom_numbers.specs.declared.taken.Taken.{Taken}
 use Rattle.mufom_numbers.specs.declared.taken.Taken.TheVariants.{Got, More, Bad}
+use Rattle.mufom_records.specs.declared.options.ReadOptions.{ReadOptions}
 use Rattle.mufom_records.specs.declared.record.Mode.{Mode}
 use Rattle.mufom_records.specs.declared.record.Mode.TheVariants as mode
 use Rattle.mufom_records.specs.declared.record.Record.{Record}
 use Rattle.mufom_records.specs.declared.record.Record.TheVariants as r
-use Rattle.mufom_records.specs.Reading.{record_at}
+use Rattle.mufom_records.specs.Reading.{record_at, record_within}
 use Rattle.mufom_debug.specs.Marks.{joined}
 use Rattle.mufom_module.specs.SpelledRecords.{SpelledRecord}
 use Rattle.mufom_module.specs.RecordParts.{Part, extension_part, environment_part, section_part, external_part, debug_part, data_part, trailer_part}
-use Rattle.mufom_module.specs.RecordParts.{opens_items, begins_item}
-use Rattle.mufom_module.specs.Grammar.{offsets_in}
+use Rattle.mufom_module.specs.RecordParts.{opens_items, begins_item, items_mode}
+use Rattle.mufom_module.specs.Grammar.{offsets_in, debug_offset, ends_before_debug}
 
 -- a byte of a part that is not read as records, or a record with the offset of its first byte
 pub data Step : Type 0 where
@@ -124,9 +125,14 @@ awaits_items None = false
 awaits_items (Some p) = opens_items p.row
 
 -- Items follow an LR or another item, and are never first in a part.
-abbrev pub body_mode : List Step → Extent → List ℕ → Mode
-body_mode prefix extent rest = if not (size_of prefix == extent.from) && (awaits_items (last_or None (records_of prefix)) && begins_item rest)
-    then mode.Items else mode.Body
+abbrev pub body_mode : ReadOptions → List Step → Extent → List ℕ → Mode
+body_mode options prefix extent rest = if not (size_of prefix == extent.from) && (awaits_items (last_or None (records_of prefix)) && begins_item rest)
+    then items_mode options else mode.Body
+
+-- The number of bytes up to the debug part, if the records before that part end before its first byte, whatever that byte is.
+abbrev pub bytes_to_debug : ReadOptions → List Step → Option ℕ
+bytes_to_debug options prefix = if ends_before_debug options (offsets_of prefix) && nat_lt (size_of prefix) (debug_offset (offsets_of prefix))
+    then Some (debug_offset (offsets_of prefix) - size_of prefix) else None
 
 -- the step of a record that was read
 abbrev pub as_step : ℕ → List ℕ → Taken Record → Taken Step
@@ -140,19 +146,19 @@ raw_step [] = More
 raw_step (b ∷ _) = Got (raw b) 1
 
 -- the next step after a prefix, in a part
-abbrev pub step_in : Bool → List Step → Extent → List ℕ → Taken Step
-step_in reads_debug prefix extent rest = if is_raw reads_debug extent.part then raw_step rest
-    else as_step (size_of prefix) rest (record_at (body_mode prefix extent rest) rest)
+abbrev pub step_in : ReadOptions → List Step → Extent → List ℕ → Taken Step
+step_in options prefix extent rest = if is_raw options.debug extent.part then raw_step rest
+    else as_step (size_of prefix) rest (record_within (bytes_to_debug options prefix) (body_mode options prefix extent rest) rest)
 
 -- the next step after a prefix, at a location
-abbrev pub step_at : Bool → List Step → Location → List ℕ → Taken Step
-step_at reads_debug prefix (in_header k) rest = as_step (size_of prefix) rest (record_at (header_mode k) rest)
-step_at reads_debug prefix (in_part extent) rest = step_in reads_debug prefix extent rest
-step_at reads_debug prefix at_end rest = as_step (size_of prefix) rest (record_at mode.Body rest)
+abbrev pub step_at : ReadOptions → List Step → Location → List ℕ → Taken Step
+step_at options prefix (in_header k) rest = as_step (size_of prefix) rest (record_at (header_mode k) rest)
+step_at options prefix (in_part extent) rest = step_in options prefix extent rest
+step_at options prefix at_end rest = as_step (size_of prefix) rest (record_at mode.Body rest)
 
 -- The step that follows a prefix at the start of the rest of the stream; or that more bytes are needed; or an error of a field.
-abbrev pub next_step : Bool → List Step → List ℕ → Taken Step
-next_step reads_debug prefix rest = step_at reads_debug prefix (location_after prefix) rest
+abbrev pub next_step : ReadOptions → List Step → List ℕ → Taken Step
+next_step options prefix rest = step_at options prefix (location_after prefix) rest
 
 -- ---- the end
 

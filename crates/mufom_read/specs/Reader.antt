@@ -13,50 +13,51 @@ use Rattle.mufom_read.specs.Faults.{ended_part_fault, fault_after}
 use Rattle.mufom_read.specs.Judging.{IsSoundFrom, IsSoundPrefix, IsRefusedAt}
 use Rattle.mufom_read.specs.Kept.{as_fault}
 use Rattle.mufom_read.specs.PrefixOfCode.{IsPrefixOf}
+use Rattle.mufom_records.specs.declared.options.ReadOptions.{ReadOptions}
 
 -- `rest` follows a prefix, and more bytes are needed
-pub record IsIncomplete (reads_debug : Bool) (prefix : List Step) (rest : List ℕ) : Type 0 where
+pub record IsIncomplete (options : ReadOptions) (prefix : List Step) (rest : List ℕ) : Type 0 where
   pub unended : is_ended prefix ≡ false
-  pub faultless : fault_after reads_debug prefix rest ≡ None
-  pub wanting : next_step reads_debug prefix rest ≡ More
+  pub faultless : fault_after options prefix rest ≡ None
+  pub wanting : next_step options prefix rest ≡ More
 
 -- The result of taking all complete steps of the bytes after a prefix: a prefix without an error, after which the module has
 -- ended or more bytes are needed; or an error after such a prefix.
-abbrev pub HasTakenAll : Bool → List Step → List ℕ → Prefix → Result ℕ ReadStop → Type 0
-HasTakenAll reads_debug before rest new (Ok n) = (steps : List Step) × IsPrefixOf new (before ++ steps) × IsSoundFrom reads_debug before steps rest
+abbrev pub HasTakenAll : ReadOptions → List Step → List ℕ → Prefix → Result ℕ ReadStop → Type 0
+HasTakenAll options before rest new (Ok n) = (steps : List Step) × IsPrefixOf new (before ++ steps) × IsSoundFrom options before steps rest
     × (size_of steps ≡ n) × (n ≤ length rest)
-    × ((is_ended (before ++ steps) ≡ true) ⊎ IsIncomplete reads_debug (before ++ steps) (drop n rest))
-HasTakenAll reads_debug before rest new (Err (stop.Refused f)) = (steps : List Step) × IsSoundFrom reads_debug before steps rest
+    × ((is_ended (before ++ steps) ≡ true) ⊎ IsIncomplete options (before ++ steps) (drop n rest))
+HasTakenAll options before rest new (Err (stop.Refused f)) = (steps : List Step) × IsSoundFrom options before steps rest
     × (is_ended (before ++ steps) ≡ false)
-    × (fault_after reads_debug (before ++ steps) (drop (size_of steps) rest) ≡ Some (as_fault f))
-HasTakenAll reads_debug before rest new (Err stop.NoMemory) = Unit {0}
+    × (fault_after options (before ++ steps) (drop (size_of steps) rest) ≡ Some (as_fault f))
+HasTakenAll options before rest new (Err stop.NoMemory) = Unit {0}
 
 -- this number of bytes after a prefix was taken, without an error
-pub record HasGoneOn (reads_debug : Bool) (before : List Step) (rest : List ℕ) (now : Prefix) (taken : ℕ) : Type 0 where
+pub record HasGoneOn (options : ReadOptions) (before : List Step) (rest : List ℕ) (now : Prefix) (taken : ℕ) : Type 0 where
   pub steps : List Step
   pub is : IsPrefixOf now (before ++ steps)
-  pub sound : IsSoundFrom reads_debug before steps rest
+  pub sound : IsSoundFrom options before steps rest
   pub size : size_of steps ≡ taken
   pub within : taken ≤ length rest
   pub whole : is_ended (before ++ steps) ≡ false → ended_part_fault (before ++ steps) ≡ None
 
 -- No step is left after a prefix: the module has ended and no bytes follow it, or more bytes than these are needed.
-abbrev pub HasNoStep : Bool → List Step → List ℕ → Type 0
-HasNoStep reads_debug prefix rest = ((is_ended prefix ≡ true) × (rest ≡ [])) ⊎ IsIncomplete reads_debug prefix rest
+abbrev pub HasNoStep : ReadOptions → List Step → List ℕ → Type 0
+HasNoStep options prefix rest = ((is_ended prefix ≡ true) × (rest ≡ [])) ⊎ IsIncomplete options prefix rest
 
 -- The result of completing a pending record from a chunk. Either the whole chunk became pending too, and still more bytes are
 -- needed; or a step was taken that uses the pending bytes and the returned number of bytes of the chunk, and none are pending;
 -- or there is an error.
-abbrev pub HasCompleted : Bool → List Step → List ℕ → List ℕ → State → Result ℕ ReadStop → Type 0
-HasCompleted reads_debug before pending chunk new (Ok n) = (IsPrefixOf new.prefix before × (new.rest.items ≡ pending ++ chunk)
-    × IsIncomplete reads_debug before (pending ++ chunk))
-    ⊎ ((new.rest.items ≡ []) × HasGoneOn reads_debug before (pending ++ chunk) new.prefix (length pending + n))
-HasCompleted reads_debug before pending chunk new (Err s) = HasTakenAll reads_debug before (pending ++ chunk) new.prefix (Err s)
+abbrev pub HasCompleted : ReadOptions → List Step → List ℕ → List ℕ → State → Result ℕ ReadStop → Type 0
+HasCompleted options before pending chunk new (Ok n) = (IsPrefixOf new.prefix before × (new.rest.items ≡ pending ++ chunk)
+    × IsIncomplete options before (pending ++ chunk))
+    ⊎ ((new.rest.items ≡ []) × HasGoneOn options before (pending ++ chunk) new.prefix (length pending + n))
+HasCompleted options before pending chunk new (Err s) = HasTakenAll options before (pending ++ chunk) new.prefix (Err s)
 
 -- All complete steps of the bytes after a prefix were taken, and the bytes after those are pending; or there is an error.
-abbrev pub HasTakenChunk : Bool → List Step → List ℕ → State → Result (Unit {0}) ReadStop → Type 0
-HasTakenChunk reads_debug before rest new (Ok done) = (n : ℕ) × HasTakenAll reads_debug before rest new.prefix (Ok n) × (new.rest.items ≡ drop n rest)
-HasTakenChunk reads_debug before rest new (Err s) = HasTakenAll reads_debug before rest new.prefix (Err s)
+abbrev pub HasTakenChunk : ReadOptions → List Step → List ℕ → State → Result (Unit {0}) ReadStop → Type 0
+HasTakenChunk options before rest new (Ok done) = (n : ℕ) × HasTakenAll options before rest new.prefix (Ok n) × (new.rest.items ≡ drop n rest)
+HasTakenChunk options before rest new (Err s) = HasTakenAll options before rest new.prefix (Err s)
 
 -- The stop after a chunk whose steps were taken: none, or AfterEnd for a byte after the end of the module, or FileLimit for a
 -- stream that is too long. `ended` tells whether the module has ended, `size` is the length of the prefix in bytes, `longer`
@@ -71,16 +72,16 @@ HasEndedChunk ended size longer rest new (Some stop.NoMemory) = Unit {0}
 pub record IsReading (reader : State) (stream : List ℕ) : Type 0 where
   pub prefix : List Step
   pub kept : IsPrefixOf reader.prefix prefix
-  pub sound : IsSoundPrefix reader.reads_debug prefix stream
+  pub sound : IsSoundPrefix reader.options prefix stream
   pub within : length stream ≤ file_limit
   pub inside : size_of prefix ≤ length stream
   pub rest : reader.rest.items ≡ drop (size_of prefix) stream
-  pub waits : ((is_ended prefix ≡ true) × (size_of prefix ≡ length stream)) ⊎ IsIncomplete reader.reads_debug prefix reader.rest.items
+  pub waits : ((is_ended prefix ≡ true) × (size_of prefix ≡ length stream)) ⊎ IsIncomplete reader.options prefix reader.rest.items
 
 -- what a reader with this stop knows about the stream; nothing if memory ran out
 abbrev pub Knows : State → List ℕ → Option ReadStop → Type 0
 Knows reader stream None = IsReading reader stream
-Knows reader stream (Some (stop.Refused f)) = IsRefusedAt reader.reads_debug stream f.offset f.reason
+Knows reader stream (Some (stop.Refused f)) = IsRefusedAt reader.options stream f.offset f.reason
 Knows reader stream (Some stop.NoMemory) = Unit {0}
 
 -- The reader has read the stream.
@@ -92,8 +93,8 @@ abbrev pub reader_stop : State → Option ReadStop
 reader_stop reader = reader.stop
 
 -- whether a reader reads the debug part
-abbrev pub reads_debug_of : State → Bool
-reads_debug_of reader = reader.reads_debug
+abbrev pub options_of : State → ReadOptions
+options_of reader = reader.options
 
 -- what a reader with this stop returns
 abbrev pub answer_of : Option ReadStop → Result (Unit {0}) ReadStop

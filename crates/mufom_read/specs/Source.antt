@@ -1,5 +1,5 @@
 -- What reading a module from a source returns, if the bytes that the source has left are known.
-use Rattle.std.specs.Prelude.{◌≡◌, ◌⊎◌, ℕ, ◌<◌, ◌≤◌, Bool, List, [], ◌++◌, length, take, Option, Some, Result, Ok, Err, IfSome}
+use Rattle.std.specs.Prelude.{◌≡◌, ◌⊎◌, ℕ, ◌<◌, ◌≤◌, List, [], ◌++◌, length, take, Option, Some, Result, Ok, Err, IfSome}
 use Rattle.mufom_numbers.specs.declared.reason.Reason.{Reason}
 use Rattle.mufom_numbers.specs.Spelling.{AreBytes}
 use Rattle.mufom_host.specs.World.{ReadsOff}
@@ -10,20 +10,21 @@ use Rattle.mufom_read.specs.declared.source.SourceStop.{SourceStop}
 use Rattle.mufom_read.specs.declared.source.SourceStop.TheVariants as stop
 use Rattle.mufom_read.specs.declared.state.State.{State}
 use Rattle.mufom_read.specs.Judging.{IsRefusedAt, IsModule, IsJudged, refusal}
-use Rattle.mufom_read.specs.Reader.{HasRead, reads_debug_of}
+use Rattle.mufom_read.specs.Reader.{HasRead, options_of}
+use Rattle.mufom_records.specs.declared.options.ReadOptions.{ReadOptions}
 
 -- the stream contains no error
-abbrev pub IsUnrefused : Bool → List ℕ → Type 0
-IsUnrefused reads_debug bytes = (offset : ℕ) (reason : Reason) → ¬ IsRefusedAt reads_debug bytes offset reason
+abbrev pub IsUnrefused : ReadOptions → List ℕ → Type 0
+IsUnrefused options bytes = (offset : ℕ) (reason : Reason) → ¬ IsRefusedAt options bytes offset reason
 
 -- The first `limit` bytes have this error; or there are at most `limit` bytes, and reading all of them results in this error.
-abbrev pub IsRefusedWithin : Bool → ℕ → List ℕ → ℕ → Reason → Type 0
-IsRefusedWithin reads_debug limit bytes offset reason = IsRefusedAt reads_debug (take limit bytes) offset reason
-    ⊎ ((length bytes ≤ limit) × IsJudged reads_debug bytes (refusal offset reason))
+abbrev pub IsRefusedWithin : ReadOptions → ℕ → List ℕ → ℕ → Reason → Type 0
+IsRefusedWithin options limit bytes offset reason = IsRefusedAt options (take limit bytes) offset reason
+    ⊎ ((length bytes ≤ limit) × IsJudged options bytes (refusal offset reason))
 
 -- There are more than `limit` bytes, and the first `limit` of them contain no error.
-abbrev pub IsPastLimit : Bool → ℕ → List ℕ → Type 0
-IsPastLimit reads_debug limit bytes = (limit < length bytes) × IsUnrefused reads_debug (take limit bytes)
+abbrev pub IsPastLimit : ReadOptions → ℕ → List ℕ → Type 0
+IsPastLimit options limit bytes = (limit < length bytes) × IsUnrefused options (take limit bytes)
 
 -- the size of the read buffer in bytes
 abbrev pub buffer_size : ℕ
@@ -35,19 +36,19 @@ ReadsAtMost most before after = (bytes : List ℕ) × ReadsOff before after byte
 
 -- What is left are the bytes after those that were read. All bytes that came before the last read are within the limit and
 -- contain no error. The last read took at most one buffer.
-abbrev pub ReadsNoFurther : Bool → ℕ → Option (List ℕ) → Option (List ℕ) → Type 0
-ReadsNoFurther reads_debug limit before after = IfSome before (λ left. (earlier last rest : List ℕ) × (left ≡ earlier ++ (last ++ rest)) × (after ≡ Some rest)
-    × (length last ≤ buffer_size) × (length earlier ≤ limit) × IsUnrefused reads_debug earlier)
+abbrev pub ReadsNoFurther : ReadOptions → ℕ → Option (List ℕ) → Option (List ℕ) → Type 0
+ReadsNoFurther options limit before after = IfSome before (λ left. (earlier last rest : List ℕ) × (left ≡ earlier ++ (last ++ rest)) × (after ≡ Some rest)
+    × (length last ≤ buffer_size) × (length earlier ≤ limit) × IsUnrefused options earlier)
 
 -- A module that is returned is that of all bytes that were left, and their number is returned with it. Every error except out
 -- of memory and a failed read follows from these bytes.
-abbrev pub ReadsModule : Bool → ℕ → Option (List ℕ) → Option (List ℕ) → Result (Parts × ℕ) SourceStop → Type 0
-ReadsModule reads_debug limit before after (Ok read) = IfSome before (λ left. IsModule reads_debug left read.0 × (read.1 ≡ length left)
+abbrev pub ReadsModule : ReadOptions → ℕ → Option (List ℕ) → Option (List ℕ) → Result (Parts × ℕ) SourceStop → Type 0
+ReadsModule options limit before after (Ok read) = IfSome before (λ left. IsModule options left read.0 × (read.1 ≡ length left)
     × (length left ≤ limit) × (after ≡ Some []))
-ReadsModule reads_debug limit before after (Err (stop.Refused r)) = IfSome before (λ left. IsRefusedWithin reads_debug limit left r.offset r.reason)
-ReadsModule reads_debug limit before after (Err stop.Limit) = IfSome before (λ left. IsPastLimit reads_debug limit left)
-ReadsModule reads_debug limit before after (Err stop.Fault) = Unit {0}
-ReadsModule reads_debug limit before after (Err stop.NoMemory) = Unit {0}
+ReadsModule options limit before after (Err (stop.Refused r)) = IfSome before (λ left. IsRefusedWithin options limit left r.offset r.reason)
+ReadsModule options limit before after (Err stop.Limit) = IfSome before (λ left. IsPastLimit options limit left)
+ReadsModule options limit before after (Err stop.Fault) = Unit {0}
+ReadsModule options limit before after (Err stop.NoMemory) = Unit {0}
 
 -- an error of the reader as an error of reading the source
 abbrev pub stop_by : ReadStop → SourceStop
@@ -59,10 +60,10 @@ stop_by read_stop.NoMemory = stop.NoMemory
 -- The result of feeding a chunk to a reader of this stream, of which it may read `room` bytes. Either it has read the chunk and
 -- found no error; or there is an error within the bytes that it may read; or there is none, and the chunk has more bytes.
 abbrev pub HasFed : ℕ → List ℕ → List ℕ → State → Result (Unit {0}) SourceStop → Type 0
-HasFed room stream chunk reader (Ok done) = (length chunk ≤ room) × HasRead reader (stream ++ chunk) × IsUnrefused (reads_debug_of reader) (stream ++ chunk)
+HasFed room stream chunk reader (Ok done) = (length chunk ≤ room) × HasRead reader (stream ++ chunk) × IsUnrefused (options_of reader) (stream ++ chunk)
 HasFed room stream chunk reader (Err (stop.Refused r)) = AreBytes (stream ++ take room chunk)
-    × IsRefusedAt (reads_debug_of reader) (stream ++ take room chunk) r.offset r.reason
-HasFed room stream chunk reader (Err stop.Limit) = (room < length chunk) × IsUnrefused (reads_debug_of reader) (stream ++ take room chunk)
+    × IsRefusedAt (options_of reader) (stream ++ take room chunk) r.offset r.reason
+HasFed room stream chunk reader (Err stop.Limit) = (room < length chunk) × IsUnrefused (options_of reader) (stream ++ take room chunk)
 HasFed room stream chunk reader (Err stop.Fault) = ⊥
 HasFed room stream chunk reader (Err stop.NoMemory) = Unit {0}
 
@@ -72,11 +73,11 @@ HasFed room stream chunk reader (Err stop.NoMemory) = Unit {0}
 abbrev pub HasReadChunk : ℕ → Option (List ℕ) → Option (List ℕ) → List ℕ → State → Result ℕ SourceStop → Type 0
 HasReadChunk room before after stream reader (Ok n) = (chunk : List ℕ) × (length chunk ≡ n) × (n ≤ room) × ReadsOff before after chunk
     × HasRead reader (stream ++ chunk) × (n ≡ 0 → IfSome before (λ left. left ≡ []))
-    × IsUnrefused (reads_debug_of reader) (stream ++ chunk)
+    × IsUnrefused (options_of reader) (stream ++ chunk)
 HasReadChunk room before after stream reader (Err (stop.Refused r)) =
-    IfSome before (λ left. IsRefusedAt (reads_debug_of reader) (stream ++ take room left) r.offset r.reason)
+    IfSome before (λ left. IsRefusedAt (options_of reader) (stream ++ take room left) r.offset r.reason)
 HasReadChunk room before after stream reader (Err stop.Limit) =
-    IfSome before (λ left. (room < length left) × IsUnrefused (reads_debug_of reader) (stream ++ take room left))
+    IfSome before (λ left. (room < length left) × IsUnrefused (options_of reader) (stream ++ take room left))
 HasReadChunk room before after stream reader (Err stop.Fault) = Unit {0}
 HasReadChunk room before after stream reader (Err stop.NoMemory) = Unit {0}
 
@@ -84,4 +85,4 @@ HasReadChunk room before after stream reader (Err stop.NoMemory) = Unit {0}
 abbrev pub HasReadAll : ℕ → Option (List ℕ) → Option (List ℕ) → State → Result ℕ SourceStop → Type 0
 HasReadAll limit before after reader (Ok n) = (bytes : List ℕ) × (length bytes ≡ n) × (n ≤ limit) × HasRead reader bytes
     × IfSome before (λ left. (left ≡ bytes) × (after ≡ Some []))
-HasReadAll limit before after reader (Err s) = ReadsModule (reads_debug_of reader) limit before after (Err s)
+HasReadAll limit before after reader (Err s) = ReadsModule (options_of reader) limit before after (Err s)

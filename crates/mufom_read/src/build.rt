@@ -8,6 +8,7 @@ ghost use Rattle.mufom_read.specs.declared.header.Addressing as its_layout;
 ghost use Rattle.mufom_read.specs.HeaderSoFar.{header_with};
 ghost use Rattle.mufom_read.specs.Prefixes.{Step};
 ghost use Rattle.mufom_read.specs.Built.{IsStatedByKept, IsWhole};
+ghost use Rattle.mufom_records.specs.declared.options.ReadOptions.{ReadOptions};
 
 use crate::contents::Contents;
 use crate::header::{Addressing, Header, Names};
@@ -74,9 +75,9 @@ fn parts_of(prefix: Prefix) -> Result<Parts, NoMemory>
 
 /// Builds the module of a prefix that contains no error, has ended, and is the whole stream.
 pub(crate) fn module_of(prefix: Prefix) -> Result<Module, NoMemory>
-    requires { (reads_debug : Bool) × (steps : List Step) × (bytes : List ℕ) × IsWhole reads_debug prefix steps bytes }
-    ensures { IfOk result (λ m. (reads_debug : Bool) (steps : List Step) (bytes : List ℕ) → IsWhole reads_debug prefix steps bytes
-        → SpellsModule m bytes reads_debug) }
+    requires { (options : ReadOptions) × (steps : List Step) × (bytes : List ℕ) × IsWhole options prefix steps bytes }
+    ensures { IfOk result (λ m. (options : ReadOptions) (steps : List Step) (bytes : List ℕ) → IsWhole options prefix steps bytes
+        → SpellsModule m bytes options) }
 {
     let parts = parts_of(prefix)?;
     Ok(Module::sound(parts))

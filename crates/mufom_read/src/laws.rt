@@ -1,5 +1,6 @@
 //! Laws about the results of reading. Each law is the contract of a function with an empty body.
 
+ghost use Rattle.mufom_read.specs.Laws.{GnuFormsAreExtra};
 ghost use Rattle.mufom_read.specs.Laws.{EndedPrefixIsModule, PrefixesAreOne, PrefixesOfModulesAreCutOff, PrefixesStay, HasJudgment, HasOneJudgment};
 ghost use Rattle.mufom_read.specs.Laws.{JudgmentsExcludeEachOther, ModuleIsEndedPrefix, RefusalIsSingle, RefusalStays};
 
@@ -53,4 +54,9 @@ pub fn has_one_judgment()
 /// Every proper prefix of a module's file counts as cut off, never as an error: no valid file is lost.
 pub fn prefixes_of_modules_are_cut_off()
     ensures { PrefixesOfModulesAreCutOff }
+{}
+
+/// A file of a module is a file of the same module if the forms of GNU binutils are accepted too.
+pub fn gnu_forms_are_extra()
+    ensures { GnuFormsAreExtra }
 {}

@@ -32,10 +32,11 @@ mod weight_laws;
 mod whole;
 
 pub use laws::{
-    ended_prefix_is_module, has_judgment, has_one_judgment, judgments_exclude_each_other,
-    module_is_ended_prefix, prefixes_are_one, prefixes_of_modules_are_cut_off, prefixes_stay,
-    refusal_is_single, refusal_stays,
+    ended_prefix_is_module, gnu_forms_are_extra, has_judgment, has_one_judgment,
+    judgments_exclude_each_other, module_is_ended_prefix, prefixes_are_one,
+    prefixes_of_modules_are_cut_off, prefixes_stay, refusal_is_single, refusal_stays,
 };
+pub use mufom_records::ReadOptions;
 pub use reader::Reader;
 pub use refusal::{ReadRefusal, ReadStop};
 pub use source::{SourceStop, read_module};

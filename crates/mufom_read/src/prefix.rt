@@ -1,7 +1,7 @@
 //! The records and unread bytes with which a stream begins, and the step after them.
 
-ghost use Rattle.std.specs.Prelude.{◌≡◌, ◌≢◌, ◌+◌, ◌-◌, ◌≤◌, ◌<◌, [], ◌++◌, ◌∷◌, ℕ, Bool, true, false, ◌==◌, ◌&&◌, not, if◌then◌else◌, Some, OnOk};
-ghost use Rattle.std.specs.Prelude.{List, length, take, None, option_map, IfOk, IsTrue, MatchOption};
+ghost use Rattle.std.specs.Prelude.{◌≡◌, ◌≢◌, ◌+◌, ◌-◌, ◌≤◌, ◌<◌, [], ◌++◌, ◌∷◌, ℕ, Bool, true, false, ◌==◌, nat_lt, ◌&&◌, not, if◌then◌else◌};
+ghost use Rattle.std.specs.Prelude.{Some, OnOk, List, length, take, None, option_map, IfOk, IsTrue, MatchOption};
 ghost use Rattle.std.specs.List.{cons_option};
 ghost use Rattle.mufom_module.specs.SpelledRecords as records;
 ghost use Rattle.mufom_module.specs.RecordParts as parts;
@@ -12,10 +12,11 @@ ghost use Rattle.mufom_read.specs.Kept.{record_of_seen, placed, HasOwnParts, Has
 ghost use Rattle.mufom_read.specs.DebugSoFar.{HasKind, opened};
 ghost use Rattle.mufom_read.specs.ContentsSoFar.{AreContentsOf, AreContentsBefore, AreMarked};
 ghost use Rattle.mufom_read.specs.PrefixOfCode.{IsPrefixOf, IsRead, IsRawPart, HasJudged, HasRaw, HasSkipped, IsPlacedWell, with_record, as_location};
-ghost use Rattle.mufom_read.specs.PrefixOfCode.{next_location, is_inside, mode_at, HasTaken, IsStepTaken, HasAdvanced};
+ghost use Rattle.mufom_read.specs.PrefixOfCode.{next_location, is_inside, mode_at, end_at, HasTaken, IsStepTaken, HasAdvanced};
 ghost use Rattle.mufom_read.specs.declared.prefix.Next.TheVariants as nexts;
-ghost use Rattle.mufom_records.specs.Reading.{record_at};
+ghost use Rattle.mufom_records.specs.Reading.{record_within};
 ghost use Rattle.mufom_records.specs.declared.record.Mode.TheVariants as modes;
+ghost use Rattle.mufom_module.specs.Grammar as grammar;
 ghost use Rattle.mufom_module.specs.Grammar.{offset_in, file_limit};
 
 use crate::contents::Contents;
@@ -28,7 +29,7 @@ use crate::tables::Tables;
 use crate::whole::whole_fault;
 use mufom_expr::Postfix;
 use mufom_numbers::{List, NoMemory, Reason, codes};
-use mufom_records::{Mode, Record, Stop, read_record};
+use mufom_records::{Mode, ReadOptions, Record, Stop, read_record_before};
 use std::alloc::Global;
 
 // The position, from 0, of the last record of the header.
@@ -132,13 +133,13 @@ fn add_offset(offsets: &mut List<u64>, record: &Record) -> Result<(), NoMemory>
 }
 
 // The part of the location, if the part's bytes are not read as records.
-fn raw_part(reads_debug: bool, place: Location) -> Option<Extent>
-    ensures { MatchOption result (IsRead reads_debug place) (IsRawPart reads_debug place) }
+fn raw_part(options: ReadOptions, place: Location) -> Option<Extent>
+    ensures { MatchOption result (IsRead options place) (IsRawPart options place) }
 {
     match place {
         Location::Header(_) => None,
         Location::Part(extent) => {
-            if is_raw(reads_debug, extent.part) {
+            if is_raw(options.debug, extent.part) {
                 Some(extent)
             } else {
                 None
@@ -148,10 +149,52 @@ fn raw_part(reads_debug: bool, place: Location) -> Option<Extent>
     }
 }
 
-fn body_mode(items: bool) -> Mode
-    ensures { result ≡ (if items then modes.Items else modes.Body) }
+// The mode of an item of an LR.
+fn items_mode(options: ReadOptions) -> Mode
+    ensures { result ≡ parts.items_mode options }
 {
-    if items { Mode::Items } else { Mode::Body }
+    if options.gnu {
+        Mode::GnuItems
+    } else {
+        Mode::Items
+    }
+}
+
+fn body_mode(options: ReadOptions, items: bool) -> Mode
+    ensures { result ≡ (if items then parts.items_mode options else modes.Body) }
+{
+    if items {
+        items_mode(options)
+    } else {
+        Mode::Body
+    }
+}
+
+// W4: the offset of the debug part.
+fn debug_offset(offsets: &[u64]) -> u64
+    ensures { result ≡ grammar.debug_offset offsets.now }
+{
+    match offsets {
+        [_, _, _, _, offset, ..] => *offset,
+        _ => 0,
+    }
+}
+
+// The number of bytes from an offset up to the debug part, if the records before that part end before its first
+// byte, whatever that byte is.
+fn bytes_to_debug(options: ReadOptions, offsets: &[u64], size: u64) -> Option<usize>
+    ensures { result ≡ (if grammar.ends_before_debug options offsets.now && nat_lt size (grammar.debug_offset offsets.now)
+        then Some (grammar.debug_offset offsets.now - size) else None) }
+{
+    if !options.gnu || options.debug {
+        return None;
+    }
+    let end = debug_offset(offsets);
+    if size < end {
+        Some((end - size) as usize)
+    } else {
+        None
+    }
 }
 
 // The first `count` bytes, or all if there are fewer.
@@ -264,14 +307,26 @@ impl Prefix {
     }
 
     // The mode in which to read the bytes at a location.
-    fn mode(&self, place: Location, rest: &[u8]) -> Mode
+    fn mode(&self, options: ReadOptions, place: Location, rest: &[u8]) -> Mode
         ensures { (prefix : List prefixes.Step) → IsPrefixOf self.now prefix
-            → result ≡ mode_at prefix (as_location place) rest.now }
+            → result ≡ mode_at options prefix (as_location place) rest.now }
     {
         match place {
             Location::Header(count) => header_mode(count),
-            Location::Part(extent) => body_mode(self.may_go_on(extent, rest)),
+            Location::Part(extent) => body_mode(options, self.may_go_on(extent, rest)),
             Location::End => Mode::Body,
+        }
+    }
+
+    // The number of bytes up to those of the debug part that belong to no record, at a location.
+    fn end(&self, options: ReadOptions, place: Location) -> Option<usize>
+        ensures { (prefix : List prefixes.Step) → IsPrefixOf self.now prefix
+            → result ≡ end_at options prefix (as_location place) }
+    {
+        match place {
+            Location::Header(_) => None,
+            Location::Part(_) => bytes_to_debug(options, self.offsets.as_slice(), self.size),
+            Location::End => None,
         }
     }
 
@@ -418,7 +473,13 @@ impl Prefix {
 
     // Reads the record at the start of `rest`, checks it and adds it.
     #[inline(always)]
-    fn read(&mut self, alloc: Global, place: Location, rest: &[u8]) -> Result<Next, NoMemory>
+    fn read(
+        &mut self,
+        alloc: Global,
+        options: ReadOptions,
+        place: Location,
+        rest: &[u8],
+    ) -> Result<Next, NoMemory>
         requires known { (prefix : List prefixes.Step) × IsPrefixOf self.old prefix
             × (as_location place ≡ prefixes.location_after prefix) }
         requires fits { self.old.size + length rest.now ≤ file_limit }
@@ -426,11 +487,13 @@ impl Prefix {
             → as_location place ≡ prefixes.location_after prefix
             → HasJudged prefix
             (prefixes.as_step (prefixes.size_of prefix) rest.now
-            (record_at (mode_at prefix (as_location place) rest.now) rest.now)) rest.now self.new next) }
+            (record_within (end_at options prefix (as_location place))
+            (mode_at options prefix (as_location place) rest.now) rest.now)) rest.now self.new next) }
     {
-        // Any record: `read_record` stores the one that it reads here.
+        // Any record: `read_record_before` stores the one that it reads here.
         let mut row = Record::ModuleEnd;
-        match read_record(rest, self.mode(place, rest), &mut row) {
+        let mode = self.mode(options, place, rest);
+        match read_record_before(rest, self.end(options, place), mode, &mut row) {
             Ok(used) => {
                 let next = SeenRecord {
                     start: self.size,
@@ -501,17 +564,17 @@ impl Prefix {
 
     // Takes the next record, or bytes that are not read as records.
     #[inline(always)]
-    fn step(&mut self, alloc: Global, reads_debug: bool, rest: &[u8]) -> Result<Next, NoMemory>
+    fn step(&mut self, alloc: Global, options: ReadOptions, rest: &[u8]) -> Result<Next, NoMemory>
         requires known { (prefix : List prefixes.Step) × IsPrefixOf self.old prefix }
         requires fits { self.old.size + length rest.now ≤ file_limit }
         ensures { IfOk result (λ next. (prefix : List prefixes.Step) → IsPrefixOf self.old prefix
             → prefixes.is_ended prefix ≡ false → faults.ended_part_fault prefix ≡ None
-            → IsStepTaken reads_debug prefix rest.now self.new next) }
+            → IsStepTaken options prefix rest.now self.new next) }
     {
         let place = self.location;
-        match raw_part(reads_debug, place) {
+        match raw_part(options, place) {
             Some(extent) => self.skip(extent, rest),
-            None => self.read(alloc, place, rest),
+            None => self.read(alloc, options, place, rest),
         }
     }
 
@@ -519,7 +582,7 @@ impl Prefix {
     pub(crate) fn advance(
         &mut self,
         alloc: Global,
-        reads_debug: bool,
+        options: ReadOptions,
         rest: &[u8],
     ) -> Result<Next, NoMemory>
         requires known { (prefix : List prefixes.Step) × IsPrefixOf self.old prefix × (prefixes.is_ended prefix ≡ false)
@@ -527,9 +590,9 @@ impl Prefix {
         requires fits { self.old.size + length rest.now ≤ file_limit }
         ensures { IfOk result (λ next. (prefix : List prefixes.Step) → IsPrefixOf self.old prefix
             → prefixes.is_ended prefix ≡ false → faults.ended_part_fault prefix ≡ None
-            → HasAdvanced reads_debug prefix rest.now self.new next) }
+            → HasAdvanced options prefix rest.now self.new next) }
     {
-        match self.step(alloc, reads_debug, rest)? {
+        match self.step(alloc, options, rest)? {
             Next::Took(count) => Ok(self.judge_part(count)),
             Next::More => Ok(Next::More),
             Next::Refused(refusal) => Ok(Next::Refused(refusal)),
@@ -539,8 +602,8 @@ impl Prefix {
     // Checks the part that ends after the `count` bytes that were taken, if one does, unless the module has ended.
     fn judge_part(&self, count: usize) -> Next
         requires { AreMarked self.now.contents }
-        ensures { (reads_debug : Bool) (prefix : List prefixes.Step) (rest : List ℕ)
-            → IsStepTaken reads_debug prefix rest self.now (nexts.Took count) → HasAdvanced reads_debug prefix rest self.now result }
+        ensures { (options : ReadOptions) (prefix : List prefixes.Step) (rest : List ℕ)
+            → IsStepTaken options prefix rest self.now (nexts.Took count) → HasAdvanced options prefix rest self.now result }
     {
         if self.is_ended() {
             return Next::Took(count);

@@ -5,7 +5,7 @@ ghost use Rattle.mufom_numbers.specs.declared.reason.Reason.{Reason};
 ghost use Rattle.mufom_module.specs.declared.module.Parts.{Parts};
 ghost use Rattle.mufom_module.specs.Written.{weight};
 ghost use Rattle.mufom_read.specs.Judging.{IsRefusedAt, IsPending, IsModule, IsJudged, refusal};
-ghost use Rattle.mufom_read.specs.Reader.{HasRead, reader_stop, reads_debug_of, answer_of};
+ghost use Rattle.mufom_read.specs.Reader.{HasRead, reader_stop, options_of, answer_of};
 
 use crate::build::module_of;
 use crate::prefix::Prefix;
@@ -13,6 +13,7 @@ use crate::refusal::ReadStop;
 use crate::state::{State, refused};
 use mufom_module::Module;
 use mufom_numbers::{NoMemory, Reason};
+use mufom_records::ReadOptions;
 use std::alloc::Global;
 use std::marker::Model;
 
@@ -50,16 +51,16 @@ impl Drop for Reader {
 }
 
 impl Reader {
-    /// A reader that has read nothing yet. `reads_debug` selects whether it reads the debug part or skips it.
-    pub fn new(alloc: Global, reads_debug: bool) -> Result<Reader, NoMemory>
+    /// A reader that has read nothing yet, and that reads with these options.
+    pub fn new(alloc: Global, options: ReadOptions) -> Result<Reader, NoMemory>
         ensures read { IfOk result (λ reader. HasRead reader []) }
-        ensures reads_debug { IfOk result (λ reader. reads_debug_of reader ≡ reads_debug) }
+        ensures options { IfOk result (λ reader. options_of reader ≡ options) }
         ensures stop { IfOk result (λ reader. reader_stop reader ≡ None) }
     {
         Ok(Reader {
             state: State {
                 alloc,
-                reads_debug,
+                options,
                 prefix: Prefix::new(alloc),
                 rest: Vec::new(alloc),
                 stop: None,
@@ -76,10 +77,10 @@ impl Reader {
         ensures answer { result ≡ answer_of (reader_stop self.new) }
         // A reader that was stopped before does not change.
         ensures stays { IsSome (reader_stop self.old) → self.new ≡ self.old }
-        ensures reads_debug { reads_debug_of self.new ≡ reads_debug_of self.old }
+        ensures options { options_of self.new ≡ options_of self.old }
         // It returns exactly the first error in the stream so far, unless memory ran out.
         ensures refused { (offset : ℕ) (reason : Reason) (stream : List ℕ) → HasRead self.old stream → reader_stop self.new ≢ Some ReadStop.NoMemory
-            → (result ≡ Err (ReadStop.Refused (record { offset = offset; reason = reason }))) ↔ IsRefusedAt (reads_debug_of self.old)
+            → (result ≡ Err (ReadStop.Refused (record { offset = offset; reason = reason }))) ↔ IsRefusedAt (options_of self.old)
             (stream ++ chunk.now) offset reason }
     {
         match self.state.stop {
@@ -91,14 +92,14 @@ impl Reader {
     /// The module of the whole stream, or why there is none: `Truncated` if the stream ends too early.
     pub fn finish(self) -> Result<Module, ReadStop>
         ensures stopped { IfSome (reader_stop self) (λ stop. result ≡ Err stop) }
-        ensures ok { (stream : List ℕ) → HasRead self stream → IfOk result (λ m. IsModule (reads_debug_of self) stream m) }
+        ensures ok { (stream : List ℕ) → HasRead self stream → IfOk result (λ m. IsModule (options_of self) stream m) }
         // The module's weight is at most ten times the length of the stream.
         ensures weighs { (stream : List ℕ) → HasRead self stream → IfOk result (λ m. weight m ≤ 10 * length stream) }
         // The file of a module is read successfully, unless memory runs out.
-        ensures module { (stream : List ℕ) (m : Parts) → HasRead self stream → IsModule (reads_debug_of self) stream m
+        ensures module { (stream : List ℕ) (m : Parts) → HasRead self stream → IsModule (options_of self) stream m
             → result ≢ Err ReadStop.NoMemory → result ≡ Ok m }
         ensures refused { (offset : ℕ) (reason : Reason) (stream : List ℕ) → HasRead self stream → result ≢ Err ReadStop.NoMemory
-            → (result ≡ Err (ReadStop.Refused (record { offset = offset; reason = reason }))) ↔ IsJudged (reads_debug_of self) stream
+            → (result ≡ Err (ReadStop.Refused (record { offset = offset; reason = reason }))) ↔ IsJudged (options_of self) stream
             (refusal offset reason) }
     {
         let Reader { state } = self;
@@ -117,7 +118,7 @@ impl Reader {
     /// The number of bytes that wait for the rest of their record. Does not allocate.
     pub fn pending(&self) -> usize
         ensures exact { (stream : List ℕ) → HasRead self.now stream → reader_stop self.now ≡ None
-            → IsPending (reads_debug_of self.now) stream result }
+            → IsPending (options_of self.now) stream result }
         // Fewer than the longest record has: an MB with two strings of 65,535 bytes.
         ensures small { reader_stop self.now ≡ None → result < 131077 }
     {

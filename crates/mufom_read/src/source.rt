@@ -6,7 +6,7 @@ ghost use Rattle.mufom_host.specs.World.{OnlyReads, Rose};
 ghost use Rattle.mufom_module.specs.Grammar.{file_limit};
 ghost use Rattle.mufom_module.specs.Written.{weight};
 ghost use Rattle.mufom_read.specs.Judging.{IsModule};
-ghost use Rattle.mufom_read.specs.Reader.{HasRead, reads_debug_of};
+ghost use Rattle.mufom_read.specs.Reader.{HasRead, options_of};
 ghost use Rattle.mufom_read.specs.Source.{
   IsRefusedWithin,
   IsPastLimit,
@@ -23,6 +23,7 @@ use crate::reader::Reader;
 use crate::refusal::{ReadRefusal, ReadStop};
 use mufom_host::{Failed, Source};
 use mufom_module::Module;
+use mufom_records::ReadOptions;
 use std::alloc::Global;
 use thiserror::Error;
 
@@ -67,7 +68,7 @@ fn feed_within(
 ) -> Result<(), SourceStop>
     requires { count ≤ length buffer.now }
     ensures fed { (stream : List ℕ) → HasRead reader.old stream → HasFed room stream (take count buffer.now) reader.new result }
-    ensures reads_debug { reads_debug_of reader.new ≡ reads_debug_of reader.old }
+    ensures options { options_of reader.new ≡ options_of reader.old }
     ensures fault { result ≢ Err SourceStop.Fault }
 {
     if count as u64 <= room {
@@ -89,7 +90,7 @@ fn read_chunk<S: Source>(
     ensures read { (stream : List ℕ) → HasRead reader.old stream
         → HasReadChunk room (S.meaning source.old).left (S.meaning source.new).left stream reader.new result }
     ensures taken { ReadsAtMost (length buffer.old) (S.meaning source.old).left (S.meaning source.new).left }
-    ensures reads_debug { reads_debug_of reader.new ≡ reads_debug_of reader.old }
+    ensures options { options_of reader.new ≡ options_of reader.old }
     ensures fault { result ≡ Err SourceStop.Fault → Rose (S.faults source.old).reads (S.faults source.new).reads }
     ensures only { OnlyReads (S.meaning source.old) (S.meaning source.new) (S.faults source.old) (S.faults source.new) }
 {
@@ -112,8 +113,8 @@ fn read_all<S: Source>(
     requires buffer { length buffer.old ≡ buffer_size }
     requires begins { HasRead reader.old [] }
     ensures read { HasReadAll limit (S.meaning source.old).left (S.meaning source.new).left reader.new result }
-    ensures further { ReadsNoFurther (reads_debug_of reader.old) limit (S.meaning source.old).left (S.meaning source.new).left }
-    ensures reads_debug { reads_debug_of reader.new ≡ reads_debug_of reader.old }
+    ensures further { ReadsNoFurther (options_of reader.old) limit (S.meaning source.old).left (S.meaning source.new).left }
+    ensures options { options_of reader.new ≡ options_of reader.old }
     ensures fault { result ≡ Err SourceStop.Fault → Rose (S.faults source.old).reads (S.faults source.new).reads }
     ensures only { OnlyReads (S.meaning source.old) (S.meaning source.new) (S.faults source.old) (S.faults source.new) }
 {
@@ -136,31 +137,31 @@ pub fn read_module<S: Source>(
     alloc: Global,
     source: &mut S,
     limit: u64,
-    reads_debug: bool,
+    options: ReadOptions,
 ) -> Result<(Module, u64), SourceStop>
     requires { limit ≤ file_limit }
     // Every result except a failed read and out of memory follows from the bytes that were left.
-    ensures reads { ReadsModule reads_debug limit (S.meaning source.old).left (S.meaning source.new).left result }
+    ensures reads { ReadsModule options limit (S.meaning source.old).left (S.meaning source.new).left result }
     // The module of all bytes that were left, and their number. Nothing is left afterwards.
-    ensures ok { IfOk result (λ r. IfSome (S.meaning source.old).left (λ left. IsModule reads_debug left r.0 × (r.1 ≡ length left)
+    ensures ok { IfOk result (λ r. IfSome (S.meaning source.old).left (λ left. IsModule options left r.0 × (r.1 ≡ length left)
         × (r.1 ≤ limit) × ((S.meaning source.new).left ≡ Some []))) }
     // This holds even if the source does not reveal what it has left.
     ensures weighs { IfOk result (λ r. (weight r.0 ≤ 10 * r.1) × (r.1 ≤ limit)) }
     ensures refused { (offset : ℕ) (reason : Reason)
         → IfSome (S.meaning source.old).left (λ left. result ≢ Err SourceStop.NoMemory → result ≢ Err SourceStop.Fault
-        → (result ≡ Err (SourceStop.Refused (record { offset = offset; reason = reason }))) ↔ IsRefusedWithin reads_debug limit left offset reason) }
+        → (result ≡ Err (SourceStop.Refused (record { offset = offset; reason = reason }))) ↔ IsRefusedWithin options limit left offset reason) }
     ensures limit { IfSome (S.meaning source.old).left (λ left. result ≢ Err SourceStop.NoMemory → result ≢ Err SourceStop.Fault
-        → (result ≡ Err SourceStop.Limit) ↔ IsPastLimit reads_debug limit left) }
+        → (result ≡ Err SourceStop.Limit) ↔ IsPastLimit options limit left) }
     // Whatever is returned: the chunks before the last one are within the limit and contain no error, and what is left
     // follows the last one.
-    ensures further { ReadsNoFurther reads_debug limit (S.meaning source.old).left (S.meaning source.new).left }
+    ensures further { ReadsNoFurther options limit (S.meaning source.old).left (S.meaning source.new).left }
     ensures fault { result ≡ Err SourceStop.Fault → Rose (S.faults source.old).reads (S.faults source.new).reads }
     ensures only { OnlyReads (S.meaning source.old) (S.meaning source.new) (S.faults source.old) (S.faults source.new) }
 {
     let Ok(mut buffer) = vec![in alloc; 0u8; BUFFER] else {
         return Err(SourceStop::NoMemory);
     };
-    let Ok(mut reader) = Reader::new(alloc, reads_debug) else {
+    let Ok(mut reader) = Reader::new(alloc, options) else {
         return Err(SourceStop::NoMemory);
     };
     let length = read_all(source, &mut reader, &mut buffer, limit)?;

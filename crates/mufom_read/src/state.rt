@@ -22,13 +22,14 @@ use crate::prefix::{Next, Prefix};
 use crate::refusal::{ReadRefusal, ReadStop};
 use mufom_numbers::limits::MOST_FILE_BYTES;
 use mufom_numbers::{NoMemory, Reason};
+use mufom_records::ReadOptions;
 use std::alloc::Global;
 
 /// The state of a reader.
 #[derive(Debug)]
 pub(crate) struct State {
     pub alloc: Global,
-    pub reads_debug: bool,
+    pub options: ReadOptions,
     pub prefix: Prefix,
     /// The pending bytes after the prefix: those of a record that is not complete yet.
     pub rest: Vec<u8>,
@@ -75,18 +76,18 @@ fn answer(stop: Option<ReadStop>) -> Result<(), ReadStop>
 // Takes all complete records and unread bytes at the start of `rest`, and returns the number of bytes taken.
 fn take_all(
     alloc: Global,
-    reads_debug: bool,
+    options: ReadOptions,
     prefix: &mut Prefix,
     rest: &[u8],
 ) -> Result<usize, ReadStop>
     requires known { (before : List Step) × IsPrefixOf prefix.old before × (is_ended before ≡ false → ended_part_fault before ≡ None) }
     requires fits { prefix.old.size + length rest.now ≤ file_limit }
     ensures { (before : List Step) → IsPrefixOf prefix.old before → (is_ended before ≡ false → ended_part_fault before ≡ None)
-        → HasTakenAll reads_debug before rest.now prefix.new result }
+        → HasTakenAll options before rest.now prefix.new result }
 {
     let mut taken = 0;
     while !prefix.is_ended() {
-        match prefix.advance(alloc, reads_debug, after(rest, taken)) {
+        match prefix.advance(alloc, options, after(rest, taken)) {
             Ok(Next::Took(count)) => taken += count,
             Ok(Next::More) => return Ok(taken),
             Ok(Next::Refused(refusal)) => return Err(ReadStop::Refused(refusal)),
@@ -101,7 +102,7 @@ impl Drop for State {
     fn drop(self) {
         let State {
             alloc: _,
-            reads_debug: _,
+            options: _,
             prefix: _,
             rest: _,
             stop: _,
@@ -116,7 +117,7 @@ impl State {
     {
         let State {
             alloc: _,
-            reads_debug: _,
+            options: _,
             prefix,
             rest: _,
             stop: _,
@@ -165,7 +166,7 @@ impl State {
         requires some { 0 < length self.old.rest.items }
         requires more { 0 < length bytes.now }
         ensures prefix { self.new.prefix ≡ self.old.prefix }
-        ensures reads_debug { self.new.reads_debug ≡ self.old.reads_debug }
+        ensures options { self.new.options ≡ self.old.options }
         ensures added { IfOk result
             (λ n. (0 < n) × (n ≤ length bytes.now) × (self.new.rest.items ≡ self.old.rest.items ++ take n bytes.now)) }
     {
@@ -178,14 +179,14 @@ impl State {
     // chunk does not complete the record, the whole chunk becomes pending.
     fn complete(&mut self, chunk: &[u8]) -> Result<usize, ReadStop>
         requires known { (before : List Step) × IsPrefixOf self.old.prefix before
-            × IsIncomplete self.old.reads_debug before self.old.rest.items }
+            × IsIncomplete self.old.options before self.old.rest.items }
         requires some { 0 < length self.old.rest.items }
         requires bytes { AreBytes (self.old.rest.items ++ chunk.now) }
         requires fits { self.old.prefix.size + (length self.old.rest.items + length chunk.now) ≤ file_limit }
         ensures completed { (before : List Step) → IsPrefixOf self.old.prefix before
-            → IsIncomplete self.old.reads_debug before self.old.rest.items
-            → HasCompleted self.old.reads_debug before self.old.rest.items chunk.now self.new result }
-        ensures reads_debug { self.new.reads_debug ≡ self.old.reads_debug }
+            → IsIncomplete self.old.options before self.old.rest.items
+            → HasCompleted self.old.options before self.old.rest.items chunk.now self.new result }
+        ensures options { self.new.options ≡ self.old.options }
         ensures within { IfOk result (λ n. n ≤ length chunk.now) }
     {
         let pending = self.rest.len();
@@ -195,10 +196,7 @@ impl State {
                 return Err(ReadStop::NoMemory);
             };
             used += added;
-            match self
-                .prefix
-                .advance(self.alloc, self.reads_debug, &self.rest)
-            {
+            match self.prefix.advance(self.alloc, self.options, &self.rest) {
                 Ok(Next::Took(count)) => {
                     self.rest.clear();
                     return Ok(count - pending);
@@ -219,10 +217,10 @@ impl State {
         requires fits { self.old.prefix.size + length bytes.now ≤ file_limit }
         ensures taken { (before : List Step) → IsPrefixOf self.old.prefix before
             → (is_ended before ≡ false → ended_part_fault before ≡ None)
-            → HasTakenChunk self.old.reads_debug before bytes.now self.new result }
-        ensures reads_debug { self.new.reads_debug ≡ self.old.reads_debug }
+            → HasTakenChunk self.old.options before bytes.now self.new result }
+        ensures options { self.new.options ≡ self.old.options }
     {
-        let taken = take_all(self.alloc, self.reads_debug, &mut self.prefix, bytes)?;
+        let taken = take_all(self.alloc, self.options, &mut self.prefix, bytes)?;
         if self.rest.extend_from_slice(after(bytes, taken)).is_err() {
             return Err(ReadStop::NoMemory);
         }
@@ -234,13 +232,13 @@ impl State {
     // length of that record, and the bytes of the record that the chunk leaves unfinished.
     fn take_chunk(&mut self, chunk: &[u8]) -> Result<(), ReadStop>
         requires known { (before : List Step) × IsPrefixOf self.old.prefix before
-            × HasNoStep self.old.reads_debug before self.old.rest.items }
+            × HasNoStep self.old.options before self.old.rest.items }
         requires bytes { AreBytes (self.old.rest.items ++ chunk.now) }
         requires fits { self.old.prefix.size + (length self.old.rest.items + length chunk.now) ≤ file_limit }
         ensures taken { (before : List Step) → IsPrefixOf self.old.prefix before
-            → HasNoStep self.old.reads_debug before self.old.rest.items
-            → HasTakenChunk self.old.reads_debug before (self.old.rest.items ++ chunk.now) self.new result }
-        ensures reads_debug { self.new.reads_debug ≡ self.old.reads_debug }
+            → HasNoStep self.old.options before self.old.rest.items
+            → HasTakenChunk self.old.options before (self.old.rest.items ++ chunk.now) self.new result }
+        ensures options { self.new.options ≡ self.old.options }
     {
         if self.rest.is_empty() {
             return self.take_directly(chunk);
@@ -256,7 +254,7 @@ impl State {
     fn read(&mut self, chunk: &[u8]) -> Option<ReadStop>
         requires known { (stream : List ℕ) × AreBytes stream × IsReading self.old stream }
         ensures known { (stream : List ℕ) → AreBytes (stream ++ chunk.now) → IsReading self.old stream → Knows self.new (stream ++ chunk.now) result }
-        ensures reads_debug { self.new.reads_debug ≡ self.old.reads_debug }
+        ensures options { self.new.options ≡ self.old.options }
     {
         let room = MOST_FILE_BYTES - self.len();
         match self.take_chunk(at_most(chunk, room)) {
@@ -271,7 +269,7 @@ impl State {
         ensures known { (stream : List ℕ) → AreBytes (stream ++ chunk.now) → IsReading self.old stream
             → Knows self.new (stream ++ chunk.now) self.new.stop }
         ensures answer { result ≡ answer_of self.new.stop }
-        ensures reads_debug { self.new.reads_debug ≡ self.old.reads_debug }
+        ensures options { self.new.options ≡ self.old.options }
     {
         let stop = self.read(chunk);
         self.stop = stop;

@@ -1,6 +1,6 @@
 //! Long streams, read byte by byte.
 
-use crate::streams::{PLAIN, add, copy_of, read, set, text_of};
+use crate::streams::{PLAIN, WITH_DEBUG, add, copy_of, read, set, text_of};
 use std::alloc::Global;
 use std::process::Abort;
 
@@ -32,7 +32,7 @@ fn cuts_make_no_difference(rt: HostRuntime) {
 
 // The number of loads in the module of a stream that is read byte by byte.
 fn loads_of(alloc: Global, stream: &[u8]) -> usize {
-    match read(alloc, stream, 1, true) {
+    match read(alloc, stream, 1, WITH_DEBUG) {
         Ok(module) => module.parts().loads.len(),
         Err(_) => 0,
     }

@@ -6,6 +6,8 @@
 #[cfg(test)]
 mod cuts;
 #[cfg(test)]
+mod gnu;
+#[cfg(test)]
 mod real;
 #[cfg(test)]
 mod records;

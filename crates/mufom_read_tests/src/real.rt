@@ -6,9 +6,10 @@
 
 ghost use Rattle.std.specs.Prelude.{◌<◌};
 
-use crate::streams::{gives, read, refused};
+use crate::streams::{GNU, GNU_WITHOUT_DEBUG, WITH_DEBUG, WITHOUT_DEBUG, gives, read, refused};
 use mufom_module::Module;
 use mufom_numbers::Reason;
+use mufom_read::ReadOptions;
 use std::alloc::Global;
 use std::process::Abort;
 
@@ -247,24 +248,24 @@ fn count(module: &Module) -> Figures {
 }
 
 // The figures of the module of a stream that is fed in chunks of `size` bytes, if it has one.
-fn figures_of(alloc: Global, stream: &[u8], size: usize, reads_debug: bool) -> Option<Figures>
+fn figures_of(alloc: Global, stream: &[u8], size: usize, options: ReadOptions) -> Option<Figures>
     requires { 0 < size }
 {
-    match read(alloc, stream, size, reads_debug) {
+    match read(alloc, stream, size, options) {
         Ok(module) => Some(count(&module)),
         Err(_) => None,
     }
 }
 
 // Asserts that the file, read whole and byte by byte, is a module with these figures.
-fn has_figures(rt: &impl Abort, alloc: Global, file: &[u8], reads_debug: bool, wanted: Figures) {
+fn has_figures(rt: &impl Abort, alloc: Global, file: &[u8], options: ReadOptions, wanted: Figures) {
     assert_eq!(rt;
-        figures_of(alloc, file, 65_536, reads_debug),
+        figures_of(alloc, file, 65_536, options),
         Some(wanted),
         "read whole"
     );
     assert_eq!(rt;
-        figures_of(alloc, file, 1, reads_debug),
+        figures_of(alloc, file, 1, options),
         Some(wanted),
         "read byte by byte"
     );
@@ -282,18 +283,39 @@ fn counted(sections: usize, publics: usize, references: usize, loads: usize) -> 
 #[test]
 fn files_of_a_toolchain_are_modules(rt: HostRuntime) {
     let alloc = rt.alloc();
-    has_figures(&rt, alloc, M68K_ABSOLUTE, true, counted(5, 18, 0, 13));
-    has_figures(&rt, alloc, M68K_OBJECT, true, counted(3, 4, 3, 15));
-    has_figures(&rt, alloc, M68K_OBJECT_ELF, true, counted(3, 4, 3, 15));
-    has_figures(&rt, alloc, H8300_OBJECT, true, counted(3, 2, 0, 11));
-    has_figures(&rt, alloc, H8300_DEBUG, false, counted(6, 15, 0, 6));
+    has_figures(&rt, alloc, M68K_ABSOLUTE, WITH_DEBUG, counted(5, 18, 0, 13));
+    has_figures(&rt, alloc, M68K_OBJECT, WITH_DEBUG, counted(3, 4, 3, 15));
+    has_figures(
+        &rt,
+        alloc,
+        M68K_OBJECT_ELF,
+        WITH_DEBUG,
+        counted(3, 4, 3, 15),
+    );
+    has_figures(&rt, alloc, H8300_OBJECT, WITH_DEBUG, counted(3, 2, 0, 11));
+    has_figures(&rt, alloc, H8300_DEBUG, WITHOUT_DEBUG, counted(6, 15, 0, 6));
+}
+
+#[test]
+fn a_file_without_commas_is_a_module_with_the_forms_of_binutils(rt: HostRuntime) {
+    let alloc = rt.alloc();
+    has_figures(&rt, alloc, M68K_NO_COMMA, GNU, counted(5, 4, 5, 35));
+    has_figures(
+        &rt,
+        alloc,
+        M68K_NO_COMMA,
+        GNU_WITHOUT_DEBUG,
+        counted(5, 4, 5, 35),
+    );
+    has_figures(&rt, alloc, M68K_ABSOLUTE, GNU, counted(5, 18, 0, 13));
+    has_figures(&rt, alloc, M68K_OBJECT, GNU, counted(3, 4, 3, 15));
 }
 
 // Asserts that the file, read whole and byte by byte, has this error at this offset.
 fn is_refused(rt: &impl Abort, alloc: Global, file: &[u8], offset: u64, reason: Reason) {
     let wanted = refused(offset, reason);
-    gives(rt, alloc, file, 65_536, true, wanted);
-    gives(rt, alloc, file, 1, true, wanted);
+    gives(rt, alloc, file, 65_536, WITH_DEBUG, wanted);
+    gives(rt, alloc, file, 1, WITH_DEBUG, wanted);
 }
 
 #[test]

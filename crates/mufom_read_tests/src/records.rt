@@ -7,7 +7,7 @@ use std::alloc::Global;
 use std::process::Abort;
 
 // Complete records, each followed by the byte E1, with the mode to read them in and their values.
-static RECORDS: [(Mode, &[u8], &str); 54] = [
+static RECORDS: [(Mode, &[u8], &str); 61] = [
     (
         Mode::Begin,
         b"\xE0\x05\x36\x38\x30\x30\x30\x01\x41\xE1",
@@ -225,6 +225,41 @@ static RECORDS: [(Mode, &[u8], &str); 54] = [
         "FieldItem(Either, Span { start: 1, len: 2 }, Some(2))",
     ),
     (
+        Mode::GnuItems,
+        b"\xBE\xD2\x01\x02\xBF\xE1",
+        "FieldItem(Either, Span { start: 1, len: 2 }, Some(2))",
+    ),
+    (
+        Mode::GnuItems,
+        b"\xBE\x05\x02\xBF\xE1",
+        "FieldItem(Either, Span { start: 1, len: 1 }, Some(2))",
+    ),
+    (
+        Mode::GnuItems,
+        b"\xBE\xD2\x01\x81\x02\xBF\xE1",
+        "FieldItem(Either, Span { start: 1, len: 2 }, Some(2))",
+    ),
+    (
+        Mode::GnuItems,
+        b"\xBE\xD2\x01\xD0\x01\xA6\x02\xBF\xE1",
+        "FieldItem(Signed, Span { start: 1, len: 5 }, Some(2))",
+    ),
+    (
+        Mode::GnuItems,
+        b"\xBC\xD2\x01\xD0\x01\xA6\x02\xBD\xE1",
+        "FieldItem(Unsigned, Span { start: 1, len: 5 }, Some(2))",
+    ),
+    (
+        Mode::GnuItems,
+        b"\xBE\x02\xBF\xE1",
+        "FieldItem(Either, Span { start: 1, len: 1 }, None)",
+    ),
+    (
+        Mode::GnuItems,
+        b"\xBE\xD0\x01\x90\x02\xBF\xE1",
+        "FieldItem(Either, Span { start: 1, len: 2 }, Some(2))",
+    ),
+    (
         Mode::Body,
         b"\xF7\x03\xED\x01\xAA\xE1",
         "RepeatConstant(3, Span { start: 4, len: 1 })",
@@ -292,7 +327,7 @@ fn records_are_read_whole_and_wanted_whole(rt: HostRuntime) {
 // Inputs with an error, the offset at which it is reported, and its reason.
 type Fault<'a> = (Mode, &'a [u8], usize, Reason);
 
-static FAULTS: [Fault<'static>; 47] = [
+static FAULTS: [Fault<'static>; 57] = [
     (Mode::Body, b"\xE5\x89", 1, Reason::BadNumber),
     (
         Mode::Body,
@@ -347,6 +382,61 @@ static FAULTS: [Fault<'static>; 47] = [
         Reason::SurplusTerms,
     ),
     (Mode::Items, b"\xBA\x01\x02\xBB", 3, Reason::SurplusTerms),
+    (
+        Mode::GnuItems,
+        b"\xBE\xD2\x01\x09\xBF",
+        4,
+        Reason::SurplusTerms,
+    ),
+    (
+        Mode::GnuItems,
+        b"\xBE\xD2\x01\x00\xBF",
+        4,
+        Reason::SurplusTerms,
+    ),
+    (
+        Mode::GnuItems,
+        b"\xBE\x01\x02\x03\xBF",
+        4,
+        Reason::SurplusTerms,
+    ),
+    (
+        Mode::GnuItems,
+        b"\xBE\xD2\x01\x02\x90\x02\xBF",
+        4,
+        Reason::SurplusTerms,
+    ),
+    (
+        Mode::GnuItems,
+        b"\xBE\xD2\x01\x02\xBB",
+        4,
+        Reason::BracketMismatch,
+    ),
+    (
+        Mode::GnuItems,
+        b"\xBE\x02\xD2\x01\xBF",
+        4,
+        Reason::SurplusTerms,
+    ),
+    (
+        Mode::Items,
+        b"\xBE\xD2\x01\x02\xBF",
+        4,
+        Reason::SurplusTerms,
+    ),
+    (Mode::Items, b"\xBE\x05\x02\xBF", 3, Reason::SurplusTerms),
+    (
+        Mode::Items,
+        b"\xBE\xD2\x01\x81\x02\xBF",
+        5,
+        Reason::SurplusTerms,
+    ),
+    (
+        Mode::Items,
+        b"\xBE\xD2\x01\xD0\x01\xA6\x02\xBF",
+        7,
+        Reason::SurplusTerms,
+    ),
     (Mode::Body, b"\xE2\xD0\x01\xE5", 3, Reason::Empty),
     (Mode::Body, b"\xE2\xC7\xBE\xBF", 3, Reason::Empty),
     (Mode::Body, b"\xED\x83\x01\x00\x00", 1, Reason::LongRun),

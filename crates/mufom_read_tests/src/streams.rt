@@ -6,9 +6,30 @@ use crate::records::long_expression;
 use mufom_host::{Host, MemHost};
 use mufom_module::Module;
 use mufom_numbers::{Bytes, List, Reason, Text};
-use mufom_read::{ReadRefusal, ReadStop, Reader, SourceStop, read_module};
+use mufom_read::{ReadOptions, ReadRefusal, ReadStop, Reader, SourceStop, read_module};
 use std::alloc::Global;
 use std::process::Abort;
+
+// The ways in which the bytes of a file are read.
+pub(crate) const WITH_DEBUG: ReadOptions = ReadOptions {
+    debug: true,
+    gnu: false,
+};
+
+pub(crate) const WITHOUT_DEBUG: ReadOptions = ReadOptions {
+    debug: false,
+    gnu: false,
+};
+
+pub(crate) const GNU: ReadOptions = ReadOptions {
+    debug: true,
+    gnu: true,
+};
+
+pub(crate) const GNU_WITHOUT_DEBUG: ReadOptions = ReadOptions {
+    debug: false,
+    gnu: true,
+};
 
 // A module with an absolute section of four bytes at 1000 (hexadecimal), all of them loaded, and a start address there.
 pub(crate) const PLAIN: &[u8; 120] = b"\
@@ -99,21 +120,21 @@ pub(crate) fn set(stream: &mut Vec<u8>, offset: usize, byte: u8) {
     }
 }
 
-// The offset of ME after a part that begins at offset 100.
-fn end_after(part: &[u8]) -> u16 {
+/// The offset of ME after a part that begins at offset 100.
+pub(crate) fn end_after(part: &[u8]) -> u16 {
     u16::try_from(part.len().saturating_add(100)).unwrap_or(u16::MAX)
 }
 
 // The offsets, in the plain module, of the low byte of the offset of a part.
-const EXTERNAL: usize = 44;
+pub(crate) const EXTERNAL: usize = 44;
 
-const DEBUG: usize = 52;
+pub(crate) const DEBUG: usize = 52;
 
-const DATA: usize = 60;
+pub(crate) const DATA: usize = 60;
 
-// The plain module with `part` in place of all parts after its section part. The low byte of the new part's offset is at
-// `offset`.
-fn with_part(rt: &impl Abort, alloc: Global, offset: usize, part: &[u8]) -> Vec<u8> {
+/// The plain module with `part` in place of all parts after its section part. The low byte of the new part's offset is at
+/// `offset`.
+pub(crate) fn with_part(rt: &impl Abort, alloc: Global, offset: usize, part: &[u8]) -> Vec<u8> {
     let [high, low] = end_after(part).to_be_bytes();
     let mut stream = copy_of(rt, alloc, &PLAIN[..100]);
     for (at, byte) in [(DATA, 0), (offset, 100), (68, 0), (75, high), (76, low)] {
@@ -131,11 +152,11 @@ pub(crate) fn read(
     alloc: Global,
     stream: &[u8],
     size: usize,
-    reads_debug: bool,
+    options: ReadOptions,
 ) -> Result<Module, ReadStop>
     requires { 0 < size }
 {
-    let Ok(mut reader) = Reader::new(alloc, reads_debug) else {
+    let Ok(mut reader) = Reader::new(alloc, options) else {
         return Err(ReadStop::NoMemory);
     };
     for chunk in stream.chunks(size) {
@@ -148,10 +169,10 @@ pub(crate) fn refused(offset: u64, reason: Reason) -> Option<ReadStop> {
     Some(ReadStop::Refused(ReadRefusal { offset, reason }))
 }
 
-fn stop(alloc: Global, stream: &[u8], size: usize, reads_debug: bool) -> Option<ReadStop>
+fn stop(alloc: Global, stream: &[u8], size: usize, options: ReadOptions) -> Option<ReadStop>
     requires { 0 < size }
 {
-    match read(alloc, stream, size, reads_debug) {
+    match read(alloc, stream, size, options) {
         Ok(_) => None,
         Err(stop) => Some(stop),
     }
@@ -161,7 +182,7 @@ fn stop(alloc: Global, stream: &[u8], size: usize, reads_debug: bool) -> Option<
 pub(crate) fn text_of(rt: &impl Abort, alloc: Global, stream: &[u8], size: usize) -> String
     requires { 0 < size }
 {
-    match read(alloc, stream, size, true) {
+    match read(alloc, stream, size, WITH_DEBUG) {
         Ok(module) => format!(in alloc; "{:?}", module.parts()).expect(rt, "memory"),
         Err(stop) => panic!(rt; "{stop:?}"),
     }
@@ -173,13 +194,13 @@ pub(crate) fn gives(
     alloc: Global,
     stream: &[u8],
     size: usize,
-    reads_debug: bool,
+    options: ReadOptions,
     wanted: Option<ReadStop>,
 )
     requires { 0 < size }
 {
     assert_eq!(rt;
-        stop(alloc, stream, size, reads_debug),
+        stop(alloc, stream, size, options),
         wanted,
         "{} bytes in chunks of {size}",
         stream.len()
@@ -189,15 +210,15 @@ pub(crate) fn gives(
 // Asserts that a stream, read whole and in chunks of one and of seven bytes, has this error at this offset.
 fn is_refused(rt: &impl Abort, alloc: Global, stream: &[u8], offset: u64, reason: Reason) {
     let wanted = refused(offset, reason);
-    gives(rt, alloc, stream, 1000, true, wanted);
-    gives(rt, alloc, stream, 1, true, wanted);
-    gives(rt, alloc, stream, 7, true, wanted);
+    gives(rt, alloc, stream, 1000, WITH_DEBUG, wanted);
+    gives(rt, alloc, stream, 1, WITH_DEBUG, wanted);
+    gives(rt, alloc, stream, 7, WITH_DEBUG, wanted);
 }
 
 fn is_module(rt: &impl Abort, alloc: Global, stream: &[u8]) {
-    gives(rt, alloc, stream, 1000, true, None);
-    gives(rt, alloc, stream, 1, true, None);
-    gives(rt, alloc, stream, 3, false, None);
+    gives(rt, alloc, stream, 1000, WITH_DEBUG, None);
+    gives(rt, alloc, stream, 1, WITH_DEBUG, None);
+    gives(rt, alloc, stream, 3, WITHOUT_DEBUG, None);
 }
 
 // ---- streams with an error
@@ -445,7 +466,7 @@ fn modules_are_read_whole_and_byte_by_byte(rt: HostRuntime) {
 
 fn is_truncated(rt: &impl Abort, alloc: Global, stream: &[u8]) {
     let wanted = refused(stream.len() as u64, Reason::Truncated);
-    gives(rt, alloc, stream, 1000, true, wanted);
+    gives(rt, alloc, stream, 1000, WITH_DEBUG, wanted);
 }
 
 #[test]
@@ -481,7 +502,7 @@ const BAD_HEADER: ReadStop = ReadStop::Refused(ReadRefusal {
 
 #[test]
 fn a_stop_is_answered_again(rt: HostRuntime) {
-    let mut reader = Reader::new(rt.alloc(), true).expect(&rt, "memory");
+    let mut reader = Reader::new(rt.alloc(), WITH_DEBUG).expect(&rt, "memory");
     feeds(&rt, &mut reader, b"\xE1", Err(BAD_HEADER));
     feeds(&rt, &mut reader, b"", Err(BAD_HEADER));
     feeds(&rt, &mut reader, PLAIN, Err(BAD_HEADER));
@@ -532,7 +553,7 @@ fn raw_header(rt: &impl Abort, alloc: Global) -> Vec<u8> {
 // A reader that has read 66,060,365 bytes of a module whose extension part is raw bytes, and `more` bytes after these. A
 // file may have 1,048,499 bytes more than 66,060,365.
 fn nearly_full(rt: &impl Abort, alloc: Global, more: usize) -> Reader {
-    let mut reader = Reader::new(alloc, true).expect(rt, "memory");
+    let mut reader = Reader::new(alloc, WITH_DEBUG).expect(rt, "memory");
     let header = raw_header(rt, alloc);
     feeds(rt, &mut reader, &header, Ok(()));
     let chunk = zeros(rt, alloc, 1_048_576);
@@ -568,14 +589,14 @@ fn the_byte_beyond_the_limit_is_refused(rt: HostRuntime) {
 fn a_debug_part_is_passed_over(rt: HostRuntime) {
     let alloc = rt.alloc();
     let stream = with_part(&rt, alloc, DEBUG, b"\x00\x89\xFF");
-    gives(&rt, alloc, &stream, 1000, false, None);
-    gives(&rt, alloc, &stream, 1, false, None);
+    gives(&rt, alloc, &stream, 1000, WITHOUT_DEBUG, None);
+    gives(&rt, alloc, &stream, 1, WITHOUT_DEBUG, None);
     is_refused(&rt, alloc, &stream, 100, Reason::BadRecord);
 }
 
 // Asserts that `count` bytes wait for the rest of their record after this stream.
 fn are_pending(rt: &impl Abort, alloc: Global, stream: &[u8], count: usize) {
-    let mut reader = Reader::new(alloc, true).expect(rt, "memory");
+    let mut reader = Reader::new(alloc, WITH_DEBUG).expect(rt, "memory");
     let _ = reader.feed(stream);
     assert_eq!(rt; reader.pending(), count);
 }
@@ -596,7 +617,7 @@ fn what_the_records_say_is_what_the_module_has(rt: HostRuntime) {
 
 // The debug items of a module, as text.
 fn debug_text(rt: &impl Abort, alloc: Global, stream: &[u8]) -> String {
-    match read(alloc, stream, 5, true) {
+    match read(alloc, stream, 5, WITH_DEBUG) {
         Ok(module) => format!(in alloc; "{:?}", module.parts().debug).expect(rt, "memory"),
         Err(stop) => panic!(rt; "{stop:?}"),
     }
@@ -640,13 +661,13 @@ fn open_host(rt: &impl Abort, alloc: Global) -> MemHost {
 #[test]
 fn a_source_is_read_within_its_limit(rt: HostRuntime) {
     let mut source = open_host(&rt, rt.alloc());
-    let read = read_module(rt.alloc(), &mut source, 120, true);
+    let read = read_module(rt.alloc(), &mut source, 120, WITH_DEBUG);
     assert!(rt; matches!(read, Ok((_, 120))));
 }
 
 #[test]
 fn a_source_is_not_read_past_its_limit(rt: HostRuntime) {
     let mut source = open_host(&rt, rt.alloc());
-    let stop = read_module(rt.alloc(), &mut source, 119, true);
+    let stop = read_module(rt.alloc(), &mut source, 119, WITH_DEBUG);
     assert!(rt; matches!(stop, Err(SourceStop::Limit)));
 }

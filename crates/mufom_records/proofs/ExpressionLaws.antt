@@ -156,15 +156,15 @@ one_more before bytes Is Was token text rest spells split to all =
     }
 
 -- the result of an error, or of an early end, after tokens
-abbrev IsFaultAt : ℕ → ℕ → Reason → ℕ → ℕ → List ℕ → List ℕ → Type 0
+abbrev pub IsFaultAt : ℕ → ℕ → Reason → ℕ → ℕ → List ℕ → List ℕ → Type 0
 IsFaultAt at fault_offset reason tokens terms prefix rest = (offset : ℕ) × TokenFault tokens terms rest offset reason
     × (fault_offset ≡ at + length prefix + offset)
 
-abbrev IsCutAt : ℕ → ℕ → List ℕ → List ℕ → Type 0
+abbrev pub IsCutAt : ℕ → ℕ → List ℕ → List ℕ → Type 0
 IsCutAt tokens terms prefix rest = IsCutOffToken rest
 
 -- what a stop states of the tokens
-abbrev Stopped : Stop → ℕ → ℕ → ℕ → List ℕ → List ℕ → Type 0
+abbrev pub Stopped : Stop → ℕ → ℕ → ℕ → List ℕ → List ℕ → Type 0
 Stopped More at = IsCutAt
 Stopped (Bad fault_offset reason) at = IsFaultAt at fault_offset reason
 
@@ -180,7 +180,7 @@ fault_stops at offset reason stop tokens terms bytes is same =
     let first : Stopped (Bad (at + offset) reason) at tokens terms [] bytes = (offset, is, none) in
     subst (λ (s : Stop). Stopped s at tokens terms [] bytes) same first
 
-tokens_stopped : (room terms : ℕ) (before : List Token) (input : List ℕ) (at : ℕ) → AreBytes input → leaves before ≡ Some terms → length before + room
+pub tokens_stopped : (room terms : ℕ) (before : List Token) (input : List ℕ) (at : ℕ) → AreBytes input → leaves before ≡ Some terms → length before + room
     ≡ 255 → (stop : Stop) → tokens_from room terms input at ≡ Err stop → After before (drop at input) (Stopped stop at)
 tokens_stopped zero terms before input at fits stand count stop gives = by_step (step zero terms before input at stand count fits) where
   by_step : Step zero terms before input at → After before (drop at input) (Stopped stop at)
@@ -252,7 +252,7 @@ stop_at_start [] terms stand none = some_is 0 terms stand where
   some_is a b e = cc
 stop_at_start (t ∷ tokens) terms stand none = absurd (omega (arith, none))
 
-faulty_tokens : (input : List ℕ) (at fault_offset : ℕ) (reason : Reason) → ExpressionFault at (drop at input) fault_offset reason
+pub faulty_tokens : (input : List ℕ) (at fault_offset : ℕ) (reason : Reason) → ExpressionFault at (drop at input) fault_offset reason
     → tokens_from 255 0 input at ≡ Err (Bad fault_offset reason)
 faulty_tokens input at fault_offset reason (offset, (tokens, terms, prefix, rest, spells, stand, few, (has, same), split)) =
     let following : drop (at + length prefix) input ≡ rest = drop-following input at prefix rest split in
@@ -263,7 +263,7 @@ faulty_tokens input at fault_offset reason (offset, (tokens, terms, prefix, rest
     (stop_at_start tokens terms stand) has_there
     ∙ ap (λ (k : ℕ). stopped (Bad k reason)) (sym same)
 
-cut_tokens : (input : List ℕ) (at : ℕ) → IsCutOffExpression (drop at input) → tokens_from 255 0 input at ≡ Err More
+pub cut_tokens : (input : List ℕ) (at : ℕ) → IsCutOffExpression (drop at input) → tokens_from 255 0 input at ≡ Err More
 cut_tokens input at (tokens, terms, prefix, rest, spells, stand, few, is, split) =
     let following : drop (at + length prefix) input ≡ rest = drop-following input at prefix rest split in
     walked tokens terms input at prefix rest spells stand few split ∙ tokens-cut (255 - length tokens) terms input (at + length prefix) rest following is
@@ -276,7 +276,7 @@ stops_end : (bytes : List ℕ) → Stops begins_token (first_of bytes None) → 
 stops_end [] stops = stops
 stops_end (b ∷ bytes) stops = stops
 
-whole_tokens : (tree : Tree) (input : List ℕ) (at : ℕ) (prefix rest : List ℕ) → SpellsTree tree prefix → Stops begins_token (first_of rest None)
+pub whole_tokens : (tree : Tree) (input : List ℕ) (at : ℕ) (prefix rest : List ℕ) → SpellsTree tree prefix → Stops begins_token (first_of rest None)
     → drop at input ≡ prefix ++ rest → tokens_from 255 0 input at ≡ ok_unit (at + length prefix)
 whole_tokens tree input at prefix rest (few, spells) stops split =
     let one = leaves-tokens_of tree in
@@ -296,7 +296,7 @@ spelled_tree input at after all =
     let same = tokens_of-the_term all.tokens (leaves-one all.tokens all.one) in
     (subst (λ (l : List Token). length l ≤ 255) same all.few, subst (λ (l : List Token). SpellsTokens l all.prefix) same all.spells)
 
-expression_got : (input : List ℕ) (at : ℕ) → AreBytes input → (x : Span) (after : ℕ) (answer : Reading (Unit {0})) → tokens_from 255 0 input at
+pub expression_got : (input : List ℕ) (at : ℕ) → AreBytes input → (x : Span) (after : ℕ) (answer : Reading (Unit {0})) → tokens_from 255 0 input at
     ≡ answer → (answer >>= as_span at) ≡ Ok (x, after) → Found expression input at x after
 expression_got input at fits x after (Err stop) is gives = absurd (ok_not_err x after stop (sym gives))
 expression_got input at fits x after (Ok (unit, end)) is gives =
@@ -353,7 +353,7 @@ token_grows : (Is : Token → Type 0) (bytes more : List ℕ) → BeginsWithToke
 token_grows Is bytes more (token, text, rest, spells, is, split) =
     (token, text, rest ++ more, spells, is, ap (λ (l : List ℕ). l ++ more) split ∙ append_assoc text rest more)
 
-token_fault_grows : (tokens terms : ℕ) (bytes more : List ℕ) (offset : ℕ) (reason : Reason) → TokenFault tokens terms bytes offset reason
+pub token_fault_grows : (tokens terms : ℕ) (bytes more : List ℕ) (offset : ℕ) (reason : Reason) → TokenFault tokens terms bytes offset reason
     → TokenFault tokens terms (bytes ++ more) offset reason
 token_fault_grows tokens terms bytes more offset UnsupportedFunction (none, begins) = (none, begins_grows IsLeftOutFunction bytes more begins)
 token_fault_grows tokens terms bytes more offset UnsupportedVariable (none, begins) =

@@ -9,6 +9,7 @@ use Rattle.mufom_records.specs.declared.record.Mode.{Mode}
 use Rattle.mufom_records.specs.declared.record.Record.{Record}
 use Rattle.mufom_records.specs.declared.stop.Stop.TheVariants.{More, Bad}
 use Rattle.mufom_records.specs.Fields.{Field, byte, number, string, run, letter, optional_number, numbers, expression, optional_expression, first_of}
+use Rattle.mufom_records.specs.Fields.{sized_expression}
 use Rattle.mufom_records.specs.Layouts.{layout_of, IsWholeRecord}
 use Rattle.mufom_records.specs.Reading.{Reading, read, as_taken, record_at}
 use Rattle.mufom_records.specs.Faults.{IsFaulty, IsCutOffRecord}
@@ -16,6 +17,7 @@ use Rattle.mufom_records.proofs.Exact.{IsExact, FoundRecord, read-got, read-only
 use Rattle.mufom_records.proofs.NumberLaws.{byte-exact, number-exact, letter-exact, optional_number-exact}
 use Rattle.mufom_records.proofs.ListLaws.{numbers-exact, run-exact, string-exact}
 use Rattle.mufom_records.proofs.ExpressionLaws.{expression-exact, optional_expression-exact}
+use Rattle.mufom_records.proofs.SizedLaws.{sized_expression-exact}
 
 -- each field is read exactly
 pub exact : (f : Field) → IsExact f
@@ -28,14 +30,15 @@ exact optional_number = optional_number-exact
 exact (numbers most) = numbers-exact most
 exact expression = expression-exact
 exact optional_expression = optional_expression-exact
+exact sized_expression = sized_expression-exact
 
-abbrev got_record : Record → ℕ → Taken Record
+abbrev pub got_record : Record → ℕ → Taken Record
 got_record row used = taken.Got row used
 
-abbrev bad_record : ℕ → Reason → Taken Record
+abbrev pub bad_record : ℕ → Reason → Taken Record
 bad_record offset reason = taken.Bad offset reason
 
-abbrev more_record : Taken Record
+abbrev pub more_record : Taken Record
 more_record = taken.More
 
 -- ---- what a result states

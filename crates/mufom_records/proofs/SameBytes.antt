@@ -13,6 +13,7 @@ use Rattle.mufom_expr.specs.Spelled.{SpellsTree}
 use Rattle.mufom_records.specs.declared.record.Mode.{Mode}
 use Rattle.mufom_records.specs.declared.record.Record.{Record}
 use Rattle.mufom_records.specs.Fields.{Field, ValueOf, byte, number, string, run, letter, optional_number, numbers, expression, optional_expression}
+use Rattle.mufom_records.specs.Fields.{sized_expression}
 use Rattle.mufom_records.specs.Fields.{SpellsField, SpellsNumbers, first_of, items_of}
 use Rattle.mufom_records.specs.Layouts.{Layout, whole, refused, field, SpellsRecord, layout_of, IsWholeRecord}
 use Rattle.mufom_records.proofs.Exact.{same_value, same_place, first_of-append}
@@ -81,6 +82,22 @@ by_bytes f x y at prefix first second =
     same_value x y (at + length prefix) (at + length prefix) (sym ((exact f).only input at x prefix [] first split)
     ∙ (exact f).only input at y prefix [] second split)
 
+-- an expression with or without a size, before a closing bracket
+closed_too : (x : ValueOf sized_expression) (at : ℕ) (prefix : List ℕ) (next : Option ℕ) → SpellsField sized_expression x at prefix next
+    → SpellsField sized_expression x at prefix (Some 0xBB)
+closed_too (span, None) at prefix next spells = (spells.0, spells.1, refl)
+closed_too (span, Some last) at prefix next (tree, text, number_bytes, spells, few, spelled, fits, uses, span_is, closed, parts) =
+    (tree, text, number_bytes, spells, few, spelled, fits, uses, span_is, refl, parts)
+
+sized_once : (x y : ValueOf sized_expression) (at : ℕ) (prefix : List ℕ) (next other : Option ℕ) → SpellsField sized_expression x at prefix next
+    → SpellsField sized_expression y at prefix other → x ≡ y
+sized_once x y at prefix next other first second =
+    let input = zeros at ++ (prefix ++ 0xBB ∷ []) in
+    let split : drop at input ≡ prefix ++ 0xBB ∷ [] = dropped at (prefix ++ 0xBB ∷ []) in
+    same_value x y (at + length prefix) (at + length prefix)
+    (sym ((exact sized_expression).only input at x prefix (0xBB ∷ []) (closed_too x at prefix next first) split)
+    ∙ (exact sized_expression).only input at y prefix (0xBB ∷ []) (closed_too y at prefix other second) split)
+
 same_field : (f : Field) (x y : ValueOf f) (at : ℕ) (prefix : List ℕ) (next other : Option ℕ) → SpellsField f x at prefix next
     → SpellsField f y at prefix other → x ≡ y
 same_field byte x y at prefix next other first second = by_bytes byte x y at prefix first second
@@ -101,6 +118,7 @@ same_field optional_expression None None at prefix next other first second = ref
 same_field optional_expression None (Some y) at prefix next other first second = absurd (no_tree prefix second.0.0 second.0.1 first.0)
 same_field optional_expression (Some x) None at prefix next other first second = absurd (no_tree prefix first.0.0 first.0.1 second.0)
 same_field optional_expression (Some x) (Some y) at prefix next other first second = ap (λ (s : Span). Some s) (first.1 ∙ sym second.1)
+same_field sized_expression x y at prefix next other first second = sized_once x y at prefix next other first second
 
 -- ---- records are determined by their bytes
 

@@ -9,8 +9,9 @@ use Rattle.mufom_expr.specs.Spelled.{SpellsToken, SpellsTokens, IsCutOffToken}
 use Rattle.mufom_records.specs.declared.record.Mode.{Mode}
 use Rattle.mufom_records.specs.declared.record.Mode.TheVariants as mode
 use Rattle.mufom_records.specs.Fields.{Field, ValueOf, byte, number, string, run, letter, optional_number, numbers, expression, optional_expression}
-use Rattle.mufom_records.specs.Fields.{is_one_of, SpellsField, SpellsNumbers}
+use Rattle.mufom_records.specs.Fields.{sized_expression, is_one_of, SpellsField, SpellsNumbers}
 use Rattle.mufom_records.specs.Faults.{IsCutOffNumber, IsCutOffExpression, IsCutOffField, IsCutOffLayout}
+use Rattle.mufom_records.specs.declared.size.PlainSize.{PlainSize}
 use Rattle.mufom_records.specs.declared.record.Record.{Record}
 use Rattle.mufom_records.specs.declared.record.Record.TheVariants as r
 use Rattle.mufom_numbers.specs.declared.taken.Span.{Span}
@@ -91,6 +92,7 @@ most optional_number = 9
 most (numbers count) = 9 * count
 most expression = 2560
 most optional_expression = 2560
+most sized_expression = 2560
 
 expression_short : (bytes : List ℕ) (x : ValueOf expression) (at : ℕ) (next : Option ℕ) → SpellsField expression x at bytes next → length bytes ≤ 2560
 expression_short bytes x at next is = let few = is.0.1.0 in let all = tokens_short _ bytes is.0.1.1 in omega (arith, few, all)
@@ -116,6 +118,12 @@ spelled_short (numbers count) x at bytes next is = let all = numbers_short x.ite
 spelled_short expression x at bytes next is = expression_short bytes x at next is
 spelled_short optional_expression None at bytes next is = let all = ap length is.0 in omega (arith, all)
 spelled_short optional_expression (Some x) at bytes next is = expression_short bytes x at next is
+spelled_short sized_expression (x, None) at bytes next is = expression_short bytes x at next is
+spelled_short sized_expression (x, Some last) at bytes next (tree, text, number_bytes, spells, few, spelled, fits, uses, span_is, closed, parts) =
+    let one = tokens_short _ text spells.1 in
+    let more = number_short last.size number_bytes spelled in
+    let all = ap length parts ∙ length-append text number_bytes in
+    omega (arith, one, few, more, all)
 
 -- bytes that end before a field or within it are fewer than the longest such field has
 unended_short : (f : Field) (bytes : List ℕ) → IsCutOffField f bytes → length bytes < most f
@@ -137,6 +145,7 @@ unended_short (numbers count) bytes (ns, prefix, rest, spells, few, cut, same) =
     omega (arith, one, last, all, few)
 unended_short expression bytes is = ends_short bytes is
 unended_short optional_expression bytes is = ends_short bytes is
+unended_short sized_expression bytes is = ends_short bytes is
 
 -- ---- the length of records
 
@@ -151,6 +160,7 @@ Admits optional_number x = Unit {0}
 Admits (numbers count) x = Unit {0}
 Admits expression x = Unit {0}
 Admits optional_expression x = Unit {0}
+Admits sized_expression x = Unit {0}
 
 admitted : (f : Field) (x : ValueOf f) (at : ℕ) (bytes : List ℕ) (next : Option ℕ) → SpellsField f x at bytes next → Admits f x
 admitted (number fits fault_offset fault) x at bytes next is = is.1
@@ -162,6 +172,7 @@ admitted optional_number x at bytes next is = tt
 admitted (numbers count) x at bytes next is = tt
 admitted expression x at bytes next is = tt
 admitted optional_expression x at bytes next is = tt
+admitted sized_expression x at bytes next is = tt
 
 -- the fields of the layout have at most `n` bytes
 abbrev AtMost : Layout → ℕ → Type 0
@@ -289,6 +300,17 @@ item_by_bracket_short (Some bracket) = (omega arith, λ value ok. (omega arith, 
 item_short : AtMost rows.item 131077
 item_short = (omega arith, λ bracket ok. item_by_bracket_short bracket)
 
+item_by_size_short : (bracket : ℕ) (value : Span) (found : Option PlainSize) → AtMost (rows.item_by_size bracket value found) 128516
+item_by_size_short bracket value None = (omega arith, λ c ok. item_by_comma_short bracket value c)
+item_by_size_short bracket value (Some last) = closed_short bracket _ _ (omega arith) tt
+
+gnu_item_by_bracket_short : (bracket : Option ℕ) → AtMost (rows.gnu_item_by_bracket bracket) 131076
+gnu_item_by_bracket_short None = constant_short r.ConstantItem _ (omega arith)
+gnu_item_by_bracket_short (Some bracket) = (omega arith, λ e ok. item_by_size_short bracket e.0 e.1)
+
+gnu_item_short : AtMost rows.gnu_item 131077
+gnu_item_short = (omega arith, λ bracket ok. gnu_item_by_bracket_short bracket)
+
 assignment_short : (b : ℕ) → AtMost (rows.assignment b) 131075
 assignment_short b = choose (b == 0xD7) _ _ _ offset_short (choose (b == 0xD3) _ _ _ (index_and_number_short r.SectionSize)
     (choose (b == 0xCC) _ _ _ (index_and_number_short r.SectionBase) (choose (b == 0xC9) _ _ _ (index_and_expression_short r.PublicValue)
@@ -314,6 +336,7 @@ records_short mode.Descriptor = (omega arith, λ b ok. choose (b == 0xEC) _ _ _ 
 records_short (mode.Offset k) = (omega arith, λ b ok. choose (b == 0xE2) _ _ _ (omega arith, λ c ok. choose (c == 0xD7) _ _ _ (numbered_offset_short k) tt) tt)
 records_short mode.Body = (omega arith, λ b ok. coded_short b)
 records_short mode.Items = item_short
+records_short mode.GnuItems = gnu_item_short
 
 -- only an input of fewer bytes than this needs more
 pub unended-short : (m : Mode) (input : List ℕ) → AreBytes input → record_at m input ≡ More → length input < 131077

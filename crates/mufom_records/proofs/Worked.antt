@@ -1,6 +1,6 @@
 -- Worked examples: records of a small absolute module, read at their offsets, and some with errors, each computed.
 use Rattle.std.proofs.Common.{◌≡◌, ℕ, [], ◌∷◌, Some, None, true, refl}
-use Rattle.mufom_numbers.specs.declared.reason.Reason.TheVariants.{BadHeader, BadId, SurplusTerms, Underflow}
+use Rattle.mufom_numbers.specs.declared.reason.Reason.TheVariants.{BadHeader, BadId, BracketMismatch, SurplusTerms, Underflow}
 use Rattle.mufom_numbers.specs.declared.taken.Taken.{Taken}
 use Rattle.mufom_numbers.specs.declared.taken.Taken.TheVariants.{Got, More, Bad}
 use Rattle.mufom_expr.specs.declared.token.FieldKind.TheVariants as kinds
@@ -8,7 +8,7 @@ use Rattle.mufom_records.specs.declared.record.Mode.TheVariants as mode
 use Rattle.mufom_records.specs.declared.record.Record.{Record}
 use Rattle.mufom_records.specs.declared.record.Record.TheVariants as r
 use Rattle.mufom_records.specs.Fields.{span_at}
-use Rattle.mufom_records.specs.Reading.{record_at}
+use Rattle.mufom_records.specs.Reading.{record_at, record_before}
 
 abbrev got : Record → ℕ → Taken Record
 got row used = Got row used
@@ -47,3 +47,53 @@ surplus = refl
 
 underflow : record_at mode.Body (0xE2 ∷ 0xD0 ∷ 0x01 ∷ 0xA5 ∷ []) ≡ Bad 3 Underflow
 underflow = refl
+
+-- ---- a size without a comma
+
+plain_size : record_at mode.GnuItems (0xBE ∷ 0xD2 ∷ 0x01 ∷ 0x02 ∷ 0xBF ∷ []) ≡ got (r.FieldItem kinds.Either (span_at 1 2) (Some 2)) 5
+plain_size = refl
+
+-- without the forms of GNU binutils it is an error
+no_plain_size : record_at mode.Items (0xBE ∷ 0xD2 ∷ 0x01 ∷ 0x02 ∷ 0xBF ∷ []) ≡ Bad 4 SurplusTerms
+no_plain_size = refl
+
+constant_value : record_at mode.GnuItems (0xBE ∷ 0x05 ∷ 0x02 ∷ 0xBF ∷ []) ≡ got (r.FieldItem kinds.Either (span_at 1 1) (Some 2)) 4
+constant_value = refl
+
+long_size : record_at mode.GnuItems (0xBE ∷ 0xD2 ∷ 0x01 ∷ 0x81 ∷ 0x02 ∷ 0xBF ∷ []) ≡ got (r.FieldItem kinds.Either (span_at 1 2) (Some 2)) 6
+long_size = refl
+
+-- a distance is signed
+distance : record_at mode.GnuItems (0xBE ∷ 0xD2 ∷ 0x01 ∷ 0xD0 ∷ 0x01 ∷ 0xA6 ∷ 0x02 ∷ 0xBF ∷ []) ≡ got (r.FieldItem kinds.Signed (span_at 1 5) (Some 2)) 8
+distance = refl
+
+unsigned_distance : record_at mode.GnuItems (0xBC ∷ 0xD2 ∷ 0x01 ∷ 0xD0 ∷ 0x01 ∷ 0xA6 ∷ 0x02 ∷ 0xBD ∷ [])
+    ≡ got (r.FieldItem kinds.Unsigned (span_at 1 5) (Some 2)) 8
+unsigned_distance = refl
+
+large_size : record_at mode.GnuItems (0xBE ∷ 0xD2 ∷ 0x01 ∷ 0x09 ∷ 0xBF ∷ []) ≡ Bad 4 SurplusTerms
+large_size = refl
+
+no_size : record_at mode.GnuItems (0xBE ∷ 0xD2 ∷ 0x01 ∷ 0x00 ∷ 0xBF ∷ []) ≡ Bad 4 SurplusTerms
+no_size = refl
+
+three_terms : record_at mode.GnuItems (0xBE ∷ 0x01 ∷ 0x02 ∷ 0x03 ∷ 0xBF ∷ []) ≡ Bad 4 SurplusTerms
+three_terms = refl
+
+both_sizes : record_at mode.GnuItems (0xBE ∷ 0xD2 ∷ 0x01 ∷ 0x02 ∷ 0x90 ∷ 0x02 ∷ 0xBF ∷ []) ≡ Bad 4 SurplusTerms
+both_sizes = refl
+
+other_partner : record_at mode.GnuItems (0xBE ∷ 0xD2 ∷ 0x01 ∷ 0x02 ∷ 0xBB ∷ []) ≡ Bad 4 BracketMismatch
+other_partner = refl
+
+one_term : record_at mode.GnuItems (0xBE ∷ 0x02 ∷ 0xBF ∷ []) ≡ got (r.FieldItem kinds.Either (span_at 1 1) None) 3
+one_term = refl
+
+-- ---- before bytes that are not records
+
+before_debug : record_before 4 mode.Body (0xE2 ∷ 0xC9 ∷ 0x20 ∷ 0x00 ∷ 0x01 ∷ 0x02 ∷ 0x03 ∷ 0xE1 ∷ []) ≡ got (r.PublicValue 32 (span_at 3 1)) 4
+before_debug = refl
+
+-- a name that takes the byte in is read as it is
+through_debug : record_before 4 mode.Body (0xE8 ∷ 0x20 ∷ 0x03 ∷ 0x61 ∷ 0x62 ∷ 0x63 ∷ []) ≡ got (r.PublicName 32 (span_at 3 3)) 6
+through_debug = refl

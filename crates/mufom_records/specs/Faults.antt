@@ -1,6 +1,6 @@
 -- The errors of fields and records: the bytes at an offset cannot be the field that the layout requires there. An error depends
 -- only on the bytes that show it, not on the bytes after them.
-use Rattle.std.specs.Prelude.{◌≡◌, ◌⊎◌, ℕ, ◌+◌, ◌-◌, ◌<◌, ◌≤◌, true, false, List, [], ◌++◌, length, Some, None}
+use Rattle.std.specs.Prelude.{◌≡◌, ◌⊎◌, ℕ, ◌+◌, ◌-◌, ◌<◌, ◌≤◌, ◌==◌, ◌&&◌, Bool, true, false, List, [], ◌++◌, length, Some, None, is_some}
 use Rattle.mufom_numbers.specs.declared.reason.Reason.{Reason}
 use Rattle.mufom_numbers.specs.declared.reason.Reason.TheVariants.{BadNumber, BadId, UnsupportedFunction, UnsupportedVariable, Underflow}
 use Rattle.mufom_numbers.specs.declared.reason.Reason.TheVariants.{SurplusTerms, Empty, TooLong}
@@ -12,7 +12,7 @@ use Rattle.mufom_expr.specs.Spelled.{SpellsToken, SpellsTokens, BeginsWith, IsLe
 use Rattle.mufom_expr.specs.TokenAt.{begins_token}
 use Rattle.mufom_records.specs.declared.record.Mode.{Mode}
 use Rattle.mufom_records.specs.Fields.{Field, ValueOf, byte, number, string, run, letter, optional_number, numbers, expression, optional_expression}
-use Rattle.mufom_records.specs.Fields.{SpellsField, SpellsNumbers, first_of}
+use Rattle.mufom_records.specs.Fields.{sized_expression, SpellsField, SpellsNumbers, first_of, last_size, closes, is_surplus}
 use Rattle.mufom_records.specs.Layouts.{Layout, whole, refused, field, layout_of}
 
 -- ---- expressions
@@ -50,6 +50,16 @@ ExpressionFault at bytes fault_offset reason = (offset : ℕ) × AfterTokens byt
 abbrev pub IsCutOffExpression : List ℕ → Type 0
 IsCutOffExpression bytes = AfterTokens bytes (λ tokens terms prefix rest. IsCutOffToken rest)
 
+-- two terms are left, the last token is a number from 1 to 8, and a closing bracket follows
+abbrev pub ends_in_size : List Token → ℕ → List ℕ → Bool
+ends_in_size tokens terms rest = terms == 2 && (closes rest && is_some (last_size tokens))
+
+-- The same as ExpressionFault, but a surplus of terms is no error if the tokens end in a size.
+abbrev pub SizedFault : ℕ → List ℕ → ℕ → Reason → Type 0
+SizedFault at bytes fault_offset reason = (offset : ℕ) × (tokens : List Token) × (terms : ℕ) × (prefix : List ℕ) × (rest : List ℕ)
+    × SpellsTokens tokens prefix × (leaves tokens ≡ Some terms) × (length tokens ≤ 255) × TokenFault (length tokens) terms rest offset reason
+    × (fault_offset ≡ at + length prefix + offset) × ((is_surplus reason && ends_in_size tokens terms rest) ≡ false) × (bytes ≡ prefix ++ rest)
+
 -- ---- fields
 
 -- the bytes are a proper prefix of a number's spelling
@@ -72,6 +82,7 @@ FieldFault optional_number at bytes fault_offset reason = ⊥
 FieldFault (numbers most) at bytes fault_offset reason = ⊥
 FieldFault expression at bytes fault_offset reason = ExpressionFault at bytes fault_offset reason
 FieldFault optional_expression at bytes fault_offset reason = BeginsWith (λ b. begins_token b ≡ true) bytes × ExpressionFault at bytes fault_offset reason
+FieldFault sized_expression at bytes fault_offset reason = SizedFault at bytes fault_offset reason
 
 -- The bytes contain no error, and end before the field, within it, or at a point at which it could still begin or continue.
 abbrev pub IsCutOffField : Field → List ℕ → Type 0
@@ -85,6 +96,7 @@ IsCutOffField (numbers most) bytes = (ns : List ℕ) × (prefix : List ℕ) × (
     × IsCutOffNumber rest × (bytes ≡ prefix ++ rest)
 IsCutOffField expression bytes = IsCutOffExpression bytes
 IsCutOffField optional_expression bytes = IsCutOffExpression bytes
+IsCutOffField sized_expression bytes = IsCutOffExpression bytes
 
 -- ---- records
 

@@ -1,15 +1,21 @@
 -- The fields of records and their spellings (IEEE Std 695, MUFOM commands). The spelling of a field depends on its offset,
 -- since the values of strings, literal bytes and expressions are positions in the input. It also depends on the byte that
 -- follows the field, since an optional field is absent only if that byte could not begin it.
-use Rattle.std.specs.Prelude.{◌≡◌, ℕ, ◌+◌, ◌<◌, ◌≤◌, Bool, true, false, List, [], ◌∷◌, ◌++◌, length, Option, Some, None, ◌==◌}
-use Rattle.std.specs.List.{list_any}
+use Rattle.std.specs.Prelude.{◌≡◌, ℕ, ◌+◌, ◌<◌, ◌≤◌, ◌==◌, nat_le, ◌&&◌, Bool, true, false, List, [], ◌∷◌, ◌++◌, length, Option, Some, None, if◌then◌else◌}
+use Rattle.std.specs.List.{list_any, last_or}
 use Rattle.arrayvec.specs.ArrayVec.{ArrayVec}
 use Rattle.mufom_numbers.specs.declared.reason.Reason.{Reason}
+use Rattle.mufom_numbers.specs.declared.reason.Reason.TheVariants.{SurplusTerms}
+use Rattle.mufom_numbers.specs.declared.codes.TheConstants.{CLOSE_EITHER, CLOSE_SIGNED, CLOSE_UNSIGNED}
 use Rattle.mufom_numbers.specs.declared.taken.Span.{Span}
 use Rattle.mufom_numbers.specs.Spelling.{AreBytes, SpellsNumber, IsStringLead}
-use Rattle.mufom_expr.specs.Tree.{Tree}
+use Rattle.mufom_expr.specs.declared.token.Letter.TheVariants.{P}
+use Rattle.mufom_expr.specs.declared.token.Token.{Token}
+use Rattle.mufom_expr.specs.declared.token.Token.TheVariants.{Number, Var}
+use Rattle.mufom_expr.specs.Tree.{Tree, tokens_of}
 use Rattle.mufom_expr.specs.Spelled.{SpellsTree}
 use Rattle.mufom_expr.specs.TokenAt.{begins_number, begins_token}
+use Rattle.mufom_records.specs.declared.size.PlainSize.{PlainSize}
 
 -- a kind of field
 pub data Field : Type 0 where
@@ -32,6 +38,9 @@ pub data Field : Type 0 where
   expression : Field
   -- an expression, or none
   optional_expression : Field
+  -- an expression, maybe followed by the size of a field without a comma; its value is the position of the expression, and the
+  -- size if it is there
+  sized_expression : Field
 
 -- the type of a field's value
 abbrev pub ValueOf : Field → Type 0
@@ -44,6 +53,7 @@ ValueOf optional_number = Option ℕ
 ValueOf (numbers most) = ArrayVec ℕ
 ValueOf expression = Span
 ValueOf optional_expression = Option Span
+ValueOf sized_expression = Span × Option PlainSize
 
 -- a byte follows, and it does not pass the test
 abbrev pub Stops : (ℕ → Bool) → Option ℕ → Type 0
@@ -71,6 +81,54 @@ SpellsNumbers (n ∷ ns) bytes = (prefix : List ℕ) × (back : List ℕ) × Spe
 abbrev pub SpellsExpression : Span → ℕ → List ℕ → Option ℕ → Type 0
 SpellsExpression span at bytes next = ((tree : Tree) × SpellsTree tree bytes) × (span ≡ span_at at (length bytes)) × Stops begins_token next
 
+-- ---- sizes without a comma
+
+-- a size in MAUs: 1 to 8
+abbrev pub is_size : ℕ → Bool
+is_size n = nat_le 1 n && nat_le n 8
+
+-- the closing brackets of the three kinds of fields
+abbrev pub closing_brackets : List ℕ
+closing_brackets = CLOSE_SIGNED ∷ CLOSE_UNSIGNED ∷ CLOSE_EITHER ∷ []
+
+-- a closing bracket follows
+abbrev pub Closes : Option ℕ → Type 0
+Closes None = ⊥
+Closes (Some b) = is_one_of closing_brackets b ≡ true
+
+-- the first of these bytes is a closing bracket
+abbrev pub closes : List ℕ → Bool
+closes [] = false
+closes (b ∷ _) = is_one_of closing_brackets b
+
+-- the error is a surplus of terms
+abbrev pub is_surplus : Reason → Bool
+is_surplus SurplusTerms = true
+is_surplus _ = false
+
+-- the token is the variable P: the program counter of a section
+abbrev pub is_counter : Token → Bool
+is_counter (Var P place) = true
+is_counter _ = false
+
+-- The bytes are an expression and a size, and a closing bracket follows: two terms, the last of which is a number from 1 to 8.
+-- The expression and the size have at most 255 tokens. The span is the position of the expression.
+abbrev pub SpellsSized : Span → PlainSize → ℕ → List ℕ → Option ℕ → Type 0
+SpellsSized span last at bytes next = (tree : Tree) × (text : List ℕ) × (number_bytes : List ℕ) × SpellsTree tree text × (length (tokens_of tree) < 255)
+    × SpellsNumber last.size number_bytes × (is_size last.size ≡ true) × (last.uses_pc ≡ list_any is_counter (tokens_of tree))
+    × (span ≡ span_at at (length text)) × Closes next × (bytes ≡ text ++ number_bytes)
+
+-- the size that this last token is, if it is a number from 1 to 8
+abbrev pub size_of_token : Option Token → Option ℕ
+size_of_token (Some (Number n)) = if is_size n then Some n else None
+size_of_token _ = None
+
+-- the size with which the tokens end, if the last one is a number from 1 to 8
+abbrev pub last_size : List Token → Option ℕ
+last_size tokens = size_of_token (last_or None tokens)
+
+-- ---- the spelling of a field
+
 -- The bytes, which are at offset `at` and are followed by the byte `next` (or end the input), are the field with this value.
 abbrev pub SpellsField : (f : Field) → ValueOf f → ℕ → List ℕ → Option ℕ → Type 0
 SpellsField byte b at bytes next = bytes ≡ b ∷ []
@@ -86,6 +144,8 @@ SpellsField (numbers most) ns at bytes next = SpellsNumbers ns.items bytes × (l
 SpellsField expression span at bytes next = SpellsExpression span at bytes next
 SpellsField optional_expression None at bytes next = (bytes ≡ []) × Stops begins_token next
 SpellsField optional_expression (Some span) at bytes next = SpellsExpression span at bytes next
+SpellsField sized_expression (span, None) at bytes next = SpellsExpression span at bytes next
+SpellsField sized_expression (span, Some last) at bytes next = SpellsSized span last at bytes next
 
 -- the first of these bytes, or if there are none, the one that follows them
 abbrev pub first_of : List ℕ → Option ℕ → Option ℕ

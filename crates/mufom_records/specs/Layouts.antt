@@ -1,6 +1,6 @@
 -- The table of records: the fields that follow the code of each record, in order (IEEE Std 695, MUFOM commands; the codes are
 -- those of the public `ieee.h`, the fields are this project's profile).
-use Rattle.std.specs.Prelude.{◌≡◌, ℕ, ◌+◌, ◌^◌, Bool, true, false, List, [], ◌∷◌, ◌++◌, length, Option, Some, None, ◌==◌, nat_lt, nat_le, ◌&&◌, if◌then◌else◌}
+use Rattle.std.specs.Prelude.{◌≡◌, ℕ, ◌+◌, ◌^◌, Bool, true, false, List, [], ◌∷◌, ◌++◌, length, Option, Some, None, ◌==◌, nat_lt, ◌&&◌, if◌then◌else◌}
 use Rattle.mufom_numbers.specs.declared.codes.TheConstants.{ASSIGNMENT, BLOCK_BEGIN, BLOCK_END, COMMA, CONSTANT, DEBUG_NAME, DESCRIPTOR, LETTER_A}
 use Rattle.mufom_numbers.specs.declared.codes.TheConstants.{LETTER_B, LETTER_C, LETTER_D, LETTER_F, LETTER_G, LETTER_I, LETTER_L, LETTER_M, LETTER_N}
 use Rattle.mufom_numbers.specs.declared.codes.TheConstants.{LETTER_P, LETTER_R, LETTER_S, LETTER_W, LETTER_X, MODULE_BEGIN, MODULE_END, NOTE}
@@ -13,13 +13,14 @@ use Rattle.mufom_numbers.specs.declared.reason.Reason.TheVariants.{BadSectionTyp
 use Rattle.mufom_numbers.specs.declared.taken.Span.{Span}
 use Rattle.mufom_expr.specs.declared.token.FieldKind.{FieldKind}
 use Rattle.mufom_expr.specs.declared.token.FieldKind.TheVariants.{Signed, Unsigned, Either}
+use Rattle.mufom_records.specs.declared.size.PlainSize.{PlainSize}
 use Rattle.mufom_records.specs.declared.record.Mode.{Mode}
 use Rattle.mufom_records.specs.declared.record.Mode.TheVariants as mode
 use Rattle.mufom_records.specs.declared.record.BlockTail.TheVariants as tail
 use Rattle.mufom_records.specs.declared.record.Record.{Record}
 use Rattle.mufom_records.specs.declared.record.Record.TheVariants as r
 use Rattle.mufom_records.specs.Fields.{Field, ValueOf, byte, number, string, run, letter, optional_number, numbers, expression, optional_expression}
-use Rattle.mufom_records.specs.Fields.{is_one_of, SpellsField, first_of}
+use Rattle.mufom_records.specs.Fields.{sized_expression, is_one_of, is_size, SpellsField, first_of}
 
 -- A layout is a field and the layout that follows it, which may depend on the field's value; or the end, with the complete
 -- record; or an error, reported `back` bytes before the offset that was reached.
@@ -80,7 +81,7 @@ debug_attribute = number (is_one_of debug_attributes) here UnsupportedAttribute
 
 -- the size of a field: 1 to 8 MAUs
 abbrev pub field_size : Field
-field_size = number (λ n. nat_le 1 n && nat_le n 8) here BadFieldSize
+field_size = number is_size here BadFieldSize
 
 -- the number of a part in the header, which must be `k`
 abbrev pub offset_number : ℕ → Field
@@ -253,6 +254,25 @@ item_by_bracket (Some bracket) = expression ▹ λ value. letter (comma ∷ []) 
 abbrev pub item : Layout
 item = letter opening_brackets ▹ λ bracket. item_by_bracket bracket
 
+-- The kind of a field whose size has no comma. GNU binutils writes each field in the brackets of either kind. If the program
+-- counter occurs in its expression, the field holds a distance, which has a sign.
+abbrev pub kind_without_comma : ℕ → Bool → FieldKind
+kind_without_comma bracket uses_pc = if uses_pc && (bracket == opening Either) then Signed else kind_of bracket
+
+-- a field of an LR after its expression, and after its size if that has no comma
+abbrev pub item_by_size : ℕ → Span → Option PlainSize → Layout
+item_by_size bracket value None = letter (comma ∷ []) ▹ λ c. item_by_comma bracket value c
+item_by_size bracket value (Some last) = closed_by bracket (whole (r.FieldItem (kind_without_comma bracket last.uses_pc) value (Some last.size)))
+
+-- an item after its opening bracket, or one without a bracket; the comma before a size is optional
+abbrev pub gnu_item_by_bracket : Option ℕ → Layout
+gnu_item_by_bracket None = constant r.ConstantItem
+gnu_item_by_bracket (Some bracket) = sized_expression ▹ λ e. item_by_size bracket e.0 e.1
+
+-- an item of an LR as GNU binutils writes it: like any item, but the comma before a size is optional
+abbrev pub gnu_item : Layout
+gnu_item = letter opening_brackets ▹ λ bracket. gnu_item_by_bracket bracket
+
 -- ---- codes
 
 -- second bytes after E2 of records that this profile knows but does not support
@@ -320,6 +340,7 @@ layout_of mode.Descriptor = begins_with 1 DESCRIPTOR descriptor
 layout_of (mode.Offset k) = begins_with 1 ASSIGNMENT (begins_with 2 LETTER_W (numbered_offset k))
 layout_of mode.Body = body
 layout_of mode.Items = item
+layout_of mode.GnuItems = gnu_item
 
 -- The bytes are a complete record before the byte `next` or, if that is None, at the end of the input: no optional field could still begin.
 abbrev pub IsWholeRecord : Mode → Record → List ℕ → Option ℕ → Type 0

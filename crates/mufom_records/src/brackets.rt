@@ -7,10 +7,11 @@ ghost use Rattle.mufom_records.specs.Layouts as layouts;
 ghost use Rattle.mufom_records.specs.Parts.{HasParts, IsExpressionIn};
 ghost use Rattle.mufom_records.specs.Reading.{in_place, read};
 
-use crate::expression::expression;
+use crate::expression::{expression, sized_expression};
 use crate::fields::{bad, byte, count, field_size, letter, run};
 use crate::record::Record;
 use crate::rows::Read;
+use crate::size::PlainSize;
 use crate::stop::Stop;
 use mufom_expr::FieldKind;
 use mufom_numbers::{Reason, Span, codes};
@@ -115,6 +116,77 @@ pub(crate) fn item(input: &[u8], at: usize, row: &mut Record) -> Read
         at,
     )?;
     item_by_bracket(opening, input, at, row)
+}
+
+// The kind of a field whose size has no comma.
+fn kind_without_comma(opening: u8, uses_pc: bool) -> FieldKind
+    ensures { result ≡ layouts.kind_without_comma opening uses_pc }
+{
+    if uses_pc && opening == codes::OPEN_EITHER {
+        FieldKind::Signed
+    } else {
+        kind_of(opening)
+    }
+}
+
+fn item_by_size(
+    opening: u8,
+    value: Span,
+    size: Option<PlainSize>,
+    input: &[u8],
+    at: usize,
+    row: &mut Record,
+) -> Read
+    requires within { at ≤ length input.now }
+    requires part { IsExpressionIn input.now value }
+    ensures exact { in_place row.new result ≡ read (layouts.item_by_size opening value size) input.now at }
+    ensures parts { IfOk result (λ _. HasParts input.now row.new) }
+{
+    match size {
+        None => {
+            let (comma, at) = letter(&[codes::COMMA], input, at)?;
+            field_by_comma(opening, value, comma, input, at, row)
+        }
+        Some(last) => {
+            let kind = kind_without_comma(opening, last.uses_pc);
+            *row = Record::FieldItem(kind, value, Some(last.size));
+            closed_by(opening, input, at)
+        }
+    }
+}
+
+fn gnu_field_item(opening: u8, input: &[u8], at: usize, row: &mut Record) -> Read
+    requires { at ≤ length input.now }
+    ensures exact { in_place row.new result ≡ read (layouts.gnu_item_by_bracket (Some opening)) input.now at }
+    ensures parts { IfOk result (λ _. HasParts input.now row.new) }
+{
+    let ((value, size), at) = sized_expression(input, at)?;
+    item_by_size(opening, value, size, input, at, row)
+}
+
+fn gnu_item_by_bracket(opening: Option<u8>, input: &[u8], at: usize, row: &mut Record) -> Read
+    requires { at ≤ length input.now }
+    ensures exact { in_place row.new result ≡ read (layouts.gnu_item_by_bracket opening) input.now at }
+    ensures parts { IfOk result (λ _. HasParts input.now row.new) }
+{
+    match opening {
+        None => constant_item(input, at, row),
+        Some(opening) => gnu_field_item(opening, input, at, row),
+    }
+}
+
+/// Reads an item of an LR, in whose fields the comma before the size is optional.
+pub(crate) fn gnu_item(input: &[u8], at: usize, row: &mut Record) -> Read
+    requires { at ≤ length input.now }
+    ensures exact { in_place row.new result ≡ read layouts.gnu_item input.now at }
+    ensures parts { IfOk result (λ _. HasParts input.now row.new) }
+{
+    let (opening, at) = letter(
+        &[codes::OPEN_SIGNED, codes::OPEN_UNSIGNED, codes::OPEN_EITHER],
+        input,
+        at,
+    )?;
+    gnu_item_by_bracket(opening, input, at, row)
 }
 
 fn start_by_bracket(opening: Option<u8>, input: &[u8], at: usize, row: &mut Record) -> Read

@@ -1,14 +1,18 @@
 //! Reads expressions in one pass: only the number of terms on the stack is kept.
 
-ghost use Rattle.std.specs.Prelude.{◌≡◌, ◌+◌, ◌<◌, ◌≤◌, length, drop, IfOk};
+ghost use Rattle.std.specs.Prelude.{◌≡◌, ◌+◌, ◌-◌, ◌<◌, ◌≤◌, ◌==◌, ℕ, List, length, drop, IfOk};
+ghost use Rattle.mufom_expr.specs.Codes.{operands_of};
 ghost use Rattle.mufom_expr.specs.TokenAt.{begins_token as token_begins, token_at};
+ghost use Rattle.mufom_numbers.specs.declared.taken.Taken.TheVariants as taken;
 ghost use Rattle.mufom_records.specs.Fields.{expression as an_expression, optional_expression as an_optional_expression};
+ghost use Rattle.mufom_records.specs.Fields.{sized_expression as a_sized_expression, is_one_of, closing_brackets, closes};
 ghost use Rattle.mufom_records.specs.Parts.{IsExpressionIn, IsOptionalExpressionIn};
-ghost use Rattle.mufom_records.specs.Reading.{field_at, terms_with, expression_end, tokens_from};
+ghost use Rattle.mufom_records.specs.Reading.{field_at, terms_with, expression_end, tokens_from, without_token, sized_by};
 
 use crate::fields::{bad, byte};
+use crate::size::{PlainSize, SizeSoFar};
 use crate::stop::Stop;
-use mufom_expr::{operands, read_token};
+use mufom_expr::{Token, operands, read_token};
 use mufom_numbers::{Reason, Span, Taken, codes};
 
 fn begins_token(b: u8) -> bool
@@ -19,13 +23,20 @@ fn begins_token(b: u8) -> bool
         || (codes::LETTER_A <= b && b <= codes::LETTER_Z)
 }
 
-// Reads the token at an offset, if `room` more tokens are allowed, and returns the number of terms after it and the offset
-// after it.
+// Reads the token at an offset, if `room` more tokens are allowed, and returns the number of terms after it, the offset after
+// it, and the token.
 #[inline(always)]
-fn terms_at(room: usize, terms: usize, input: &[u8], at: usize) -> Result<(usize, usize), Stop>
+fn counted_token(
+    room: usize,
+    terms: usize,
+    input: &[u8],
+    at: usize,
+) -> Result<(usize, usize, Token), Stop>
     requires at { at ≤ length input.now }
     requires terms { terms ≤ 255 }
-    ensures exact { result ≡ terms_with room terms at (token_at (drop at input.now)) }
+    ensures exact { without_token result ≡ terms_with room terms at (token_at (drop at input.now)) }
+    ensures left { IfOk result (λ r. r.0 ≡ terms - operands_of r.2 + 1) }
+    ensures token { IfOk result (λ r. (used : ℕ) × (token_at (drop at input.now) ≡ taken.Got r.2 used) × (r.1 ≡ at + used)) }
     ensures within { IfOk result (λ r. (at ≤ r.1) × (r.1 ≤ length input.now) × (0 < room) × (r.0 ≤ terms + 1)) }
 {
     match read_token(&input[at..]) {
@@ -44,10 +55,22 @@ fn terms_at(room: usize, terms: usize, input: &[u8], at: usize) -> Result<(usize
             } else if room == 0 {
                 Err(bad(at, Reason::TooLong))
             } else {
-                Ok((terms - wanted + 1, at + used))
+                Ok((terms - wanted + 1, at + used, token))
             }
         }
     }
+}
+
+// The same without the token.
+#[inline(always)]
+fn terms_at(room: usize, terms: usize, input: &[u8], at: usize) -> Result<(usize, usize), Stop>
+    requires at { at ≤ length input.now }
+    requires terms { terms ≤ 255 }
+    ensures exact { result ≡ terms_with room terms at (token_at (drop at input.now)) }
+    ensures within { IfOk result (λ r. (at ≤ r.1) × (r.1 ≤ length input.now) × (0 < room) × (r.0 ≤ terms + 1)) }
+{
+    let (left, after, _) = counted_token(room, terms, input, at)?;
+    Ok((left, after))
 }
 
 // Checks the end of an expression that leaves `terms` terms.
@@ -116,5 +139,72 @@ pub(crate) fn optional_expression(input: &[u8], at: usize) -> Result<(Option<Spa
         Ok((Some(span), after))
     } else {
         Ok((None, at))
+    }
+}
+
+fn is_closing(b: u8) -> bool
+    ensures { result ≡ is_one_of closing_brackets b }
+{
+    match b {
+        codes::CLOSE_SIGNED | codes::CLOSE_UNSIGNED | codes::CLOSE_EITHER => true,
+        _ => false,
+    }
+}
+
+// Checks the end of an expression that may be followed by a size, before the byte `b` at this offset.
+fn sized_end(
+    room: usize,
+    start: usize,
+    so_far: SizeSoFar,
+    b: u8,
+    at: usize,
+) -> Result<((Span, Option<PlainSize>), usize), Stop>
+    requires order { (start ≤ so_far.last) × (so_far.last ≤ at) }
+    requires some { room ≡ 255 → so_far.terms ≡ 0 }
+    ensures exact { (input : List ℕ) → closes (drop at input) ≡ is_one_of closing_brackets b
+        → result ≡ sized_by input start so_far (expression_end (room == 255) so_far.terms at) }
+    ensures within { IfOk result (λ r. r.1 ≡ at) }
+{
+    if so_far.terms == 2 && is_closing(b) {
+        if let Some(size) = so_far.size {
+            let value = Span {
+                start,
+                len: so_far.last - start,
+            };
+            let uses_pc = so_far.uses_pc;
+            return Ok(((value, Some(PlainSize { size, uses_pc })), at));
+        }
+    }
+    end_of(room == 255, so_far.terms, at)?;
+    let value = Span {
+        start,
+        len: at - start,
+    };
+    Ok(((value, None), at))
+}
+
+/// Reads an expression and the size of a field after it, if there is one without a comma: the position of the
+/// expression's bytes, the size, and the offset after both.
+pub(crate) fn sized_expression(
+    input: &[u8],
+    start: usize,
+) -> Result<((Span, Option<PlainSize>), usize), Stop>
+    requires { start ≤ length input.now }
+    ensures exact { result ≡ field_at a_sized_expression input.now start }
+    ensures part { IfOk result (λ r. IsExpressionIn input.now r.0.0) }
+    ensures within { IfOk result (λ r. r.1 ≤ length input.now) }
+{
+    let mut room = 255;
+    let mut at = start;
+    let mut so_far = SizeSoFar::new(start);
+    loop {
+        let (b, _) = byte(input, at)?;
+        if !begins_token(b) {
+            return sized_end(room, start, so_far, b, at);
+        }
+        let (_, after, token) = counted_token(room, so_far.terms, input, at)?;
+        room -= 1;
+        so_far = so_far.with(token, at);
+        at = after;
     }
 }

@@ -6,21 +6,26 @@
 //! always the first one, if and only if there is one. Otherwise it returns `More`.
 #![tactic(auto)]
 
+mod before;
 mod brackets;
 mod expression;
 mod fields;
 mod laws;
 mod next;
+mod options;
 mod postfix;
 mod record;
 mod rows;
+mod size;
 mod stop;
 
+pub use before::read_record_before;
 pub use laws::{
     bytes_determine_the_record, incomplete_inputs_are_short, longer_inputs_answer_the_same,
     whole_records_at_one_place_are_one,
 };
 pub use next::{next_record, read_record};
+pub use options::ReadOptions;
 pub use postfix::postfix_of;
 pub use record::{BlockTail, Mode, Record};
 pub use stop::Stop;

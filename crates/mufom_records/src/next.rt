@@ -12,7 +12,7 @@ ghost use Rattle.mufom_records.specs.Parts.{HasParts};
 ghost use Rattle.mufom_records.specs.Reading.{in_place, read, record_at};
 ghost use Rattle.mufom_records.specs.Faults.{IsFaulty, IsCutOffRecord};
 
-use crate::brackets::{item, start_address};
+use crate::brackets::{gnu_item, item, start_address};
 use crate::fields::{bad, byte};
 use crate::record::{Mode, Record};
 use crate::rows::{
@@ -164,6 +164,7 @@ fn record(input: &[u8], mode: Mode, row: &mut Record) -> Read
             coded(code, input, at, row)
         }
         Mode::Items => item(input, 0, row),
+        Mode::GnuItems => gnu_item(input, 0, row),
     }
 }
 

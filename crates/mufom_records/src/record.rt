@@ -17,6 +17,8 @@ pub enum Mode {
     Body,
     /// An item of an LR.
     Items,
+    /// An item of an LR, in whose fields the size may follow the expression without a comma.
+    GnuItems,
 }
 
 /// The fields that a block's kind adds to BB. A `Span` is the position of all bytes of an expression.

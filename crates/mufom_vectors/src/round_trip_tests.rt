@@ -5,7 +5,7 @@ use crate::runs::shows;
 use crate::show::{ABSOLUTE_TEXT, RELOCATABLE_TEXT};
 use mufom_host::{Host, MemHost};
 use mufom_module::Module;
-use mufom_read::Reader;
+use mufom_read::{ReadOptions, Reader};
 use mufom_write::write_module;
 use std::alloc::Global;
 use std::process::Abort;
@@ -61,9 +61,15 @@ const BLOCKS_TEXT: &str = "\
       end\n\
       value 0 = 1\n";
 
+// The debug part is read, and no form of GNU binutils is accepted.
+const OPTIONS: ReadOptions = ReadOptions {
+    debug: true,
+    gnu: false,
+};
+
 // The module of a file that comes in these chunks.
 fn read(rt: &impl Abort, alloc: Global, fed: &[&[u8]]) -> Module {
-    let mut reader = Reader::new(alloc, true).expect(rt, "memory");
+    let mut reader = Reader::new(alloc, OPTIONS).expect(rt, "memory");
     for chunk in fed {
         assert_eq!(rt; reader.feed(chunk), Ok(()));
     }

@@ -9,6 +9,7 @@ use Rattle.mufom_records.specs.declared.record.Mode.TheVariants as mode
 use Rattle.mufom_records.specs.declared.record.Record.TheVariants as r
 use Rattle.mufom_records.specs.Fields.{first_of}
 use Rattle.mufom_debug.specs.Marks.{joined, marks_of}
+use Rattle.mufom_module.proofs.GnuLaws.{plainly}
 use Rattle.mufom_module.specs.declared.module.Parts.{Parts}
 use Rattle.mufom_module.specs.SpelledRecords.{SpelledRecord, bytes_of}
 use Rattle.mufom_module.specs.RecordParts.{section_part, external_part, debug_part, trailer_part}
@@ -177,7 +178,7 @@ module _ (m : Parts) (fits : IsFittingModule m) where
       (externals-records m.names.publics m.names.references fits.few_publics fits.few_references fits.publics fits.references) after_debug
 
   -- what is written is a file that is cut into these parts
-  pub cut : length (written m) ≤ file_limit → IsCutInto (written m) true (file_of m)
+  pub cut : length (written m) ≤ file_limit → IsCutInto (written m) (plainly true) (file_of m)
   cut few = record {
     all = all-same m;
     limit = few;

@@ -6,6 +6,7 @@ use Rattle.mufom_records.specs.Fields.{first_of}
 use Rattle.mufom_debug.specs.Marks.{joined}
 use Rattle.mufom_debug.proofs.MarksLemmas.{joined-append}
 use Rattle.std.proofs.lemmas.List.{map-append}
+use Rattle.mufom_module.proofs.GnuLaws.{plainly}
 use Rattle.mufom_module.specs.SpelledRecords.{SpelledRecord, bytes_of}
 use Rattle.mufom_module.specs.RecordParts.{Part, stands_in, opens_items}
 use Rattle.mufom_module.specs.Grammar.{AreWhole, IsPart}
@@ -51,11 +52,11 @@ module _ (part : Part) where
       code-first (p.bytes ++ bytes_of records) after (code-first p.bytes (bytes_of records) all.0.code)
 
   are_whole : (records : List SpelledRecord) (after : List ℕ) → AllByRecursion (IsRecord part) records → IsCode (first_of after None)
-      → AreWhole false records after
+      → AreWhole (plainly true) false records after
   are_whole [] after all code = tt
   are_whole (p ∷ records) after all code = (
     all.0.whole (first_of (bytes_of records ++ after) None) (next-code records after all.1 code),
-    subst (λ (items : Bool). AreWhole items records after) (sym all.0.plain) (are_whole records after all.1 code),
+    subst (λ (items : Bool). AreWhole (plainly true) items records after) (sym all.0.plain) (are_whole records after all.1 code),
   )
 
   are_own : (records : List SpelledRecord) → AllByRecursion (IsRecord part) records → list_all (λ p. stands_in part p.row) records ≡ true
@@ -66,7 +67,7 @@ module _ (part : Part) where
       λ i. first i && rest i
 
   pub is_part : (records : List SpelledRecord) (after : List ℕ) → AllByRecursion (IsRecord part) records → IsCode (first_of after None)
-      → IsPart part records after
+      → IsPart (plainly true) part records after
   is_part records after all code = record { are_whole = are_whole records after all code; own = are_own records all }
 
   pub part-code : (records : List SpelledRecord) (after : List ℕ) → AllByRecursion (IsRecord part) records → IsCode (first_of after None)

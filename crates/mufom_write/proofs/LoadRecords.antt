@@ -22,6 +22,7 @@ use Rattle.mufom_loads.specs.declared.load.Item.{Item}
 use Rattle.mufom_loads.specs.declared.load.Item.TheVariants.{Literal, Field}
 use Rattle.mufom_loads.specs.declared.load.Load.{Load}
 use Rattle.mufom_loads.specs.declared.load.Load.TheVariants.{SetSection, SetPc, One, Repeat}
+use Rattle.mufom_module.proofs.GnuLaws.{plainly}
 use Rattle.mufom_module.specs.SpelledRecords.{SpelledRecord, bytes_of}
 use Rattle.mufom_module.specs.RecordParts.{data_part, trailer_part, stands_in, opens_items, mode_of}
 use Rattle.mufom_module.specs.Grammar.{AreWhole, IsPart}
@@ -157,18 +158,18 @@ chosen : (items test : Bool) → test ≡ false → (if items && test then mode.
 chosen true test h = ap (λ (t : Bool). if t then mode.Items else mode.Body) h
 chosen false test h = refl
 
-mode-plain : (items : Bool) (bytes : List ℕ) → IsCode (first_of bytes None) → mode_of items bytes ≡ mode.Body
+mode-plain : (items : Bool) (bytes : List ℕ) → IsCode (first_of bytes None) → mode_of (plainly true) items bytes ≡ mode.Body
 mode-plain items [] code = absurd code
 mode-plain items (b ∷ bytes) code = chosen items (begins_number b || is_one_of opening_brackets b) (no_item b code)
 
 -- records and items are whole whether or not items may come first, and a record follows
 record AreLaid (records : List SpelledRecord) (after : List ℕ) : Type 0 where
-  whole : (items : Bool) → AreWhole items records after
+  whole : (items : Bool) → AreWhole (plainly true) items records after
   code : IsCode (first_of (bytes_of records ++ after) None)
 
 plain-first : (p : SpelledRecord) (rest : List SpelledRecord) (after : List ℕ) → IsWhole p.row p.bytes → IsCode (first_of p.bytes None)
     → IsCode (first_of (bytes_of rest ++ after) None)
-    → AreWhole (opens_items p.row) rest after → AreLaid (p ∷ rest) after
+    → AreWhole (plainly true) (opens_items p.row) rest after → AreLaid (p ∷ rest) after
 plain-first p rest after whole code next rest_whole = record {
   whole = λ items. (
     subst (λ (m : Mode). IsWholeRecord m p.row p.bytes (first_of (bytes_of rest ++ after) None)) (sym (mode-plain items p.bytes code))
@@ -181,7 +182,7 @@ plain-first p rest after whole code next rest_whole = record {
 -- a record after which items may come, which need no record after them
 open-first : (p : SpelledRecord) (rest : List SpelledRecord) (after : List ℕ) → ((next : Option ℕ) → IsWholeRecord mode.Body p.row p.bytes next)
     → IsCode (first_of p.bytes None)
-    → AreWhole (opens_items p.row) rest after → AreLaid (p ∷ rest) after
+    → AreWhole (plainly true) (opens_items p.row) rest after → AreLaid (p ∷ rest) after
 open-first p rest after whole code rest_whole = record {
   whole = λ items. (
     subst (λ (m : Mode). IsWholeRecord m p.row p.bytes (first_of (bytes_of rest ++ after) None)) (sym (mode-plain items p.bytes code))
@@ -193,7 +194,7 @@ open-first p rest after whole code rest_whole = record {
 
 -- ---- items
 
-mode-number : (n : ℕ) (prefix rest : List ℕ) → SpellsNumber n prefix → mode_of true (prefix ++ rest) ≡ mode.Items
+mode-number : (n : ℕ) (prefix rest : List ℕ) → SpellsNumber n prefix → mode_of (plainly true) true (prefix ++ rest) ≡ mode.Items
 mode-number n [] rest spelled = absurd spelled
 mode-number n (b ∷ prefix) rest spelled =
     let first = number_first n (b ∷ prefix) spelled in
@@ -204,21 +205,21 @@ counts : (n : ℕ) → nat_lt longest n ≡ false → n < 2 ^ 64
 counts n h = let few = ltb-false longest n h in omega (arith, few)
 
 literal-whole : (bytes : List ℕ) (next : Option ℕ) → is_long bytes ≡ false → AreBytes bytes
-    → IsWholeRecord (mode_of true (w.counted shortest bytes)) (r.ConstantItem (run_at 0 bytes)) (w.counted shortest bytes) next
+    → IsWholeRecord (mode_of (plainly true) true (w.counted shortest bytes)) (r.ConstantItem (run_at 0 bytes)) (w.counted shortest bytes) next
 literal-whole bytes next short are =
     let same = mode-number (length bytes) (w.number shortest (length bytes)) bytes (spells (length bytes) (counts (length bytes) short)) in
     subst (λ (m : Mode). IsWholeRecord m (r.ConstantItem (run_at 0 bytes)) (w.counted shortest bytes) next) (sym same)
     (constant_item-whole bytes short are next)
 
 field-first : (kind : FieldKind) (value : Tree) (size : ℕ) (next : Option ℕ) → IsFittingItem (Field kind size value)
-    → IsWholeRecord (mode_of true (w.field shortest kind value size))
+    → IsWholeRecord (mode_of (plainly true) true (w.field shortest kind value size))
     (r.FieldItem kind (span_at 1 (length (w.expression shortest value))) (Some size)) (w.field shortest kind value size) next
 field-first Signed value size next fits = field-whole Signed (indexed value) value size (expression-spells value fits.0) fits.1 fits.2 next
 field-first Unsigned value size next fits = field-whole Unsigned (indexed value) value size (expression-spells value fits.0) fits.1 fits.2 next
 field-first Either value size next fits = field-whole Either (indexed value) value size (expression-spells value fits.0) fits.1 fits.2 next
 
 items-laid : (items : List Item) (rest : List SpelledRecord) (after : List ℕ) → AllByRecursion IsFittingItem items → AreLaid rest after
-    → AreWhole true (item_records items ++ rest) after
+    → AreWhole (plainly true) true (item_records items ++ rest) after
 items-laid [] rest after fit laid = laid.whole true
 items-laid (Literal bytes ∷ items) rest after fit laid =
     (literal-whole bytes (first_of (bytes_of (item_records items ++ rest) ++ after) None) fit.0.0 fit.0.1, items-laid items rest after fit.1 laid)
@@ -296,7 +297,7 @@ loads-own (load ∷ loads) =
     list_all-append (λ p. stands_in data_part p.row) (load_records load) (loads_records loads) ∙ (λ i. first i && rest i)
 
 pub loads-part : (loads : List Load) (after : List ℕ) → AllByRecursion IsFittingLoad loads → IsCode (first_of after None)
-    → IsPart data_part (loads_records loads) after
+    → IsPart (plainly true) data_part (loads_records loads) after
 loads-part loads after fit code = record { are_whole = (loads-laid loads after fit code).whole false; own = loads-own loads }
 
 pub loads-code : (loads : List Load) (after : List ℕ) → AllByRecursion IsFittingLoad loads → IsCode (first_of after None)

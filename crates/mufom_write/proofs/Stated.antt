@@ -1,8 +1,9 @@
 -- What is written of a module spells it.
-use Rattle.std.proofs.Common.{◌≡◌, ℕ, ◌+◌, ◌≤◌, true, List, [], ◌∷◌, ◌++◌, length, Some, refl, sym, subst, inl, arith}
+use Rattle.std.proofs.Common.{◌≡◌, ℕ, ◌+◌, ◌≤◌, Bool, true, false, List, [], ◌∷◌, ◌++◌, length, Some, refl, sym, subst, inl, arith}
 use Rattle.std.specs.Prelude.{slice_range}
 use Rattle.mufom_expr.specs.Spelled.{Indexes}
 use Rattle.mufom_debug.specs.Marks.{marks_of}
+use Rattle.mufom_module.proofs.GnuLaws.{plainly, plain-gnu}
 use Rattle.mufom_module.specs.declared.module.Order.{Order}
 use Rattle.mufom_module.specs.declared.module.Order.TheVariants.{Least, Most}
 use Rattle.mufom_module.specs.declared.module.Parts.{Parts}
@@ -61,9 +62,14 @@ module _ (m : Parts) where
     start = sym (start-back m (names_in (marks_of m.debug)) m.start fits.start its.start);
   })
 
--- what is written spells the module
-pub stated : (m : Parts) → IsValid m → IsMade m → length (written m) ≤ file_limit → SpellsModule m (written m) true
-stated m valid made few =
+stated_plain : (m : Parts) → IsValid m → IsMade m → length (written m) ≤ file_limit → SpellsModule m (written m) (plainly true)
+stated_plain m valid made few =
     let fits = module-fits m valid made in
     let its = inside_module m valid in
     (file_of m, cut m fits few, has-names m fits its (loads-placed m valid), states m fits its, valid)
+
+-- what is written spells the module, with and without the forms of GNU binutils
+pub stated : (m : Parts) → IsValid m → IsMade m → length (written m) ≤ file_limit → (gnu : Bool)
+    → SpellsModule m (written m) (record { debug = true; gnu = gnu })
+stated m valid made few false = stated_plain m valid made few
+stated m valid made few true = plain-gnu true m (written m) (stated_plain m valid made few)

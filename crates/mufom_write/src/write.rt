@@ -1,6 +1,6 @@
 //! Writing the file of a module.
 
-ghost use Rattle.std.specs.Prelude.{◌≡◌, ◌≤◌, [], true, length, OnOk, OnErr};
+ghost use Rattle.std.specs.Prelude.{◌≡◌, ◌≤◌, [], Bool, true, length, OnOk, OnErr};
 ghost use Rattle.mufom_host.specs.World.{MakingGrowsBy, MakingGrowsByPrefix, OnlyWrites, Rose};
 ghost use Rattle.mufom_module.specs.Written.{written};
 ghost use Rattle.mufom_write.specs.Writing.{Writes};
@@ -72,8 +72,9 @@ pub fn write_module<K: Sink>(module: &Module, sink: &mut K) -> Result<(), WriteS
     // The file grows by the written form or, after an error, by a prefix of it.
     ensures whole { OnOk result (MakingGrowsBy (K.meaning sink.old).making (K.meaning sink.new).making (written «module».now)) }
     ensures prefix { OnErr result (MakingGrowsByPrefix (K.meaning sink.old).making (K.meaning sink.new).making (written «module».now)) }
-    // The written form is a file of the module.
-    ensures spells { length (written «module».now) ≤ file_limit → SpellsModule «module».now (written «module».now) true }
+    // The written form is a file of the module, with and without the forms of GNU binutils.
+    ensures spells { length (written «module».now) ≤ file_limit → (gnu : Bool)
+        → SpellsModule «module».now (written «module».now) (record { debug = true; gnu = gnu }) }
     // Nothing changes except the file being made and the count of failed writes, which rises on an error.
     ensures only { OnlyWrites (K.meaning sink.old) (K.meaning sink.new) (K.faults sink.old) (K.faults sink.new) }
     ensures cause { OnErr result (Rose (K.faults sink.old).writes (K.faults sink.new).writes) }

@@ -1,5 +1,5 @@
 -- What a whole prefix states, as the code keeps it.
-use Rattle.std.proofs.Common.{◌≡◌, ℕ, ◌≤◌, nat_le, Bool, true, false, min, List, [], ◌∷◌, ◌++◌, map, filter_map, refl, sym, ap, subst, ◌∙◌, arith}
+use Rattle.std.proofs.Common.{◌≡◌, ℕ, ◌≤◌, nat_le, true, false, min, List, [], ◌∷◌, ◌++◌, map, filter_map, refl, sym, ap, subst, ◌∙◌, arith}
 use Rattle.std.proofs.Common.{slice_get, Option, Some, None, option_map, option_to_list, ◌+◌, length}
 use Rattle.std.specs.Prelude.{unwrap_or}
 use Rattle.std.proofs.lemmas.Bool.{and_parts, leb-true}
@@ -38,6 +38,7 @@ use Rattle.mufom_read.proofs.ended.LoadsWhole.{others-other, silent-other, other
 use Rattle.mufom_read.proofs.stepping.PartBytes.{so-far}
 use Rattle.mufom_read.proofs.ended.Prefix.{ended_sliced}
 use Rattle.mufom_read.proofs.weighing.Files.{files_weigh}
+use Rattle.mufom_records.specs.declared.options.ReadOptions.{ReadOptions}
 
 few_units : (n : ℕ) → is_unit_count n ≡ true → n ≤ 8
 few_units n h = leb-true n 8 (and_parts (nat_le 1 n) (nat_le n 8) h).1
@@ -70,20 +71,20 @@ stand_count offsets at [] h = ap length h
 stand_count [] at (x ∷ parts) h = absurd h
 stand_count (w ∷ offsets) at (x ∷ parts) h = let rest = stand_count offsets (at + length x) parts (stand_parts w offsets at x parts h).1 in omega (arith, rest)
 
-has_header : (reads_debug : Bool) (f : Prefix) (prefix : List Step) → IsPrefixOf f prefix → (s : Sliced reads_debug prefix) → 10 ≤ length prefix
-has_header reads_debug f prefix is s =
+has_header : (options : ReadOptions) (f : Prefix) (prefix : List Step) → IsPrefixOf f prefix → (s : Sliced options prefix) → 10 ≤ length prefix
+has_header options f prefix is s =
     let eight : length (offsets_of prefix) ≡ 8 = ap length s.offsets
     ∙ stand_count (offsets_in s.f.offsets) (length (bytes_of (header_of s.f))) (parts_of s.f) s.stand in
     omega (arith, eight, is.count)
 
-stated_of : (reads_debug : Bool) (f : Prefix) (prefix : List Step) (bytes : List ℕ) → IsWhole reads_debug f prefix bytes
-    → (s : Sliced reads_debug prefix) → IsStatedByKept f (stated_by reads_debug prefix s)
-stated_of reads_debug f prefix bytes is s =
+stated_of : (options : ReadOptions) (f : Prefix) (prefix : List Step) (bytes : List ℕ) → IsWhole options f prefix bytes
+    → (s : Sliced options prefix) → IsStatedByKept f (stated_by options prefix s)
+stated_of options f prefix bytes is s =
     let kept = is.kept.contents in
-    let stated = is_stated reads_debug prefix s in
-    let its = states reads_debug prefix s in
+    let stated = is_stated options prefix s in
+    let its = states options prefix s in
     let maus = s.describes.1 in
-    let ordered = sorted reads_debug prefix s in
+    let ordered = sorted options prefix s in
     let same = records-placed prefix in
     let records : records_in (offset_records_of prefix) ≡ all_records (header_of s.f) s.f.sections s.f.externals s.f.debug s.f.loads s.f.trailer
     s.end = sym same ∙ s.records in
@@ -94,7 +95,7 @@ stated_of reads_debug f prefix bytes is s =
     let trailer = others-other trailer_part refl s.f.trailer ordered.trailer in
     let end = (others-other end_part refl (s.end ∷ []) (end_alone s.end s.ends)).0 in
     let all_ix : indexes_in (records_of prefix) ≡ indexes_by f.tables = ap indexes_by (sym is.kept.tables) in
-    let many = has_header reads_debug f prefix is.kept s in
+    let many = has_header options f prefix is.kept s in
     let counted = units_of s.describes.0 s.describes.1 s.describes.2 (subst (λ (row : Record). is_bad_descriptor row ≡ false) s.describes.3 s.no_bad) in
     let before = ((header_of s.f ++ s.f.sections) ++ s.f.externals) ++ s.f.debug in
     let after = (((s.f.offsets ++ s.f.sections) ++ s.f.externals) ++ s.f.debug) in
@@ -104,7 +105,7 @@ stated_of reads_debug f prefix bytes is s =
     ap (λ (ps : List SpelledRecord). closed (loads_so_far ps)) s.records
     ∙ loads-whole maus (indexes_of s.f) before s.f.loads s.f.trailer s.end (other-append ((header_of s.f ++ s.f.sections) ++ s.f.externals) s.f.debug
     (other-append (header_of s.f ++ s.f.sections) s.f.externals (other-append (header_of s.f) s.f.sections quiet sections) externals) debugged) trailer end
-    (ap indexes_in (sym s.records) ∙ same_ix reads_debug prefix s) given s.keep_loads in
+    (ap indexes_in (sym s.records) ∙ same_ix options prefix s) given s.keep_loads in
     let rest = ((after ++ s.f.loads) ++ s.f.trailer) ++ s.end ∷ [] in
     record {
       names = kept.names ∙ ap names_in records ∙ names-first s.f.begin (s.f.descriptor ∷ rest) s.begins;
@@ -115,23 +116,23 @@ stated_of reads_debug f prefix bytes is s =
       publics = stated.publics ∙ (λ k. publics_of (all_ix k) (same k)) ∙ publics-placed (indexes_by f.tables) (records_in (offset_records_of prefix))
           ∙ ap (map (placed_public (indexes_by f.tables))) (sym kept.publics.list);
       references = stated.references ∙ ap references_of same ∙ sym kept.references;
-      debug = debug-kept reads_debug f prefix is.kept s;
+      debug = debug-kept options f prefix is.kept s;
       loads = its.loads ∙ sym (ap closed (kept.loads ∙ ap loads_so_far (sym same)) ∙ loads);
-      start = sym (first-start (stated_by reads_debug prefix s).start (starts_of (indexes_in (records_of prefix)) (records_of prefix)) stated.start)
+      start = sym (first-start (stated_by options prefix s).start (starts_of (indexes_in (records_of prefix)) (records_of prefix)) stated.start)
           ∙ sym (kept.start ∙ ap start_so_far (sym same) ∙ start-whole (records_of prefix) is.kept.follow);
     }
 
-sliced-stated : (reads_debug : Bool) (f : Prefix) (prefix : List Step) (bytes : List ℕ) → IsWhole reads_debug f prefix bytes
-    → (s : Sliced reads_debug prefix) → SpellsModule (stated_by reads_debug prefix s) bytes reads_debug
-    → (m : Parts) × SpellsModule m bytes reads_debug × IsStatedByKept f m
-sliced-stated reads_debug f prefix bytes is s spells = (stated_by reads_debug prefix s, spells, stated_of reads_debug f prefix bytes is s)
+sliced-stated : (options : ReadOptions) (f : Prefix) (prefix : List Step) (bytes : List ℕ) → IsWhole options f prefix bytes
+    → (s : Sliced options prefix) → SpellsModule (stated_by options prefix s) bytes options
+    → (m : Parts) × SpellsModule m bytes options × IsStatedByKept f m
+sliced-stated options f prefix bytes is s spells = (stated_by options prefix s, spells, stated_of options f prefix bytes is s)
 
 -- a whole prefix is the file of a module, which the records and the bytes state
-pub whole-stated : (reads_debug : Bool) (f : Prefix) (prefix : List Step) (bytes : List ℕ) → IsWhole reads_debug f prefix bytes → (m : Parts)
-    × SpellsModule m bytes reads_debug × IsStatedByKept f m
-whole-stated reads_debug f prefix bytes is =
-    let both = ended_sliced files_weigh reads_debug prefix bytes is.fits is.limit is.sound is.ends is.all in
-    sliced-stated reads_debug f prefix bytes is both.0 both.1
+pub whole-stated : (options : ReadOptions) (f : Prefix) (prefix : List Step) (bytes : List ℕ) → IsWhole options f prefix bytes → (m : Parts)
+    × SpellsModule m bytes options × IsStatedByKept f m
+whole-stated options f prefix bytes is =
+    let both = ended_sliced files_weigh options prefix bytes is.fits is.limit is.sound is.ends is.all in
+    sliced-stated options f prefix bytes is both.0 both.1
 
 -- ---- all parts
 

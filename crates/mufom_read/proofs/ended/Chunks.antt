@@ -1,7 +1,7 @@
 -- All parts of a walk, one after another, and the record that ends the module after them.
 use Rattle.std.proofs.Common.{◌≡◌, ◌⊎◌, ℕ, zero, suc, ◌+◌, ◌-◌, ◌<◌, ◌≤◌, Bool, true, false, cond, not, ◌==◌, ◌&&◌, nat_lt, nat_le, List, [], ◌∷◌}
 use Rattle.std.proofs.Common.{◌++◌, length, Option, Some, None, refl, sym, ap, subst, ◌∙◌, inl, inr, arith, append-nil, ltb-false, length-append}
-use Rattle.std.proofs.Common.{eq-eqb, ne_eqb, lt-ltb, le-ltb, le-leb}
+use Rattle.std.proofs.Common.{eq-eqb, ne_eqb, lt-ltb, le-ltb, le-leb, append_assoc}
 use Rattle.std.specs.List.{list_all, list_any, AllByRecursion}
 use Rattle.std.proofs.lemmas.Bool.{and_parts, or_parts, not-false, not-true, both_ways, cases_eq, cases_lt, not_from_false, true≢false}
 use Rattle.mufom_records.specs.declared.record.Mode.TheVariants as mode
@@ -17,6 +17,9 @@ use Rattle.mufom_read.specs.Faults.{is_out_of_order, record_fault, step_fault, w
 use Rattle.mufom_read.proofs.ended.Walk.{size-append, IsNextAt, IsWalk, taken}
 use Rattle.mufom_read.proofs.ended.Header.{ended-read, offsets-append, no_fault_if, read_here, after_header, InOrder}
 use Rattle.mufom_read.proofs.ended.Parts.{AllInside, Ready, Split, nothing_own, split_part}
+use Rattle.mufom_records.specs.declared.options.ReadOptions.{ReadOptions}
+use Rattle.mufom_read.proofs.ended.Seen.{seen_later, IsOutside, of_debug_offset}
+use Rattle.mufom_module.specs.Grammar.{debug_offset}
 
 -- ---- offsets do not fall
 
@@ -61,11 +64,55 @@ bounded earlier (suc v ∷ offsets) order count some =
     let parts = or_parts (not (suc v == 0) && list_any (λ e. nat_lt (suc v) e) earlier) ((length earlier == 7) && (suc v == 0)) order.0 in
     none_above (suc v) earlier (no_such (suc v == 0) (list_any (λ e. nat_lt (suc v) e) earlier) (not_from_false (suc v == 0) (not_zero v)) parts.0)
 
+all_append : {X : Type 0} (P : X → Type 0) (xs ys : List X) → AllByRecursion P xs → AllByRecursion P ys → AllByRecursion P (xs ++ ys)
+all_append P [] ys first second = second
+all_append P (x ∷ xs) ys first second = (first.0, all_append P xs ys first.1 second)
+
+all_map : {X : Type 0} (P Q : X → Type 0) (xs : List X) → ((x : X) → P x → Q x) → AllByRecursion P xs → AllByRecursion Q xs
+all_map P Q [] to each = tt
+all_map P Q (x ∷ xs) to each = (to x each.0, all_map P Q xs to each.1)
+
+-- offsets after others are 0, or at least as large as a number that is no larger than those
+above : (b : ℕ) (earlier offsets : List ℕ) → InOrder earlier offsets → length earlier + length offsets ≡ 8
+    → ((x : ℕ) → AllByRecursion (λ e. e ≤ x) earlier → b ≤ x) → AllByRecursion (λ x. (x ≡ 0) ⊎ (b ≤ x)) offsets
+above b earlier [] order count has = tt
+above b earlier (zero ∷ offsets) order count has = (
+  inl refl,
+  above b (earlier ++ 0 ∷ []) offsets order.1 (omega (arith, count, length-append earlier (0 ∷ [])))
+      (λ x each. has x (all_prefix (λ e. e ≤ x) earlier 0 each)),
+)
+above b earlier (suc v ∷ offsets) order count has = (
+  inr (has (suc v) (bounded earlier (suc v ∷ offsets) order count (omega arith))),
+  above b (earlier ++ suc v ∷ []) offsets order.1
+      (omega (arith, count, length-append earlier (suc v ∷ []))) (λ x each. has x (all_prefix (λ e. e ≤ x) earlier (suc v) each)),
+)
+
+high_later : (earlier offsets : List ℕ) → InOrder earlier offsets → length earlier + length offsets ≡ 8
+    → AllByRecursion (λ x. (x ≡ 0) ⊎ (first_present offsets ≤ x)) offsets
+high_later earlier [] order count = tt
+high_later earlier (zero ∷ offsets) order count =
+    (inl refl, high_later (earlier ++ 0 ∷ []) offsets order.1 (omega (arith, count, length-append earlier (0 ∷ []))))
+high_later earlier (suc v ∷ offsets) order count = (
+  inr (omega arith),
+  above (suc v) (earlier ++ suc v ∷ []) offsets order.1 (omega (arith, count, length-append earlier (suc v ∷ [])))
+      (λ x each. all_last (λ e. e ≤ x) earlier (suc v) each),
+)
+
+-- the debug part begins before a part or after it
+outside_all : (earlier : List ℕ) (v : ℕ) (offsets : List ℕ) → InOrder earlier (suc v ∷ offsets) → length earlier + length (suc v ∷ offsets) ≡ 8
+    → 1 ≤ length offsets → IsOutside (suc v) (first_present offsets) (debug_offset (earlier ++ suc v ∷ offsets))
+outside_all earlier v offsets order count some =
+    let P = IsOutside (suc v) (first_present offsets) in
+    let low = all_map (λ e. e ≤ suc v) P earlier (λ x h. inr (inl h)) (bounded earlier (suc v ∷ offsets) order count (omega arith)) in
+    let high = all_map (λ x. (x ≡ 0) ⊎ (first_present offsets ≤ x)) P offsets (λ x h. elim h [ inl none ↦ inl none | inr up ↦ inr (inr up) ])
+    (high_later (earlier ++ suc v ∷ []) offsets order.1 (omega (arith, count, length-append earlier (suc v ∷ [])))) in
+    of_debug_offset P (earlier ++ suc v ∷ offsets) (inl refl) (all_append P earlier (suc v ∷ offsets) low (inr (inl (omega arith)), high))
+
 -- ---- one part after another
 
 -- a part, whose steps are those up to the next offset
-pub record Chunk (reads_debug : Bool) (part : Part) (w to : ℕ) (before steps : List Step) : Type 0 where
-  pub cut : Split reads_debug part to false before steps
+pub record Chunk (options : ReadOptions) (all : List ℕ) (part : Part) (w to : ℕ) (before steps : List Step) : Type 0 where
+  pub cut : Split options part to all false before steps
   pub stands : ((w ≡ size_of before) × (w ≡ 0 → ⊥)) ⊎ ((w ≡ 0) × (cut.own ≡ []))
   pub faultless : (cut.own ≡ []) ⊎ (whole_fault part (before ++ cut.own) ≡ None)
 
@@ -78,25 +125,26 @@ pub record EndsThere (before : List Step) (offsets : List ℕ) (steps : List Ste
   pub own : stands_in end_part spelled.row ≡ true
 
 -- the parts with their offsets, and the end
-abbrev pub Chunks : Bool → List Part → List ℕ → List Step → List Step → Type 0
-Chunks reads_debug [] offsets before steps = EndsThere before offsets steps
-Chunks reads_debug (part ∷ parts) [] before steps = ⊥
-Chunks reads_debug (part ∷ parts) (w ∷ offsets) before steps = (c : Chunk reads_debug part w (first_present offsets) before steps)
-    × Chunks reads_debug parts offsets (before ++ c.cut.own) c.cut.later
+abbrev pub Chunks : ReadOptions → List ℕ → List Part → List ℕ → List Step → List Step → Type 0
+Chunks options all [] offsets before steps = EndsThere before offsets steps
+Chunks options all (part ∷ parts) [] before steps = ⊥
+Chunks options all (part ∷ parts) (w ∷ offsets) before steps = (c : Chunk options all part w (first_present offsets) before steps)
+    × Chunks options all parts offsets (before ++ c.cut.own) c.cut.later
 
 -- what holds at the start of a part
-record Begun (reads_debug : Bool) (all : List ℕ) (parts : List Part) (earlier offsets : List ℕ) (before steps : List Step) : Type 0 where
+record Begun (options : ReadOptions) (all : List ℕ) (parts : List Part) (earlier offsets : List ℕ) (before steps : List Step) : Type 0 where
   count : length offsets ≡ suc (length parts)
   own : list_all (λ p. not (number_of p == 7)) parts ≡ true
   order : InOrder earlier offsets
   eight : length earlier + length offsets ≡ 8
+  split : all ≡ earlier ++ offsets
   offsets_named : (at : ℕ) → size_of before ≤ at → part_among parts_in_order all at ≡ part_among parts offsets at
   here : size_of before ≡ first_present offsets
   many : 10 ≤ length before
   offsets_are : offsets_of before ≡ all
   unended : is_ended before ≡ false
   ends : is_ended (before ++ steps) ≡ true
-  walk : IsWalk reads_debug before steps
+  walk : IsWalk options before steps
 
 -- ---- the end
 
@@ -111,20 +159,20 @@ end_offset earlier (zero ∷ []) n count eight order here = absurd (last_present
 end_offset earlier (suc w ∷ []) n count eight order here = ap (λ (k : ℕ). k ∷ []) (sym here)
 end_offset earlier (w ∷ v ∷ offsets) n count eight order here = absurd (omega arith)
 
-nothing_after : (reads_debug : Bool) (prefix steps : List Step) → is_ended prefix ≡ true → IsWalk reads_debug prefix steps → steps ≡ []
-nothing_after reads_debug prefix [] ends walk = refl
-nothing_after reads_debug prefix (s ∷ steps) ends walk = absurd (both_ways (is_ended prefix) walk.0 ends)
+nothing_after : (options : ReadOptions) (prefix steps : List Step) → is_ended prefix ≡ true → IsWalk options prefix steps → steps ≡ []
+nothing_after options prefix [] ends walk = refl
+nothing_after options prefix (s ∷ steps) ends walk = absurd (both_ways (is_ended prefix) walk.0 ends)
 
-the_end : (reads_debug : Bool) (all earlier offsets : List ℕ) (before steps : List Step) → Begun reads_debug all [] earlier offsets before steps
+the_end : (options : ReadOptions) (all earlier offsets : List ℕ) (before steps : List Step) → Begun options all [] earlier offsets before steps
     → EndsThere before offsets steps
-the_end reads_debug all earlier offsets before [] begun = absurd
+the_end options all earlier offsets before [] begun = absurd
     (both_ways (is_ended before) begun.unended (ap (λ l. is_ended l) (sym (append-nil before)) ∙ begun.ends))
-the_end reads_debug all earlier offsets before (step ∷ steps) begun =
+the_end options all earlier offsets before (step ∷ steps) begun =
     let start = size_of before in
     let none : part_among [] offsets start ≡ None = refl in
     let fault_offset : location_after before ≡ at_end = after_header before begun.many
     ∙ ap (λ ws. location_by (part_among parts_in_order ws start)) begun.offsets_are ∙ ap location_by (begun.offsets_named start (omega arith)) in
-    let here = read_here mode.Body before step steps (subst (λ (p : Location). IsNextAt reads_debug before p (prefix_bytes (step ∷ steps)) step
+    let here = read_here mode.Body before step steps (subst (λ (p : Location). IsNextAt options before p (prefix_bytes (step ∷ steps)) step
     (length (step_bytes step))) fault_offset begun.walk.3) in
     let p = here.spelled in
     let fault : step_fault before (taken (read start p) (length p.bytes)) ≡ None =
@@ -132,8 +180,8 @@ the_end reads_debug all earlier offsets before (step ∷ steps) begun =
     let at_it : record_fault before at_end start p ≡ None = subst (λ (q : Location). record_fault before q start p ≡ None) fault_offset fault in
     let own = not-false (stands_in end_part p.row) (no_fault_if (not (stands_in end_part p.row)) start _ at_it) in
     let ended : is_ended (before ++ read start p ∷ []) ≡ true = ended-read before start p ∙ is_end p.row own in
-    let last = nothing_after reads_debug (before ++ read start p ∷ []) steps ended
-    (subst (λ (s : Step). IsWalk reads_debug (before ++ s ∷ []) steps) here.is_this begun.walk.4) in
+    let last = nothing_after options (before ++ read start p ∷ []) steps ended
+    (subst (λ (s : Step). IsWalk options (before ++ s ∷ []) steps) here.is_this begun.walk.4) in
     record {
       offset = end_offset earlier offsets start begun.count begun.eight begun.order begun.here;
       spelled = p;
@@ -175,39 +223,40 @@ whole_of part from to all prefix within offsets size some h =
     subst (λ (b : Bool). cond b (whole_fault part prefix) None ≡ None) (eq-eqb to (size_of prefix) (sym size)) fault
 
 -- the steps after a prefix that has not ended
-pub no_whole_fault : (reads_debug : Bool) (prefix later : List Step) → is_ended prefix ≡ false → is_ended (prefix ++ later) ≡ true
-    → IsWalk reads_debug prefix later → ended_part_fault prefix ≡ None
-no_whole_fault reads_debug prefix [] open_ ends walk = absurd (both_ways (is_ended prefix) open_ (ap (λ l. is_ended l) (sym (append-nil prefix)) ∙ ends))
-no_whole_fault reads_debug prefix (s ∷ later) open_ ends walk = walk.1
+pub no_whole_fault : (options : ReadOptions) (prefix later : List Step) → is_ended prefix ≡ false → is_ended (prefix ++ later) ≡ true
+    → IsWalk options prefix later → ended_part_fault prefix ≡ None
+no_whole_fault options prefix [] open_ ends walk = absurd (both_ways (is_ended prefix) open_ (ap (λ l. is_ended l) (sym (append-nil prefix)) ∙ ends))
+no_whole_fault options prefix (s ∷ later) open_ ends walk = walk.1
 
-empty_chunk : (reads_debug : Bool) (part : Part) (w to : ℕ) (before steps : List Step) → size_of before ≡ to → ((w ≡ size_of before) × (w ≡ 0 → ⊥))
-    ⊎ (w ≡ 0) → is_ended before ≡ false → is_ended (before ++ steps) ≡ true → IsWalk reads_debug before steps
-    → Chunk reads_debug part w to before steps
-empty_chunk reads_debug part w to before steps size stands open_ ends walk =
+empty_chunk : (options : ReadOptions) (all : List ℕ) (part : Part) (w to : ℕ) (before steps : List Step) → size_of before ≡ to
+    → ((w ≡ size_of before) × (w ≡ 0 → ⊥))
+    ⊎ (w ≡ 0) → is_ended before ≡ false → is_ended (before ++ steps) ≡ true → IsWalk options before steps
+    → Chunk options all part w to before steps
+empty_chunk options all part w to before steps size stands open_ ends walk =
     let same = append-nil before in
     record {
       cut = record {
         own = [];
         later = steps;
         split = refl;
-        walk = subst (λ (l : List Step). IsWalk reads_debug l steps) (sym same) walk;
+        walk = subst (λ (l : List Step). IsWalk options l steps) (sym same) walk;
         unended = ap (λ l. is_ended l) same ∙ open_;
         ends = ap (λ l. is_ended (l ++ steps)) same ∙ ends;
         size = ap size_of same ∙ size;
         offsets = refl;
-        is_own = nothing_own reads_debug part false (records_of before) (prefix_bytes steps);
+        is_own = nothing_own options part false (records_of before) (seen_later options all to (prefix_bytes steps));
       };
       stands = elim stands [ inl here ↦ inl here | inr none ↦ inr (none, refl) ];
       faultless = inl refl;
     }
 
-full_chunk : (reads_debug : Bool) (part : Part) (w to : ℕ) (all : List ℕ) (before steps : List Step) → AllInside part w to all → (number_of part == 7)
+full_chunk : (options : ReadOptions) (part : Part) (w to : ℕ) (all : List ℕ) (before steps : List Step) → AllInside part w to all → (number_of part == 7)
     ≡ false → w ≡ size_of before → (w ≡ 0 → ⊥) → w < to
-    → 10 ≤ length before → offsets_of before ≡ all → is_ended before ≡ false → is_ended (before ++ steps) ≡ true → IsWalk reads_debug before steps
-    → Chunk reads_debug part w to before steps
-full_chunk reads_debug part w to all before steps within other here present some many offsets open_ ends walk =
+    → 10 ≤ length before → offsets_of before ≡ all → is_ended before ≡ false → is_ended (before ++ steps) ≡ true → IsWalk options before steps
+    → IsOutside w to (debug_offset all) → Chunk options all part w to before steps
+full_chunk options part w to all before steps within other here present some many offsets open_ ends walk outside =
     let test : (size_of before == w) ≡ true = eq-eqb (size_of before) w (sym here) in
-    let ready : Ready reads_debug w to all false before steps = record {
+    let ready : Ready options w to all false before steps = record {
       many = many;
       offsets = offsets;
       begun = omega arith;
@@ -215,25 +264,26 @@ full_chunk reads_debug part w to all before steps within other here present some
       unended = open_;
       ends = ends;
       flag = λ h. absurd (both_ways (not (size_of before == w)) (ap (λ b. not b) test) (and_parts _ _ h).0);
+      outside = outside;
       walk = walk;
     } in
-    let cut = split_part reads_debug part w to all false before steps within other ready in
+    let cut = split_part options part w to all false before steps within other ready in
     let grown : offsets_of (before ++ cut.own) ≡ all = offsets-append before cut.own ∙ (λ i. offsets i ++ cut.offsets i) ∙ append-nil all in
     record {
       cut = cut;
       stands = inl (here, present);
       faultless = inr (whole_of part w to all (before ++ cut.own) within grown cut.size some
-          (no_whole_fault reads_debug (before ++ cut.own) cut.later cut.unended cut.ends cut.walk));
+          (no_whole_fault options (before ++ cut.own) cut.later cut.unended cut.ends cut.walk));
     }
 
 -- ---- all parts
 
-chunk_of : (reads_debug : Bool) (all : List ℕ) (part : Part) (parts : List Part) (earlier : List ℕ) (w : ℕ) (offsets : List ℕ)
-    (before steps : List Step) → Begun reads_debug all (part ∷ parts) earlier (w ∷ offsets) before steps
-    → Chunk reads_debug part w (first_present offsets) before steps
-chunk_of reads_debug all part parts earlier zero offsets before steps begun =
-    empty_chunk reads_debug part 0 (first_present offsets) before steps begun.here (inr refl) begun.unended begun.ends begun.walk
-chunk_of reads_debug all part parts earlier (suc v) offsets before steps begun =
+chunk_of : (options : ReadOptions) (all : List ℕ) (part : Part) (parts : List Part) (earlier : List ℕ) (w : ℕ) (offsets : List ℕ)
+    (before steps : List Step) → Begun options all (part ∷ parts) earlier (w ∷ offsets) before steps
+    → Chunk options all part w (first_present offsets) before steps
+chunk_of options all part parts earlier zero offsets before steps begun =
+    empty_chunk options all part 0 (first_present offsets) before steps begun.here (inr refl) begun.unended begun.ends begun.walk
+chunk_of options all part parts earlier (suc v) offsets before steps begun =
     let to = first_present offsets in
     let long = length-append earlier (suc v ∷ []) in
     let low : suc v ≤ to = all_last (λ e. e ≤ to) earlier (suc v)
@@ -241,11 +291,13 @@ chunk_of reads_debug all part parts earlier (suc v) offsets before steps begun =
     let within : AllInside part (suc v) to all = λ at x y. begun.offsets_named at (omega (arith, begun.here))
     ∙ ap (λ b. cond b (Some (record { part = part; from = suc v; to = to })) (part_among parts offsets at)) (is_within (suc v) at to (λ h. omega arith) x y) in
     elim (cases_eq (suc v) to) [
-      | inl same ↦ empty_chunk reads_debug part (suc v) to before steps (begun.here
+      | inl same ↦ empty_chunk options all part (suc v) to before steps (begun.here
           ∙ same) (inl (sym begun.here, λ h. omega arith)) begun.unended begun.ends begun.walk
-      | inr not_same ↦ full_chunk reads_debug part (suc v) to all before steps within (not-true (number_of part == 7) (and_parts _ _ begun.own).0)
+      | inr not_same ↦ full_chunk options part (suc v) to all before steps within (not-true (number_of part == 7) (and_parts _ _ begun.own).0)
           (sym begun.here) (λ h. omega arith) (below_from (suc v) to not_same low)
           begun.many begun.offsets_are begun.unended begun.ends begun.walk
+          (subst (λ (ws : List ℕ). IsOutside (suc v) to (debug_offset ws)) (sym begun.split)
+          (outside_all earlier v offsets begun.order (omega (arith, begun.eight)) (omega (arith, begun.count))))
     ]
   where
     below_from : (a b : ℕ) → (a ≡ b → ⊥) → a ≤ b → a < b
@@ -258,17 +310,18 @@ later_places all part parts w offsets low size more here offsets_named at high =
     offsets_named at (omega arith) ∙ ap (λ b. cond b (Some (record { part = part; from = w; to = first_present offsets }))
     (part_among parts offsets at)) (is_after w at (first_present offsets) (omega arith))
 
-next_begun : (reads_debug : Bool) (all : List ℕ) (part : Part) (parts : List Part) (earlier : List ℕ) (w : ℕ) (offsets : List ℕ)
-    (before steps : List Step) → Begun reads_debug all (part ∷ parts) earlier (w ∷ offsets) before steps
-    → (c : Chunk reads_debug part w (first_present offsets) before steps)
-    → Begun reads_debug all parts (earlier ++ w ∷ []) offsets (before ++ c.cut.own) c.cut.later
-next_begun reads_debug all part parts earlier w offsets before steps begun c =
+next_begun : (options : ReadOptions) (all : List ℕ) (part : Part) (parts : List Part) (earlier : List ℕ) (w : ℕ) (offsets : List ℕ)
+    (before steps : List Step) → Begun options all (part ∷ parts) earlier (w ∷ offsets) before steps
+    → (c : Chunk options all part w (first_present offsets) before steps)
+    → Begun options all parts (earlier ++ w ∷ []) offsets (before ++ c.cut.own) c.cut.later
+next_begun options all part parts earlier w offsets before steps begun c =
     let longer : size_of (before ++ c.cut.own) ≡ size_of before + size_of c.cut.own = size-append before c.cut.own in
     record {
       count = omega (arith, begun.count);
       own = (and_parts _ _ begun.own).1;
       order = begun.order.1;
       eight = omega (arith, begun.eight, length-append earlier (w ∷ []));
+      split = begun.split ∙ sym (append_assoc earlier (w ∷ []) offsets);
       offsets_named = later_places all part parts w offsets (size_of before) (size_of (before ++ c.cut.own)) (omega arith) (sym c.cut.size) begun.offsets_named;
       here = c.cut.size;
       many = omega (arith, begun.many, length-append before c.cut.own);
@@ -278,27 +331,28 @@ next_begun reads_debug all part parts earlier w offsets before steps begun c =
       walk = c.cut.walk;
     }
 
-walk_parts : (reads_debug : Bool) (all : List ℕ) (parts : List Part) (earlier offsets : List ℕ) (before steps : List Step)
-    → Begun reads_debug all parts earlier offsets before steps → Chunks reads_debug parts offsets before steps
-walk_parts reads_debug all [] earlier offsets before steps begun = the_end reads_debug all earlier offsets before steps begun
-walk_parts reads_debug all (part ∷ parts) earlier [] before steps begun = absurd (omega (arith, begun.count))
-walk_parts reads_debug all (part ∷ parts) earlier (w ∷ offsets) before steps begun =
-    let c = chunk_of reads_debug all part parts earlier w offsets before steps begun in (
+walk_parts : (options : ReadOptions) (all : List ℕ) (parts : List Part) (earlier offsets : List ℕ) (before steps : List Step)
+    → Begun options all parts earlier offsets before steps → Chunks options all parts offsets before steps
+walk_parts options all [] earlier offsets before steps begun = the_end options all earlier offsets before steps begun
+walk_parts options all (part ∷ parts) earlier [] before steps begun = absurd (omega (arith, begun.count))
+walk_parts options all (part ∷ parts) earlier (w ∷ offsets) before steps begun =
+    let c = chunk_of options all part parts earlier w offsets before steps begun in (
       c,
-      walk_parts reads_debug all parts (earlier ++ w ∷ []) offsets (before
-          ++ c.cut.own) c.cut.later (next_begun reads_debug all part parts earlier w offsets before steps begun c),
+      walk_parts options all parts (earlier ++ w ∷ []) offsets (before
+          ++ c.cut.own) c.cut.later (next_begun options all part parts earlier w offsets before steps begun c),
     )
 
 -- after the header
-pub chunks_of : (reads_debug : Bool) (offsets : List ℕ) (before steps : List Step) → length offsets ≡ 8 → InOrder [] offsets → size_of before
+pub chunks_of : (options : ReadOptions) (offsets : List ℕ) (before steps : List Step) → length offsets ≡ 8 → InOrder [] offsets → size_of before
     ≡ first_present offsets → 10 ≤ length before → offsets_of before ≡ offsets
-    → is_ended before ≡ false → is_ended (before ++ steps) ≡ true → IsWalk reads_debug before steps → Chunks reads_debug parts_in_order offsets before steps
-chunks_of reads_debug offsets before steps count order here many are open_ ends walk =
-    walk_parts reads_debug offsets parts_in_order [] offsets before steps (record {
+    → is_ended before ≡ false → is_ended (before ++ steps) ≡ true → IsWalk options before steps → Chunks options offsets parts_in_order offsets before steps
+chunks_of options offsets before steps count order here many are open_ ends walk =
+    walk_parts options offsets parts_in_order [] offsets before steps (record {
       count = count;
       own = refl;
       order = order;
       eight = omega arith;
+      split = refl;
       offsets_named = λ at _. refl;
       here = here;
       many = many;

@@ -1,5 +1,5 @@
 -- The debug items that are kept of an ended prefix are those of the module.
-use Rattle.std.proofs.Common.{◌≡◌, ℕ, Bool, List, [], ◌∷◌, ◌++◌, map, refl, sym, ap, ◌∙◌}
+use Rattle.std.proofs.Common.{◌≡◌, ℕ, List, [], ◌∷◌, ◌++◌, map, refl, sym, ap, ◌∙◌}
 use Rattle.mufom_debug.specs.Marks.{DebugMark, joined, marks_of}
 use Rattle.mufom_debug.specs.declared.item.DebugItem.{DebugItem}
 use Rattle.mufom_debug.proofs.Rebuilt.{same_items}
@@ -20,11 +20,12 @@ use Rattle.mufom_read.proofs.ended.Sliced.{Sliced}
 use Rattle.mufom_read.proofs.ended.Stated.{stated_by, sorted, is_stated}
 use Rattle.mufom_read.proofs.ended.Gathered.{end_alone}
 use Rattle.mufom_read.proofs.stepping.PrefixLaws.{records-placed}
+use Rattle.mufom_records.specs.declared.options.ReadOptions.{ReadOptions}
 
 -- no block is open after an ended prefix
-pub all-closed : (reads_debug : Bool) (prefix : List Step) (s : Sliced reads_debug prefix) → open_kinds (records_of prefix) ≡ []
-all-closed reads_debug prefix s =
-    let are = sorted reads_debug prefix s in
+pub all-closed : (options : ReadOptions) (prefix : List Step) (s : Sliced options prefix) → open_kinds (records_of prefix) ≡ []
+all-closed options prefix s =
+    let are = sorted options prefix s in
     let before = ((header_of s.f ++ s.f.sections) ++ s.f.externals) ++ s.f.debug in
     ap (λ (l : List SpelledRecord). open_kinds l) s.records
     ∙ kinds-append [] ((before ++ s.f.loads) ++ s.f.trailer) (s.end ∷ [])
@@ -39,17 +40,17 @@ same_marks : (a b : List DebugItem) (all : List DebugMark) → marks_of a ≡ al
 same_marks a b all first second = same_items a b (first ∙ sym second)
 
 -- the debug items that are kept are those of the module
-pub debug-kept : (reads_debug : Bool) (f : Prefix) (prefix : List Step) → IsPrefixOf f prefix → (s : Sliced reads_debug prefix)
-    → (stated_by reads_debug prefix s).debug ≡ f.contents.debug.items
-debug-kept reads_debug f prefix is s =
+pub debug-kept : (options : ReadOptions) (f : Prefix) (prefix : List Step) → IsPrefixOf f prefix → (s : Sliced options prefix)
+    → (stated_by options prefix s).debug ≡ f.contents.debug.items
+debug-kept options f prefix is s =
     let all = records_of prefix in
     let opened_none : kinds_of (opened f.contents.debug) ≡ [] = ap (λ (l : List OpenBlock). kinds_of l) is.contents.debug.blocks ∙ kinds-open prefix
-    ∙ all-closed reads_debug prefix s in
+    ∙ all-closed options prefix s in
     let none : f.contents.debug.blocks ≡ [] = stacked-none f.contents.debug.blocks (no_kinds (opened f.contents.debug) opened_none) in
     let kept : marks_of f.contents.debug.items ≡ marks (indexes_in all) all =
     ap (λ (l : List code.OpenBlock). joined (map marks_to_block l) ++ marks_of f.contents.debug.items) (sym none)
     ∙ is.contents.debug.marks ∙ ap marks_so_far (sym (records-placed prefix)) ∙ marks-whole all is.follow in
-    same_marks (stated_by reads_debug prefix s).debug f.contents.debug.items (marks (indexes_in all) all) (is_stated reads_debug prefix s).debug kept
+    same_marks (stated_by options prefix s).debug f.contents.debug.items (marks (indexes_in all) all) (is_stated options prefix s).debug kept
   where
     no_kinds : (blocks : List OpenBlock) → kinds_of blocks ≡ [] → blocks ≡ []
     no_kinds [] h = refl

@@ -14,7 +14,7 @@ use Rattle.mufom_module.specs.Contents.{any_of}
 use Rattle.mufom_module.specs.Defects.{is_long, counts_of, names_outside, has_other_counter}
 use Rattle.mufom_module.specs.SpelledRecords.{SpelledRecord, bytes_of, text_in, section, named_by, expression_of, tree_in, is_public_value}
 use Rattle.mufom_module.specs.SpelledRecords.{position_in, positioned}
-use Rattle.mufom_module.specs.RecordParts.{Part, number_of, stands_in, opens_items, begins_item}
+use Rattle.mufom_module.specs.RecordParts.{Part, number_of, stands_in, opens_items, begins_item, items_mode}
 use Rattle.mufom_module.specs.Gathered.{for_index}
 use Rattle.mufom_module.specs.Grammar.{AreWhole, has_no_section, names_unknown}
 use Rattle.mufom_read.specs.Prefixes.{is_module_end}
@@ -24,6 +24,7 @@ use Rattle.mufom_read.proofs.ended.Rows.{IsShort, body_short, items_short}
 use Rattle.mufom_read.proofs.ended.Parts.{IsKept, KeptFrom, own_of, not_end}
 use Rattle.mufom_read.proofs.ended.Trees.{IsKnown, AreCounts, inside, placed_section, own_counter, known-append, named_known, tree_known}
 use Rattle.mufom_read.proofs.ended.Trees.{tree_counter, declared_below}
+use Rattle.mufom_records.specs.declared.options.ReadOptions.{ReadOptions}
 
 -- ---- trees
 
@@ -50,25 +51,26 @@ abbrev pub GoodFrom : Parts → Indexes → List SpelledRecord → List SpelledR
 GoodFrom m ix before [] = Unit {0}
 GoodFrom m ix before (p ∷ records) = IsGood m ix before p × GoodFrom m ix (before ++ p ∷ []) records
 
-short_here : (test : Bool) (p : SpelledRecord) (after : List ℕ) → is_module_end p.row ≡ false
-    → IsWholeRecord (cond test mode.Items mode.Body) p.row p.bytes (first_of after None) → IsShort p.row
-short_here false p after other is = body_short p.row p.bytes (first_of after None) other is
-short_here true p after other is = items_short p.row p.bytes (first_of after None) is
+short_here : (options : ReadOptions) (test : Bool) (p : SpelledRecord) (after : List ℕ) → is_module_end p.row ≡ false
+    → IsWholeRecord (cond test (items_mode options) mode.Body) p.row p.bytes (first_of after None) → IsShort p.row
+short_here options false p after other is = body_short p.row p.bytes (first_of after None) other is
+short_here options true p after other is = items_short options.gnu p.row p.bytes (first_of after None) is
 
 -- whole records of a part are short
-pub part_short : (part : Part) (items : Bool) (records : List SpelledRecord) (after : List ℕ) → (number_of part == 7) ≡ false
-    → list_all (λ p. stands_in part p.row) records ≡ true → AreWhole items records after → AllByRecursion (λ p. IsShort p.row) records
-part_short part items [] after other own are = tt
-part_short part items (p ∷ records) after other own are =
+pub part_short : (options : ReadOptions) (part : Part) (items : Bool) (records : List SpelledRecord) (after : List ℕ) → (number_of part == 7) ≡ false
+    → list_all (λ p. stands_in part p.row) records ≡ true → AreWhole options items records after → AllByRecursion (λ p. IsShort p.row) records
+part_short options part items [] after other own are = tt
+part_short options part items (p ∷ records) after other own are =
     let both = and_parts (stands_in part p.row) _ own in (
-      short_here (items && begins_item p.bytes) p (bytes_of records ++ after) (not_end part p.row other both.0) are.0,
-      part_short part (opens_items p.row) records after other both.1 are.1,
+      short_here options (items && begins_item p.bytes) p (bytes_of records ++ after) (not_end part p.row other both.0) are.0,
+      part_short options part (opens_items p.row) records after other both.1 are.1,
     )
 
 -- the records of a part are short
-pub all_short : (part : Part) (before : List SpelledRecord) (items : Bool) (records : List SpelledRecord) (after : List ℕ) → (number_of part == 7)
-    ≡ false → KeptFrom part before records → AreWhole items records after → AllByRecursion (λ p. IsShort p.row) records
-all_short part before items records after other own are = part_short part items records after other (own_of part before records own) are
+pub all_short : (options : ReadOptions) (part : Part) (before : List SpelledRecord) (items : Bool) (records : List SpelledRecord) (after : List ℕ)
+    → (number_of part == 7)
+    ≡ false → KeptFrom part before records → AreWhole options items records after → AllByRecursion (λ p. IsShort p.row) records
+all_short options part before items records after other own are = part_short options part items records after other (own_of part before records own) are
 
 good : (m : Parts) (all : List SpelledRecord) (ix : Indexes) → indexes_in all ≡ ix → AreCounts m (indexes_in all)
     → (before after : List SpelledRecord) (p : SpelledRecord) → before ++ p ∷ after ≡ all → IsShort p.row → IsKept before p → IsGood m ix before p

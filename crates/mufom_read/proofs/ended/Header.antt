@@ -21,6 +21,7 @@ use Rattle.mufom_read.specs.Prefixes.{location_by, part_at, location_after, head
 use Rattle.mufom_read.specs.Faults.{fault_if, is_bad_descriptor, is_out_of_order, leaves_gap, offset_fault, header_fault, record_fault, step_fault}
 use Rattle.mufom_read.proofs.ended.Walk.{bytes-append, size-append, records-append, IsRead, IsNextAt, IsWalk, taken, no_fault}
 use Rattle.mufom_read.proofs.ended.Rows.{IsDescriptor, begin_row, descriptor_row, offset_row}
+use Rattle.mufom_records.specs.declared.options.ReadOptions.{ReadOptions}
 
 -- ---- small facts
 
@@ -50,7 +51,7 @@ pub record IsHere (m : Mode) (before : List Step) (step : Step) (steps : List St
   pub is_whole : IsWholeRecord m spelled.row spelled.bytes (first_of (prefix_bytes steps) None)
 
 pub read_here : (m : Mode) (before : List Step) (step : Step) (steps : List Step)
-    → IsRead m before (prefix_bytes (step ∷ steps)) step (length (step_bytes step)) → IsHere m before step steps
+    → IsRead None m before (prefix_bytes (step ∷ steps)) step (length (step_bytes step)) → IsHere m before step steps
 read_here m before step steps is =
     let n = length (step_bytes step) in
     let back : drop n (prefix_bytes (step ∷ steps)) ≡ prefix_bytes steps = drop_at (step_bytes step) (prefix_bytes steps) n refl in
@@ -75,24 +76,24 @@ after_header prefix many =
     le-false a b h = grind arith
 
 -- the next record of the header
-pub record HeaderStep (reads_debug : Bool) (k : ℕ) (before steps : List Step) : Type 0 where
+pub record HeaderStep (options : ReadOptions) (k : ℕ) (before steps : List Step) : Type 0 where
   pub spelled : SpelledRecord
   pub later : List Step
   pub split : steps ≡ read (size_of before) spelled ∷ later
   pub is_whole : IsWholeRecord (header_mode k) spelled.row spelled.bytes (first_of (prefix_bytes later) None)
   pub faultless : header_fault (offsets_of before) (size_of before) (size_of before + length spelled.bytes) spelled.row ≡ None
-  pub walk : IsWalk reads_debug (before ++ read (size_of before) spelled ∷ []) later
+  pub walk : IsWalk options (before ++ read (size_of before) spelled ∷ []) later
   pub ends : is_ended ((before ++ read (size_of before) spelled ∷ []) ++ later) ≡ true
 
-pub header_step : (reads_debug : Bool) (k : ℕ) (before steps : List Step) → length before ≡ k → k < 10 → is_ended before ≡ false
-    → is_ended (before ++ steps) ≡ true → IsWalk reads_debug before steps
-    → HeaderStep reads_debug k before steps
-header_step reads_debug k before [] count few open_ ends walk =
+pub header_step : (options : ReadOptions) (k : ℕ) (before steps : List Step) → length before ≡ k → k < 10 → is_ended before ≡ false
+    → is_ended (before ++ steps) ≡ true → IsWalk options before steps
+    → HeaderStep options k before steps
+header_step options k before [] count few open_ ends walk =
     absurd (both_ways (is_ended before) open_ (ap (λ l. is_ended l) (sym (append-nil before)) ∙ ends))
-header_step reads_debug k before (step ∷ later) count few open_ ends walk =
+header_step options k before (step ∷ later) count few open_ ends walk =
     let offset = header_location before k count few in
     let here = read_here (header_mode k) before step later (subst
-    (λ (p : Location). IsNextAt reads_debug before p (prefix_bytes (step ∷ later)) step (length (step_bytes step))) offset walk.3) in
+    (λ (p : Location). IsNextAt options before p (prefix_bytes (step ∷ later)) step (length (step_bytes step))) offset walk.3) in
     let n = length here.spelled.bytes in
     let it = read (size_of before) here.spelled in
     let fault : step_fault before (taken it n) ≡ None = subst (λ (s : Step). step_fault before (taken s (length (step_bytes s))) ≡ None) here.is_this walk.2 in
@@ -102,7 +103,7 @@ header_step reads_debug k before (step ∷ later) count few open_ ends walk =
       split = ap (λ s. s ∷ later) here.is_this;
       is_whole = here.is_whole;
       faultless = subst (λ (p : Location). record_fault before p (size_of before) here.spelled ≡ None) offset fault;
-      walk = subst (λ (s : Step). IsWalk reads_debug (before ++ s ∷ []) later) here.is_this walk.4;
+      walk = subst (λ (s : Step). IsWalk options (before ++ s ∷ []) later) here.is_this walk.4;
       ends = ap (λ l. is_ended l) (append_assoc before (it ∷ []) later) ∙ ap (λ s. is_ended (before ++ s ∷ later)) (sym here.is_this) ∙ ends;
     }
 
@@ -118,7 +119,7 @@ modes_from k zero = []
 modes_from k (suc n) = mode.Offset k ∷ modes_from (suc k) n
 
 -- this number of offset records, from a number on
-pub record OffsetRun (reads_debug : Bool) (n k : ℕ) (earlier : List ℕ) (before steps : List Step) : Type 0 where
+pub record OffsetRun (options : ReadOptions) (n k : ℕ) (earlier : List ℕ) (before steps : List Step) : Type 0 where
   pub own : List Step
   pub later : List Step
   pub offsets : List ℕ
@@ -131,7 +132,7 @@ pub record OffsetRun (reads_debug : Bool) (n k : ℕ) (earlier : List ℕ) (befo
   pub in_order : InOrder earlier offsets
   pub gap : 0 < n → length (earlier ++ offsets) ≡ 8 → first_present (earlier ++ offsets) ≡ size_of (before ++ own)
   pub silent : list_all (λ p. is_none (part_of p.row)) (records_of own) ≡ true
-  pub walk : IsWalk reads_debug (before ++ own) later
+  pub walk : IsWalk options (before ++ own) later
   pub unended : is_ended (before ++ own) ≡ false
   pub ends : is_ended ((before ++ own) ++ later) ≡ true
 
@@ -141,9 +142,9 @@ no_gap offsets end h count =
     let same : not (first_present offsets == end) ≡ false = subst (λ (b : Bool). (b && not (first_present offsets == end)) ≡ false) test h in
     eqb-true (first_present offsets) end (not-false (first_present offsets == end) same)
 
-offset_run_none : (reads_debug : Bool) (k : ℕ) (earlier : List ℕ) (before steps : List Step) → is_ended before ≡ false → is_ended (before ++ steps)
-    ≡ true → IsWalk reads_debug before steps → OffsetRun reads_debug 0 k earlier before steps
-offset_run_none reads_debug k earlier before steps open_ ends walk =
+offset_run_none : (options : ReadOptions) (k : ℕ) (earlier : List ℕ) (before steps : List Step) → is_ended before ≡ false → is_ended (before ++ steps)
+    ≡ true → IsWalk options before steps → OffsetRun options 0 k earlier before steps
+offset_run_none options k earlier before steps open_ ends walk =
     let same = sym (append-nil before) in
     record {
       own = [];
@@ -158,7 +159,7 @@ offset_run_none reads_debug k earlier before steps open_ ends walk =
       in_order = tt;
       gap = λ some all. absurd (omega arith);
       silent = refl;
-      walk = subst (λ (l : List Step). IsWalk reads_debug l steps) same walk;
+      walk = subst (λ (l : List Step). IsWalk options l steps) same walk;
       unended = ap (λ l. is_ended l) (append-nil before) ∙ open_;
       ends = ap (λ l. is_ended (l ++ steps)) (append-nil before) ∙ ends;
     }
@@ -189,12 +190,12 @@ gap_of (suc n) earlier w offsets end before it own many count leaves size later 
     let values = append_assoc earlier (w ∷ []) offsets in
     ap first_present (sym values) ∙ later (omega arith) (ap length values ∙ eight) ∙ ap size_of (append_assoc before (it ∷ []) own)
 
-pub offset_run : (n k : ℕ) (reads_debug : Bool) (earlier : List ℕ) (before steps : List Step) → length before ≡ suc (suc k) → k + n ≡ 8
+pub offset_run : (n k : ℕ) (options : ReadOptions) (earlier : List ℕ) (before steps : List Step) → length before ≡ suc (suc k) → k + n ≡ 8
     → offsets_of before ≡ earlier
-    → is_ended before ≡ false → is_ended (before ++ steps) ≡ true → IsWalk reads_debug before steps → OffsetRun reads_debug n k earlier before steps
-offset_run zero k reads_debug earlier before steps at all are open_ ends walk = offset_run_none reads_debug k earlier before steps open_ ends walk
-offset_run (suc n) k reads_debug earlier before steps at all are open_ ends walk =
-    let next = header_step reads_debug (suc (suc k)) before steps at (omega arith) open_ ends walk in
+    → is_ended before ≡ false → is_ended (before ++ steps) ≡ true → IsWalk options before steps → OffsetRun options n k earlier before steps
+offset_run zero k options earlier before steps at all are open_ ends walk = offset_run_none options k earlier before steps open_ ends walk
+offset_run (suc n) k options earlier before steps at all are open_ ends walk =
+    let next = header_step options (suc (suc k)) before steps at (omega arith) open_ ends walk in
     let it = read (size_of before) next.spelled in
     let prefix = before ++ it ∷ [] in
     let row = offset_row k next.spelled.row next.spelled.bytes (first_of (prefix_bytes next.later) None) next.is_whole in
@@ -207,7 +208,7 @@ offset_run (suc n) k reads_debug earlier before steps at all are open_ ends walk
     let value : offsets_of (it ∷ []) ≡ w ∷ [] = ap (λ (s : Record). offsets_in (record { row = s; bytes = next.spelled.bytes } ∷ [])) row.1 in
     let grown : offsets_of prefix ≡ earlier ++ w ∷ [] = offsets-append before (it ∷ []) ∙ (λ i. are i ++ value i) in
     let open_now : is_ended prefix ≡ false = ended-read before (size_of before) next.spelled ∙ ap is_module_end row.1 in
-    let rec = offset_run n (suc k) reads_debug (earlier ++ w ∷ []) prefix next.later long (omega arith) grown open_now next.ends next.walk in
+    let rec = offset_run n (suc k) options (earlier ++ w ∷ []) prefix next.later long (omega arith) grown open_now next.ends next.walk in
     let size : size_of prefix ≡ end = size-append before (it ∷ []) ∙ ap (λ (l : List ℕ). size_of before + length l) (append-nil next.spelled.bytes) in
     let after : bytes_of (records_of rec.own) ++ prefix_bytes rec.later ≡ prefix_bytes next.later = ap (λ l. l ++ prefix_bytes rec.later) rec.bytes
     ∙ sym (bytes-append rec.own rec.later) ∙ ap prefix_bytes (sym rec.split) in
@@ -227,7 +228,7 @@ offset_run (suc n) k reads_debug earlier before steps at all are open_ ends walk
       in_order = (facts.order, rec.in_order);
       gap = gap_of n earlier w rec.offsets end before it rec.own rec.many rec.count facts.gap size rec.gap;
       silent = subst (λ (s : Record). (is_none (part_of s) && list_all (λ p. is_none (part_of p.row)) (records_of rec.own)) ≡ true) (sym row.1) rec.silent;
-      walk = subst (λ (l : List Step). IsWalk reads_debug l rec.later) (append_assoc before (it ∷ []) rec.own) rec.walk;
+      walk = subst (λ (l : List Step). IsWalk options l rec.later) (append_assoc before (it ∷ []) rec.own) rec.walk;
       unended = ap (λ l. is_ended l) (sym (append_assoc before (it ∷ []) rec.own)) ∙ rec.unended;
       ends = ap (λ l. is_ended (l ++ rec.later)) (sym (append_assoc before (it ∷ []) rec.own)) ∙ rec.ends;
     }
@@ -235,28 +236,29 @@ offset_run (suc n) k reads_debug earlier before steps at all are open_ ends walk
 -- ---- the header
 
 -- the ten records of the header, and the steps after them
-pub record HeaderRun (reads_debug : Bool) (steps : List Step) : Type 0 where
+pub record HeaderRun (options : ReadOptions) (steps : List Step) : Type 0 where
   pub begin : SpelledRecord
   pub descriptor : SpelledRecord
-  pub rest : OffsetRun reads_debug 8 0 [] (read 0 begin ∷ read (length begin.bytes) descriptor ∷ []) (drop 2 steps)
+  pub rest : OffsetRun options 8 0 [] (read 0 begin ∷ read (length begin.bytes) descriptor ∷ []) (drop 2 steps)
   pub split : steps ≡ read 0 begin ∷ read (length begin.bytes) descriptor ∷ drop 2 steps
   pub begins : IsWholeRecord mode.Begin begin.row begin.bytes (first_of (prefix_bytes (read (length begin.bytes) descriptor ∷ drop 2 steps)) None)
   pub describes : IsWholeRecord mode.Descriptor descriptor.row descriptor.bytes (first_of (prefix_bytes (drop 2 steps)) None)
   pub no_bad : is_bad_descriptor descriptor.row ≡ false
 
-descriptor_kept : (reads_debug : Bool) (start end : ℕ) (row : Record) → IsDescriptor row → header_fault [] start end row ≡ None → is_bad_descriptor row ≡ false
-descriptor_kept reads_debug start end row is h =
+descriptor_kept : (options : ReadOptions) (start end : ℕ) (row : Record) → IsDescriptor row → header_fault [] start end row ≡ None
+    → is_bad_descriptor row ≡ false
+descriptor_kept options start end row is h =
     let its = r.Descriptor is.0 is.1 is.2 in
     let fault : header_fault [] start end its ≡ None = subst (λ (s : Record). header_fault [] start end s ≡ None) is.3 h in
     ap is_bad_descriptor is.3 ∙ no_fault_if (is_bad_descriptor its) start _ fault
 
-pub header_run : (reads_debug : Bool) (steps : List Step) → is_ended steps ≡ true → IsWalk reads_debug [] steps → HeaderRun reads_debug steps
-header_run reads_debug steps ends walk =
-    let one = header_step reads_debug 0 [] steps refl (omega arith) refl ends walk in
+pub header_run : (options : ReadOptions) (steps : List Step) → is_ended steps ≡ true → IsWalk options [] steps → HeaderRun options steps
+header_run options steps ends walk =
+    let one = header_step options 0 [] steps refl (omega arith) refl ends walk in
     let a = read 0 one.spelled in
     let first = begin_row one.spelled.row one.spelled.bytes (first_of (prefix_bytes one.later) None) one.is_whole in
     let open_one : is_ended (a ∷ []) ≡ false = ap is_module_end first.2 in
-    let two = header_step reads_debug 1 (a ∷ []) one.later refl (omega arith) open_one one.ends one.walk in
+    let two = header_step options 1 (a ∷ []) one.later refl (omega arith) open_one one.ends one.walk in
     let size : size_of (a ∷ []) ≡ length one.spelled.bytes = ap length (append-nil one.spelled.bytes) in
     let b = read (length one.spelled.bytes) two.spelled in
     let same : read (size_of (a ∷ [])) two.spelled ≡ b = ap (λ (n : ℕ). read n two.spelled) size in
@@ -267,17 +269,17 @@ header_run reads_debug steps ends walk =
     let none : offsets_of (a ∷ []) ≡ [] = ap (λ (s : Record). offsets_in (record { row = s; bytes = one.spelled.bytes } ∷ [])) first.2 in
     let none_two : offsets_of (a ∷ b ∷ []) ≡ [] = offsets-append (a ∷ []) (b ∷ [])
     ∙ (λ i. none i ++ offsets_in (record { row = second.3 i; bytes = two.spelled.bytes } ∷ [])) in
-    let later = offset_run 8 0 reads_debug [] (a ∷ b ∷ []) two.later refl refl none_two open_two
-    (subst (λ (s : Step). is_ended (a ∷ s ∷ two.later) ≡ true) same two.ends) (subst (λ (s : Step). IsWalk reads_debug (a ∷ s ∷ []) two.later) same two.walk) in
+    let later = offset_run 8 0 options [] (a ∷ b ∷ []) two.later refl refl none_two open_two
+    (subst (λ (s : Step). is_ended (a ∷ s ∷ two.later) ≡ true) same two.ends) (subst (λ (s : Step). IsWalk options (a ∷ s ∷ []) two.later) same two.walk) in
     record {
       begin = one.spelled;
       descriptor = two.spelled;
-      rest = subst (λ (l : List Step). OffsetRun reads_debug 8 0 [] (a ∷ b ∷ []) l) (sym left) later;
+      rest = subst (λ (l : List Step). OffsetRun options 8 0 [] (a ∷ b ∷ []) l) (sym left) later;
       split = split ∙ ap (λ l. a ∷ b ∷ l) (sym left);
       begins = subst (λ (l : List ℕ). IsWholeRecord mode.Begin one.spelled.row one.spelled.bytes (first_of l None))
           (ap prefix_bytes (two.split ∙ (λ i. same i ∷ sym left i))) one.is_whole;
       describes = subst (λ (l : List Step). IsWholeRecord mode.Descriptor two.spelled.row two.spelled.bytes (first_of (prefix_bytes l) None))
           (sym left) two.is_whole;
-      no_bad = descriptor_kept reads_debug (size_of (a ∷ [])) (size_of (a ∷ []) + length two.spelled.bytes) two.spelled.row second
+      no_bad = descriptor_kept options (size_of (a ∷ [])) (size_of (a ∷ []) + length two.spelled.bytes) two.spelled.row second
           (subst (λ (l : List ℕ). header_fault l (size_of (a ∷ [])) (size_of (a ∷ []) + length two.spelled.bytes) two.spelled.row ≡ None) none two.faultless);
     }

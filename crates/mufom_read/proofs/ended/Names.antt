@@ -21,12 +21,13 @@ use Rattle.mufom_read.specs.Prefixes.{Step, prefix_bytes}
 use Rattle.mufom_read.specs.Faults.{public_declared, has_unknown_variable}
 use Rattle.mufom_read.proofs.ended.Parts.{IsKept, KeptFrom, own_of}
 use Rattle.mufom_read.proofs.ended.Sliced.{IsGiven, Sliced}
+use Rattle.mufom_records.specs.declared.options.ReadOptions.{ReadOptions}
 
 -- ---- cut
 
-pub cut_into : (reads_debug : Bool) (prefix : List Step) (s : Sliced reads_debug prefix) → length (prefix_bytes prefix) ≤ file_limit
-    → IsCutInto (prefix_bytes prefix) reads_debug s.f
-cut_into reads_debug prefix s limit = record {
+pub cut_into : (options : ReadOptions) (prefix : List Step) (s : Sliced options prefix) → length (prefix_bytes prefix) ≤ file_limit
+    → IsCutInto (prefix_bytes prefix) options s.f
+cut_into options prefix s limit = record {
   all = s.bytes;
   limit = limit;
   header = s.header;
@@ -191,8 +192,8 @@ only_there header sections externals i quiet own =
 
 -- ---- names
 
-pub has_names : (reads_debug : Bool) (prefix : List Step) (s : Sliced reads_debug prefix) → HasNames s.f
-has_names reads_debug prefix s =
+pub has_names : (options : ReadOptions) (prefix : List Step) (s : Sliced options prefix) → HasNames s.f
+has_names options prefix s =
     let f = s.f in
     let header = header_of f in
     let all = (header ++ f.sections) ++ f.externals in

@@ -18,8 +18,8 @@ use Rattle.mufom_module.specs.Written.{weight}
 use Rattle.mufom_module.specs.SpelledRecords.{SpelledRecord, debug_name, of_kind, declared_by, declared}
 use Rattle.mufom_module.specs.RecordParts.{Part, section_part, external_part, debug_part, data_part, trailer_part, stands_in}
 use Rattle.mufom_module.specs.Gathered.{marks}
-use Rattle.mufom_module.specs.Grammar.{header_of, from_externals, from_debug, from_loads, from_trailer, module_end, file_limit, IsCutInto, indexes_of}
-use Rattle.mufom_module.specs.Grammar.{SpellsModule}
+use Rattle.mufom_module.specs.Grammar.{header_of, from_loads, from_trailer, module_end, file_limit, IsCutInto, indexes_of}
+use Rattle.mufom_module.specs.Grammar.{SpellsModule, seen_from_debug, seen_from_externals}
 use Rattle.mufom_read.specs.Prefixes.{Step, prefix_bytes, records_of, size_of, is_ended}
 use Rattle.mufom_read.specs.Faults.{has_bad_alignment, is_bad_descriptor, set_by, current_section}
 use Rattle.mufom_read.specs.Judging.{IsSoundFrom, IsSoundPrefix}
@@ -41,28 +41,29 @@ use Rattle.mufom_read.proofs.ended.Entries.{publics_short, references_short, Has
 use Rattle.mufom_read.proofs.ended.Blocks.{debug_ends, debug_depth}
 use Rattle.mufom_read.proofs.ended.Debug.{AreGoodMarks, good_marks, marks_short, marks_inside, marks_counter, marks_attribute, names_declared}
 use Rattle.mufom_read.proofs.ended.Loads.{AreGoodLoads, no_place, no_counter, none_nowhere, none_long, none_sized, good_loads, start_good}
+use Rattle.mufom_records.specs.declared.options.ReadOptions.{ReadOptions}
 
 -- ---- the records before and after a part
 
 -- the records of an ended prefix with the part's after those before it
-loads_within : (reads_debug : Bool) (prefix : List Step) (s : Sliced reads_debug prefix)
+loads_within : (options : ReadOptions) (prefix : List Step) (s : Sliced options prefix)
     → (((((header_of s.f ++ s.f.sections) ++ s.f.externals) ++ s.f.debug) ++ s.f.loads) ++ (s.f.trailer ++ s.end ∷ [])) ≡ records_of prefix
-loads_within reads_debug prefix s = sym (append_assoc ((((header_of s.f ++ s.f.sections) ++ s.f.externals) ++ s.f.debug)
+loads_within options prefix s = sym (append_assoc ((((header_of s.f ++ s.f.sections) ++ s.f.externals) ++ s.f.debug)
     ++ s.f.loads) s.f.trailer (s.end ∷ [])) ∙ sym s.records
 
-debug_within : (reads_debug : Bool) (prefix : List Step) (s : Sliced reads_debug prefix)
+debug_within : (options : ReadOptions) (prefix : List Step) (s : Sliced options prefix)
     → ((((header_of s.f ++ s.f.sections) ++ s.f.externals) ++ s.f.debug) ++ (s.f.loads ++ (s.f.trailer ++ s.end ∷ []))) ≡ records_of prefix
-debug_within reads_debug prefix s = sym (append_assoc (((header_of s.f ++ s.f.sections) ++ s.f.externals) ++ s.f.debug) s.f.loads (s.f.trailer
-    ++ s.end ∷ [])) ∙ loads_within reads_debug prefix s
+debug_within options prefix s = sym (append_assoc (((header_of s.f ++ s.f.sections) ++ s.f.externals) ++ s.f.debug) s.f.loads (s.f.trailer
+    ++ s.end ∷ [])) ∙ loads_within options prefix s
 
-externals_within : (reads_debug : Bool) (prefix : List Step) (s : Sliced reads_debug prefix)
+externals_within : (options : ReadOptions) (prefix : List Step) (s : Sliced options prefix)
     → (((header_of s.f ++ s.f.sections) ++ s.f.externals) ++ (s.f.debug ++ (s.f.loads ++ (s.f.trailer ++ s.end ∷ [])))) ≡ records_of prefix
-externals_within reads_debug prefix s = sym (append_assoc ((header_of s.f ++ s.f.sections) ++ s.f.externals) s.f.debug (s.f.loads
-    ++ (s.f.trailer ++ s.end ∷ []))) ∙ debug_within reads_debug prefix s
+externals_within options prefix s = sym (append_assoc ((header_of s.f ++ s.f.sections) ++ s.f.externals) s.f.debug (s.f.loads
+    ++ (s.f.trailer ++ s.end ∷ []))) ∙ debug_within options prefix s
 
-counted : (reads_debug : Bool) (prefix : List Step) (s : Sliced reads_debug prefix)
-    → AreCounts (stated_by reads_debug prefix s) (indexes_in (records_of prefix))
-counted reads_debug prefix s = subst (λ (ix : Indexes). AreCounts (stated_by reads_debug prefix s) ix) (sym (same_ix reads_debug prefix s)) (record {
+counted : (options : ReadOptions) (prefix : List Step) (s : Sliced options prefix)
+    → AreCounts (stated_by options prefix s) (indexes_in (records_of prefix))
+counted options prefix s = subst (λ (ix : Indexes). AreCounts (stated_by options prefix s) ix) (sym (same_ix options prefix s)) (record {
   sections = sections_counted s.f.sections;
   publics = publics_counted (indexes_of s.f) s.f.externals;
   references = references_counted s.f.externals;
@@ -73,11 +74,11 @@ set_asked : (row : Record) → stands_in data_part row ≡ false → set_by row 
 set_asked (r.SetSection i) h = cc
 set_asked row h = refl
 
-none_set : (reads_debug : Bool) (prefix : List Step) (s : Sliced reads_debug prefix)
+none_set : (options : ReadOptions) (prefix : List Step) (s : Sliced options prefix)
     → current_section (((header_of s.f ++ s.f.sections) ++ s.f.externals) ++ s.f.debug) ≡ None
-none_set reads_debug prefix s =
+none_set options prefix s =
     let h = header_of s.f in
-    let are = sorted reads_debug prefix s in
+    let are = sorted options prefix s in
     let ask : SpelledRecord → Option ℕ = λ p. set_by p.row in
     let only : IsAskedOf data_part ask = λ p e. set_asked p.row e in
     let none_h = not_silent data_part ask only h are.header in
@@ -94,66 +95,66 @@ all_aligned : (part : Part) (before records : List SpelledRecord) → KeptFrom p
 all_aligned part before [] own = tt
 all_aligned part before (p ∷ records) own = (own.1.aligned, all_aligned part (before ++ p ∷ []) records own.2)
 
-maus_of : (reads_debug : Bool) (prefix : List Step) (s : Sliced reads_debug prefix) → d.is_unit_count s.describes.1 ≡ true
-maus_of reads_debug prefix s = (units_of s.describes.0 s.describes.1 s.describes.2
+maus_of : (options : ReadOptions) (prefix : List Step) (s : Sliced options prefix) → d.is_unit_count s.describes.1 ≡ true
+maus_of options prefix s = (units_of s.describes.0 s.describes.1 s.describes.2
     (subst (λ (row : Record). is_bad_descriptor row ≡ false) s.describes.3 s.no_bad)).1
 
-short_sections : (reads_debug : Bool) (prefix : List Step) (s : Sliced reads_debug prefix) → AllByRecursion (λ p. IsShort p.row) s.f.sections
-short_sections reads_debug prefix s = all_short section_part _ false s.f.sections (from_externals s.f) refl s.keep_sections s.sections
+short_sections : (options : ReadOptions) (prefix : List Step) (s : Sliced options prefix) → AllByRecursion (λ p. IsShort p.row) s.f.sections
+short_sections options prefix s = all_short options section_part _ false s.f.sections (seen_from_externals options s.f) refl s.keep_sections s.sections
 
-short_externals : (reads_debug : Bool) (prefix : List Step) (s : Sliced reads_debug prefix) → AllByRecursion (λ p. IsShort p.row) s.f.externals
-short_externals reads_debug prefix s = all_short external_part _ false s.f.externals (from_debug s.f) refl s.keep_externals s.externals
+short_externals : (options : ReadOptions) (prefix : List Step) (s : Sliced options prefix) → AllByRecursion (λ p. IsShort p.row) s.f.externals
+short_externals options prefix s = all_short options external_part _ false s.f.externals (seen_from_debug options s.f) refl s.keep_externals s.externals
 
-values_good : (reads_debug : Bool) (prefix : List Step) (s : Sliced reads_debug prefix)
-    → AllByRecursion (HasGoodValue (stated_by reads_debug prefix s) (indexes_of s.f)) s.f.externals
-values_good reads_debug prefix s =
-    let m = stated_by reads_debug prefix s in
-    let within = externals_within reads_debug prefix s in
+values_good : (options : ReadOptions) (prefix : List Step) (s : Sliced options prefix)
+    → AllByRecursion (HasGoodValue (stated_by options prefix s) (indexes_of s.f)) s.f.externals
+values_good options prefix s =
+    let m = stated_by options prefix s in
+    let within = externals_within options prefix s in
     good_values m ((header_of s.f ++ s.f.sections) ++ s.f.externals) (s.f.debug ++ (s.f.loads ++ (s.f.trailer ++ s.end ∷ []))) (indexes_of s.f)
-    (ap (λ l. indexes_in l) within ∙ same_ix reads_debug prefix s)
-    (subst (λ (l : List SpelledRecord). AreCounts m (indexes_in l)) (sym within) (counted reads_debug prefix s))
+    (ap (λ l. indexes_in l) within ∙ same_ix options prefix s)
+    (subst (λ (l : List SpelledRecord). AreCounts m (indexes_in l)) (sym within) (counted options prefix s))
     external_part (header_of s.f ++ s.f.sections) s.f.externals s.keep_externals s.given
 
-loads_good : (reads_debug : Bool) (prefix : List Step) (s : Sliced reads_debug prefix)
-    → AreGoodLoads (stated_by reads_debug prefix s) None (stated_by reads_debug prefix s).loads
-loads_good reads_debug prefix s =
-    let m = stated_by reads_debug prefix s in
+loads_good : (options : ReadOptions) (prefix : List Step) (s : Sliced options prefix)
+    → AreGoodLoads (stated_by options prefix s) None (stated_by options prefix s).loads
+loads_good options prefix s =
+    let m = stated_by options prefix s in
     let ix = indexes_of s.f in
     let before = ((header_of s.f ++ s.f.sections) ++ s.f.externals) ++ s.f.debug in
-    let short = all_short data_part before false s.f.loads (from_trailer s.f) refl s.keep_loads s.loads in
-    let are = good_from m (records_of prefix) ix (same_ix reads_debug prefix s) (counted reads_debug prefix s) data_part before s.f.loads (s.f.trailer
-    ++ s.end ∷ []) (loads_within reads_debug prefix s) short s.keep_loads in
-    subst (λ (o : Option ℕ). AreGoodLoads m (placed_section ix o) m.loads) (none_set reads_debug prefix s)
-    (good_loads m ix s.describes.1 (maus_of reads_debug prefix s) before s.f.loads are)
+    let short = all_short options data_part before false s.f.loads (from_trailer s.f) refl s.keep_loads s.loads in
+    let are = good_from m (records_of prefix) ix (same_ix options prefix s) (counted options prefix s) data_part before s.f.loads (s.f.trailer
+    ++ s.end ∷ []) (loads_within options prefix s) short s.keep_loads in
+    subst (λ (o : Option ℕ). AreGoodLoads m (placed_section ix o) m.loads) (none_set options prefix s)
+    (good_loads m ix s.describes.1 (maus_of options prefix s) before s.f.loads are)
 
 -- debug items
 
-short_debug : (reads_debug : Bool) (prefix : List Step) (s : Sliced reads_debug prefix) → AllByRecursion (λ p. IsShort p.row) s.f.debug
-short_debug reads_debug prefix s = all_short debug_part _ false s.f.debug (from_loads s.f) refl s.keep_debug s.debug
+short_debug : (options : ReadOptions) (prefix : List Step) (s : Sliced options prefix) → AllByRecursion (λ p. IsShort p.row) s.f.debug
+short_debug options prefix s = all_short options debug_part _ false s.f.debug (from_loads s.f) refl s.keep_debug s.debug
 
-debug_good : (reads_debug : Bool) (prefix : List Step) (s : Sliced reads_debug prefix)
-    → AreGoodMarks (stated_by reads_debug prefix s) (indexes_of s.f) s.f.debug
-debug_good reads_debug prefix s =
-    let m = stated_by reads_debug prefix s in
+debug_good : (options : ReadOptions) (prefix : List Step) (s : Sliced options prefix)
+    → AreGoodMarks (stated_by options prefix s) (indexes_of s.f) s.f.debug
+debug_good options prefix s =
+    let m = stated_by options prefix s in
     let before = (header_of s.f ++ s.f.sections) ++ s.f.externals in
-    good_marks m (indexes_of s.f) before s.f.debug (good_from m (records_of prefix) (indexes_of s.f) (same_ix reads_debug prefix s)
-    (counted reads_debug prefix s) debug_part before s.f.debug
-    (s.f.loads ++ (s.f.trailer ++ s.end ∷ [])) (debug_within reads_debug prefix s) (short_debug reads_debug prefix s) s.keep_debug)
+    good_marks m (indexes_of s.f) before s.f.debug (good_from m (records_of prefix) (indexes_of s.f) (same_ix options prefix s)
+    (counted options prefix s) debug_part before s.f.debug
+    (s.f.loads ++ (s.f.trailer ++ s.end ∷ [])) (debug_within options prefix s) (short_debug options prefix s) s.keep_debug)
 
-none_open : (reads_debug : Bool) (prefix : List Step) (s : Sliced reads_debug prefix) → open_kinds ((header_of s.f ++ s.f.sections) ++ s.f.externals) ≡ []
-none_open reads_debug prefix s = let are = sorted reads_debug prefix s in
+none_open : (options : ReadOptions) (prefix : List Step) (s : Sliced options prefix) → open_kinds ((header_of s.f ++ s.f.sections) ++ s.f.externals) ≡ []
+none_open options prefix s = let are = sorted options prefix s in
     none_before (header_of s.f) s.f.sections s.f.externals are.header are.sections are.externals
 
 -- what no mark of the records is, no mark of the module is
-of_marks : (reads_debug : Bool) (prefix : List Step) (s : Sliced reads_debug prefix) (test : DebugMark → Bool)
-    → list_any test (marks (indexes_of s.f) s.f.debug) ≡ false → list_any test (debug_marks (stated_by reads_debug prefix s)) ≡ false
-of_marks reads_debug prefix s test h = ap (list_any test) (its_marks reads_debug prefix s) ∙ h
+of_marks : (options : ReadOptions) (prefix : List Step) (s : Sliced options prefix) (test : DebugMark → Bool)
+    → list_any test (marks (indexes_of s.f) s.f.debug) ≡ false → list_any test (debug_marks (stated_by options prefix s)) ≡ false
+of_marks options prefix s test h = ap (list_any test) (its_marks options prefix s) ∙ h
 
-no_name : (reads_debug : Bool) (prefix : List Step) (s : Sliced reads_debug prefix)
+no_name : (options : ReadOptions) (prefix : List Step) (s : Sliced options prefix)
     → declared debug_name ((header_of s.f ++ s.f.sections) ++ s.f.externals) ≡ []
-no_name reads_debug prefix s =
+no_name options prefix s =
     let h = header_of s.f in
-    let are = sorted reads_debug prefix s in
+    let are = sorted options prefix s in
     let ask : SpelledRecord → Option ℕ = λ p. of_kind debug_name (declared_by p.row) in
     let only : IsAskedOf debug_part ask = λ p e. debug_declared p.row e in
     let none_h = not_silent debug_part ask only h are.header in
@@ -162,40 +163,40 @@ no_name reads_debug prefix s =
     filter_map-append ask (h ++ s.f.sections) s.f.externals ∙ ap (λ l. l ++ filter_map ask s.f.externals) (filter_map-append ask h s.f.sections)
     ∙ (λ i. (none_h i ++ none_s i) ++ none_e i)
 
-names_used : (reads_debug : Bool) (prefix : List Step) (s : Sliced reads_debug prefix)
-    → is_none (d.declared_after 0 (debug_marks (stated_by reads_debug prefix s))) ≡ false
-names_used reads_debug prefix s =
+names_used : (options : ReadOptions) (prefix : List Step) (s : Sliced options prefix)
+    → is_none (d.declared_after 0 (debug_marks (stated_by options prefix s))) ≡ false
+names_used options prefix s =
     let before = (header_of s.f ++ s.f.sections) ++ s.f.externals in
-    let none = no_name reads_debug prefix s in
+    let none = no_name options prefix s in
     let all : declared debug_name s.f.debug ≡ declared debug_name (before ++ s.f.debug) =
     ap (λ l. l ++ declared debug_name s.f.debug) (sym none) ∙ sym (filter_map-append (λ p. of_kind debug_name (declared_by p.row)) before s.f.debug) in
-    ap (λ l. is_none (d.declared_after 0 l)) (its_marks reads_debug prefix s)
+    ap (λ l. is_none (d.declared_after 0 l)) (its_marks options prefix s)
     ∙ ap (λ (l : List ℕ). is_none (d.declared_after (length l) (marks (indexes_of s.f) s.f.debug))) (sym none)
     ∙ names_declared (indexes_of s.f) debug_part before s.f.debug all s.keep_debug
 
-depth_fits : (reads_debug : Bool) (prefix : List Step) (s : Sliced reads_debug prefix) → d.has_defect (stated_by reads_debug prefix s) defect.Depth ≡ false
-depth_fits reads_debug prefix s =
-    ap (λ l. nat_lt 32 (depth_of l)) (its_marks reads_debug prefix s)
+depth_fits : (options : ReadOptions) (prefix : List Step) (s : Sliced options prefix) → d.has_defect (stated_by options prefix s) defect.Depth ≡ false
+depth_fits options prefix s =
+    ap (λ l. nat_lt 32 (depth_of l)) (its_marks options prefix s)
     ∙ le-ltb _ _ (debug_depth (indexes_of s.f) debug_part ((header_of s.f ++ s.f.sections)
-    ++ s.f.externals) s.f.debug (none_open reads_debug prefix s) s.keep_debug)
+    ++ s.f.externals) s.f.debug (none_open options prefix s) s.keep_debug)
 
-ends_fit : (reads_debug : Bool) (prefix : List Step) (s : Sliced reads_debug prefix) → d.has_defect (stated_by reads_debug prefix s) defect.Nesting ≡ false
-ends_fit reads_debug prefix s =
+ends_fit : (options : ReadOptions) (prefix : List Step) (s : Sliced options prefix) → d.has_defect (stated_by options prefix s) defect.Nesting ≡ false
+ends_fit options prefix s =
     debug_ends (indexes_of s.f) debug_part ((header_of s.f ++ s.f.sections)
-    ++ s.f.externals) s.f.debug (none_open reads_debug prefix s) (short_debug reads_debug prefix s) s.keep_debug
+    ++ s.f.externals) s.f.debug (none_open options prefix s) (short_debug options prefix s) s.keep_debug
 
 -- the start has no position that is not there, and no counter
 record StartIsGood (m : Parts) : Type 0 where
   inside : any_of (d.names_outside (d.counts_of m)) m.start ≡ false
   counter : any_of (d.has_other_counter None) m.start ≡ false
 
-start_is_good : (reads_debug : Bool) (prefix : List Step) (s : Sliced reads_debug prefix) → StartIsGood (stated_by reads_debug prefix s)
-start_is_good reads_debug prefix s =
-    let m = stated_by reads_debug prefix s in
+start_is_good : (options : ReadOptions) (prefix : List Step) (s : Sliced options prefix) → StartIsGood (stated_by options prefix s)
+start_is_good options prefix s =
+    let m = stated_by options prefix s in
     let ix = indexes_of s.f in
     let before = (((header_of s.f ++ s.f.sections) ++ s.f.externals) ++ s.f.debug) ++ s.f.loads in
-    let short = all_short trailer_part before false s.f.trailer module_end refl s.keep_trailer s.trailer in
-    let are = good_from m (records_of prefix) ix (same_ix reads_debug prefix s) (counted reads_debug prefix s) trailer_part before s.f.trailer
+    let short = all_short options trailer_part before false s.f.trailer module_end refl s.keep_trailer s.trailer in
+    let are = good_from m (records_of prefix) ix (same_ix options prefix s) (counted options prefix s) trailer_part before s.f.trailer
     (s.end ∷ []) (sym s.records) short s.keep_trailer in
     let both = start_good m ix before s.f.trailer are in
     record { inside = both.0; counter = both.1 }
@@ -214,87 +215,87 @@ light n size h limit = heavy n (omega arith) where
   heavy : (n : ℕ) → n < 4294967296 → nat_le 4294967296 n ≡ false
   heavy n h = grind arith
 
-long_string : (reads_debug : Bool) (prefix : List Step) (s : Sliced reads_debug prefix) → d.has_long_string (stated_by reads_debug prefix s) ≡ false
-long_string reads_debug prefix s =
+long_string : (options : ReadOptions) (prefix : List Step) (s : Sliced options prefix) → d.has_long_string (stated_by options prefix s) ≡ false
+long_string options prefix s =
     or_from _ _ (text_short s.f.begin s.begins.0 s.begins.3) (or_from _ _ (text_short s.f.begin s.begins.1 s.begins.4)
-    (or_from _ _ (sections_short s.f.sections (short_sections reads_debug prefix s))
-    (or_from _ _ (publics_short (indexes_of s.f) s.f.externals (short_externals reads_debug prefix s))
-    (or_from _ _ (references_short s.f.externals (short_externals reads_debug prefix s))
-    (of_marks reads_debug prefix s d.has_long_name (marks_short (stated_by reads_debug prefix s) (indexes_of s.f) s.f.debug
-    (debug_good reads_debug prefix s)))))))
+    (or_from _ _ (sections_short s.f.sections (short_sections options prefix s))
+    (or_from _ _ (publics_short (indexes_of s.f) s.f.externals (short_externals options prefix s))
+    (or_from _ _ (references_short s.f.externals (short_externals options prefix s))
+    (of_marks options prefix s d.has_long_name (marks_short (stated_by options prefix s) (indexes_of s.f) s.f.debug
+    (debug_good options prefix s)))))))
 
-bad_position : (reads_debug : Bool) (prefix : List Step) (s : Sliced reads_debug prefix) → d.has_bad_position (stated_by reads_debug prefix s) ≡ false
-bad_position reads_debug prefix s =
-    let m = stated_by reads_debug prefix s in
-    or_from _ _ (publics_inside m (indexes_of s.f) s.f.externals (values_good reads_debug prefix s))
-    (or_from _ _ (no_place m None m.loads (loads_good reads_debug prefix s))
-    (or_from _ _ (of_marks reads_debug prefix s (d.has_bad_mark (d.counts_of m)) (marks_inside m (indexes_of s.f) s.f.debug (debug_good reads_debug prefix s)))
-    (or_from _ _ (start_is_good reads_debug prefix s).inside (names_used reads_debug prefix s))))
+bad_position : (options : ReadOptions) (prefix : List Step) (s : Sliced options prefix) → d.has_bad_position (stated_by options prefix s) ≡ false
+bad_position options prefix s =
+    let m = stated_by options prefix s in
+    or_from _ _ (publics_inside m (indexes_of s.f) s.f.externals (values_good options prefix s))
+    (or_from _ _ (no_place m None m.loads (loads_good options prefix s))
+    (or_from _ _ (of_marks options prefix s (d.has_bad_mark (d.counts_of m)) (marks_inside m (indexes_of s.f) s.f.debug (debug_good options prefix s)))
+    (or_from _ _ (start_is_good options prefix s).inside (names_used options prefix s))))
 
-misplaced : (reads_debug : Bool) (prefix : List Step) (s : Sliced reads_debug prefix) → d.has_misplaced_counter (stated_by reads_debug prefix s) ≡ false
-misplaced reads_debug prefix s =
-    let m = stated_by reads_debug prefix s in
-    or_from _ _ (publics_counter m (indexes_of s.f) s.f.externals (values_good reads_debug prefix s)) (or_from _ _ (start_is_good reads_debug prefix s).counter
-    (or_from _ _ (of_marks reads_debug prefix s (any_expression (d.has_other_counter None))
-    (marks_counter m (indexes_of s.f) s.f.debug (debug_good reads_debug prefix s))) (no_counter m None m.loads (loads_good reads_debug prefix s))))
+misplaced : (options : ReadOptions) (prefix : List Step) (s : Sliced options prefix) → d.has_misplaced_counter (stated_by options prefix s) ≡ false
+misplaced options prefix s =
+    let m = stated_by options prefix s in
+    or_from _ _ (publics_counter m (indexes_of s.f) s.f.externals (values_good options prefix s)) (or_from _ _ (start_is_good options prefix s).counter
+    (or_from _ _ (of_marks options prefix s (any_expression (d.has_other_counter None))
+    (marks_counter m (indexes_of s.f) s.f.debug (debug_good options prefix s))) (no_counter m None m.loads (loads_good options prefix s))))
 
-pub is_valid : (reads_debug : Bool) (prefix : List Step) (s : Sliced reads_debug prefix) → d.has_defect (stated_by reads_debug prefix s) defect.Weight
-    ≡ false → d.IsValid (stated_by reads_debug prefix s)
-is_valid reads_debug prefix s small =
-    let m = stated_by reads_debug prefix s in
-    let loads = loads_good reads_debug prefix s in
-    no_defect m defect.Depth _ (depth_fits reads_debug prefix s)
-    (no_defect m defect.LongId _ (long_string reads_debug prefix s)
-    (no_defect m defect.BadMaus _ (not_from_true (d.is_unit_count s.describes.1) (maus_of reads_debug prefix s))
+pub is_valid : (options : ReadOptions) (prefix : List Step) (s : Sliced options prefix) → d.has_defect (stated_by options prefix s) defect.Weight
+    ≡ false → d.IsValid (stated_by options prefix s)
+is_valid options prefix s small =
+    let m = stated_by options prefix s in
+    let loads = loads_good options prefix s in
+    no_defect m defect.Depth _ (depth_fits options prefix s)
+    (no_defect m defect.LongId _ (long_string options prefix s)
+    (no_defect m defect.BadMaus _ (not_from_true (d.is_unit_count s.describes.1) (maus_of options prefix s))
     (no_defect m defect.BadAlign _ (sections_aligned s.f.sections (all_aligned section_part _ s.f.sections s.keep_sections))
     (no_defect m defect.MissingBase _ (sections_based (header_of s.f) s.f.sections s.silent s.based)
-    (no_defect m defect.Position _ (bad_position reads_debug prefix s)
-    (no_defect m defect.MisplacedP _ (misplaced reads_debug prefix s)
+    (no_defect m defect.Position _ (bad_position options prefix s)
+    (no_defect m defect.MisplacedP _ (misplaced options prefix s)
     (no_defect m defect.NoSection _ (none_nowhere m None m.loads loads)
     (no_defect m defect.LongRun _ (none_long m None m.loads loads)
     (no_defect m defect.FieldSize _ (none_sized m None m.loads loads)
-    (no_defect m defect.Attribute _ (of_marks reads_debug prefix s d.has_unknown_attribute
-    (marks_attribute m (indexes_of s.f) s.f.debug (debug_good reads_debug prefix s)))
-    (no_defect m defect.Nesting _ (ends_fit reads_debug prefix s)
+    (no_defect m defect.Attribute _ (of_marks options prefix s d.has_unknown_attribute
+    (marks_attribute m (indexes_of s.f) s.f.debug (debug_good options prefix s)))
+    (no_defect m defect.Nesting _ (ends_fit options prefix s)
     (no_defect m defect.Weight _ small refl))))))))))))
 
 -- ---- the law
 
 -- The bytes of a prefix that is cut into its parts are the file of the module that these parts state, provided that what a file
 -- states weighs at most ten times the file.
-spelled_by : FilesWeighTenfold → (reads_debug : Bool) (prefix : List Step) (bytes : List ℕ) → AreBytes bytes → length bytes ≤ file_limit → bytes
+spelled_by : FilesWeighTenfold → (options : ReadOptions) (prefix : List Step) (bytes : List ℕ) → AreBytes bytes → length bytes ≤ file_limit → bytes
     ≡ prefix_bytes prefix
-    → (s : Sliced reads_debug prefix) → SpellsModule (stated_by reads_debug prefix s) bytes reads_debug
-spelled_by weigh reads_debug prefix bytes fits limit same s =
-    let m = stated_by reads_debug prefix s in
-    let cut = subst (λ (l : List ℕ). IsCutInto l reads_debug s.f) (sym same)
-    (cut_into reads_debug prefix s (subst (λ (l : List ℕ). length l ≤ file_limit) same limit)) in
-    let names = has_names reads_debug prefix s in
-    let tenfold : weight m ≤ 10 * length bytes = weigh reads_debug bytes s.f m fits cut names (states reads_debug prefix s) in
-    (s.f, cut, names, states reads_debug prefix s, is_valid reads_debug prefix s (light (weight m) (length bytes) tenfold limit))
+    → (s : Sliced options prefix) → SpellsModule (stated_by options prefix s) bytes options
+spelled_by weigh options prefix bytes fits limit same s =
+    let m = stated_by options prefix s in
+    let cut = subst (λ (l : List ℕ). IsCutInto l options s.f) (sym same)
+    (cut_into options prefix s (subst (λ (l : List ℕ). length l ≤ file_limit) same limit)) in
+    let names = has_names options prefix s in
+    let tenfold : weight m ≤ 10 * length bytes = weigh options bytes s.f m fits cut names (states options prefix s) in
+    (s.f, cut, names, states options prefix s, is_valid options prefix s (light (weight m) (length bytes) tenfold limit))
 
-sliced_from : (reads_debug : Bool) (prefix : List Step) (bytes : List ℕ) → AreBytes bytes → IsSoundPrefix reads_debug prefix bytes → is_ended prefix
-    ≡ true → bytes ≡ prefix_bytes prefix → Sliced reads_debug prefix
-sliced_from reads_debug prefix bytes fits sound ends same =
-    sliced_of reads_debug prefix ends (walk_of reads_debug [] prefix (subst (λ (l : List ℕ). AreBytes l) same fits)
-    (subst (λ (l : List ℕ). IsSoundFrom reads_debug [] prefix l) same sound))
+sliced_from : (options : ReadOptions) (prefix : List Step) (bytes : List ℕ) → AreBytes bytes → IsSoundPrefix options prefix bytes → is_ended prefix
+    ≡ true → bytes ≡ prefix_bytes prefix → Sliced options prefix
+sliced_from options prefix bytes fits sound ends same =
+    sliced_of options prefix ends (walk_of options [] prefix (subst (λ (l : List ℕ). AreBytes l) same fits)
+    (subst (λ (l : List ℕ). IsSoundFrom options [] prefix l) same sound))
 
 -- A sound prefix that ends with the stream is cut into its parts, and is the file of what they state.
-pub ended_sliced : FilesWeighTenfold → (reads_debug : Bool) (prefix : List Step) (bytes : List ℕ) → AreBytes bytes → length bytes ≤ file_limit
-    → IsSoundPrefix reads_debug prefix bytes
-    → is_ended prefix ≡ true → size_of prefix ≡ length bytes → (s : Sliced reads_debug prefix) × SpellsModule (stated_by reads_debug prefix s) bytes reads_debug
-ended_sliced weigh reads_debug prefix bytes fits limit sound ends size =
-    let same = all_bytes reads_debug prefix bytes fits sound size in (
-      sliced_from reads_debug prefix bytes fits sound ends same,
-      spelled_by weigh reads_debug prefix bytes fits limit same (sliced_from reads_debug prefix bytes fits sound ends same),
+pub ended_sliced : FilesWeighTenfold → (options : ReadOptions) (prefix : List Step) (bytes : List ℕ) → AreBytes bytes → length bytes ≤ file_limit
+    → IsSoundPrefix options prefix bytes
+    → is_ended prefix ≡ true → size_of prefix ≡ length bytes → (s : Sliced options prefix) × SpellsModule (stated_by options prefix s) bytes options
+ended_sliced weigh options prefix bytes fits limit sound ends size =
+    let same = all_bytes options prefix bytes fits sound size in (
+      sliced_from options prefix bytes fits sound ends same,
+      spelled_by weigh options prefix bytes fits limit same (sliced_from options prefix bytes fits sound ends same),
     )
 
-stated_prefix : (reads_debug : Bool) (prefix : List Step) (bytes : List ℕ) → (s : Sliced reads_debug prefix)
-    → SpellsModule (stated_by reads_debug prefix s) bytes reads_debug → (m : Parts) × SpellsModule m bytes reads_debug × IsStatedBy prefix m
-stated_prefix reads_debug prefix bytes s spells = (stated_by reads_debug prefix s, spells, is_stated reads_debug prefix s)
+stated_prefix : (options : ReadOptions) (prefix : List Step) (bytes : List ℕ) → (s : Sliced options prefix)
+    → SpellsModule (stated_by options prefix s) bytes options → (m : Parts) × SpellsModule m bytes options × IsStatedBy prefix m
+stated_prefix options prefix bytes s spells = (stated_by options prefix s, spells, is_stated options prefix s)
 
 -- It is a module's file.
 pub ended_prefix : FilesWeighTenfold → EndedPrefixIsModule
-ended_prefix weigh reads_debug prefix bytes fits limit sound ends size =
-    let both = ended_sliced weigh reads_debug prefix bytes fits limit sound ends size in
-    stated_prefix reads_debug prefix bytes both.0 both.1
+ended_prefix weigh options prefix bytes fits limit sound ends size =
+    let both = ended_sliced weigh options prefix bytes fits limit sound ends size in
+    stated_prefix options prefix bytes both.0 both.1

@@ -8,7 +8,7 @@ use Rattle.mufom_records.specs.declared.record.Mode.TheVariants as mode
 use Rattle.mufom_records.specs.declared.record.Record.{Record}
 use Rattle.mufom_records.specs.declared.record.Record.TheVariants as r
 use Rattle.mufom_records.specs.Fields.{Field, ValueOf, byte, number, string, run, letter, optional_number, numbers, expression, optional_expression}
-use Rattle.mufom_records.specs.Fields.{is_one_of, SpellsField, first_of}
+use Rattle.mufom_records.specs.Fields.{sized_expression, is_one_of, is_size, SpellsField, first_of}
 use Rattle.mufom_records.specs.Layouts
 use Rattle.mufom_read.specs.Prefixes.{is_module_end}
 use Rattle.mufom_read.specs.DebugSoFar.{FitsKind, HasKind}
@@ -37,6 +37,8 @@ Promised optional_number n = Unit {0}
 Promised (numbers most) ns = Unit {0}
 Promised expression span = Unit {0}
 Promised optional_expression span = Unit {0}
+Promised sized_expression (span, None) = Unit {0}
+Promised sized_expression (span, Some last) = is_size last.size ≡ true
 
 -- each record of the layout has this
 abbrev pub Promises : (Record → Type 0) → Layout → Type 0
@@ -55,6 +57,8 @@ field_promised optional_number x at bytes next is = tt
 field_promised (numbers most) x at bytes next is = tt
 field_promised expression x at bytes next is = tt
 field_promised optional_expression x at bytes next is = tt
+field_promised sized_expression (span, None) at bytes next is = tt
+field_promised sized_expression (span, Some last) at bytes next is = is.6
 
 pub promised : (P : Record → Type 0) (layout : Layout) (row : Record) (at : ℕ) (bytes : List ℕ) (next : Option ℕ)
     → Layouts.SpellsRecord layout row at bytes next → Promises P layout → P row
@@ -159,6 +163,18 @@ bracket_short : (o : Option ℕ) → Promises IsShort (Layouts.item_by_bracket o
 bracket_short None = λ (n : ℕ) small (span : Span) its. run_short n span small its
 bracket_short (Some b) = λ (v : Span) _ (c : Option ℕ) _. comma_short b v c
 
+by_size_short : (b : ℕ) (x : ValueOf sized_expression) → Promised sized_expression x → Promises IsShort (Layouts.item_by_size b x.0 x.1)
+by_size_short b (v, None) fits = λ (c : Option ℕ) _. comma_short b v c
+by_size_short b (v, Some last) fits = λ (e : ℕ) _. by_test IsShort (e == Layouts.partner b)
+    (Layouts.whole (r.FieldItem (Layouts.kind_without_comma b last.uses_pc) v (Some last.size))) _ (λ _. size_from last.size fits) (λ _. tt)
+
+gnu_bracket_short : (o : Option ℕ) → Promises IsShort (Layouts.gnu_item_by_bracket o)
+gnu_bracket_short None = λ (n : ℕ) small (span : Span) its. run_short n span small its
+gnu_bracket_short (Some b) = λ (x : ValueOf sized_expression) fits. by_size_short b x fits
+
+gnu_item_short : Promises IsShort Layouts.gnu_item
+gnu_item_short = λ (o : Option ℕ) _. gnu_bracket_short o
+
 item_short : Promises IsShort Layouts.item
 item_short = λ (o : Option ℕ) _. bracket_short o
 
@@ -248,8 +264,11 @@ pub end_bytes : (row : Record) (bytes : List ℕ) (next : Option ℕ) → is_mod
     → (row ≡ r.ModuleEnd) × (bytes ≡ 0xE1 ∷ [])
 end_bytes row bytes next ends is = elim (end_or_short row bytes next is) [ inl end ↦ end | inr short ↦ absurd (end_not_short row ends short) ]
 
-pub items_short : (row : Record) (bytes : List ℕ) (next : Option ℕ) → Layouts.IsWholeRecord mode.Items row bytes next → IsShort row
-items_short it bytes next is = promised IsShort Layouts.item it 0 bytes next is item_short
+-- an item, whose comma before a size may be optional
+pub items_short : (gnu : Bool) (row : Record) (bytes : List ℕ) (next : Option ℕ)
+    → Layouts.IsWholeRecord (cond gnu mode.GnuItems mode.Items) row bytes next → IsShort row
+items_short false it bytes next is = promised IsShort Layouts.item it 0 bytes next is item_short
+items_short true it bytes next is = promised IsShort Layouts.gnu_item it 0 bytes next is gnu_item_short
 
 kind_of_short : (row : Record) → IsShort row → HasKind row
 kind_of_short (r.BlockBegin kind n name block) short = short.1
@@ -259,5 +278,6 @@ kind_of_short row short = tt
 pub body_kind : (row : Record) (bytes : List ℕ) (next : Option ℕ) → Layouts.IsWholeRecord mode.Body row bytes next → HasKind row
 body_kind row bytes next is = elim (end_or_short row bytes next is) [ inl end ↦ subst HasKind (sym end.0) tt | inr short ↦ kind_of_short row short ]
 
-pub items_kind : (row : Record) (bytes : List ℕ) (next : Option ℕ) → Layouts.IsWholeRecord mode.Items row bytes next → HasKind row
-items_kind row bytes next is = kind_of_short row (items_short row bytes next is)
+pub items_kind : (gnu : Bool) (row : Record) (bytes : List ℕ) (next : Option ℕ)
+    → Layouts.IsWholeRecord (cond gnu mode.GnuItems mode.Items) row bytes next → HasKind row
+items_kind gnu row bytes next is = kind_of_short row (items_short gnu row bytes next is)

@@ -1,12 +1,12 @@
 -- A sound prefix that has ended, as the parts of a file, with what its checks state of the records in them.
-use Rattle.std.proofs.Common.{◌≡◌, ◌⊎◌, ℕ, Bool, true, false, List, [], ◌∷◌, ◌++◌, length, Option, None, is_none, MatchBool, refl, sym, ap, subst}
+use Rattle.std.proofs.Common.{◌≡◌, ◌⊎◌, ℕ, Bool, true, false, List, [], ◌∷◌, ◌++◌, length, Option, None, is_none, MatchBool, refl, sym, ap, subst, not}
 use Rattle.std.proofs.Common.{◌∙◌, inl, inr, append_assoc, append-nil}
 use Rattle.std.specs.List.{list_all, AllByRecursion}
 use Rattle.std.proofs.lemmas.Bool.{both_ways}
 use Rattle.mufom_module.specs.SpelledRecords.{SpelledRecord, bytes_of}
 use Rattle.mufom_module.specs.RecordParts.{Part, section_part, external_part, debug_part, data_part, trailer_part, end_part, part_of, stands_in}
-use Rattle.mufom_module.specs.Grammar.{FileParts, header_of, parts_of, module_end, from_trailer, from_loads, from_debug, from_externals, after_header}
-use Rattle.mufom_module.specs.Grammar.{AreOfModes, header_modes, AreWhole, offsets_in, StandAt}
+use Rattle.mufom_module.specs.Grammar.{FileParts, header_of, parts_of, module_end, from_trailer, from_loads, after_header}
+use Rattle.mufom_module.specs.Grammar.{AreOfModes, header_modes, AreWhole, offsets_in, StandAt, seen_from_debug, seen_from_externals}
 use Rattle.mufom_read.specs.Prefixes.{Step, raw, read, prefix_bytes, records_of, offset_records_of, OffsetRecord, offsets_of, is_raw}
 use Rattle.mufom_read.specs.Faults.{Fault, fault_if, is_bad_descriptor, first_fault, section_fault, lacks_base, external_fault, has_unknown_variable}
 use Rattle.mufom_read.specs.Faults.{lacks_value, OpenBlock, open_blocks, open_fault, whole_fault}
@@ -15,6 +15,7 @@ use Rattle.mufom_read.proofs.ended.Walk.{no_fault}
 use Rattle.mufom_read.proofs.ended.Rows.{IsBegin, IsDescriptor}
 use Rattle.mufom_read.proofs.ended.Header.{no_fault_if}
 use Rattle.mufom_read.proofs.ended.Parts.{KeptFrom, IsOwn}
+use Rattle.mufom_records.specs.declared.options.ReadOptions.{ReadOptions}
 
 -- ---- bytes of records
 
@@ -65,26 +66,26 @@ all_given before own (inr h) = let all = records_of (before ++ own) in
 
 -- ---- the parts
 
-pub raw_records : (reads_debug : Bool) (part : Part) (before : List SpelledRecord) (own : List Step) (after : List ℕ) → is_raw reads_debug part ≡ true
-    → IsOwn reads_debug part false before own after → records_of own ≡ []
-raw_records reads_debug part before own after is (inl its) = its.1
-raw_records reads_debug part before own after is (inr its) = absurd (both_ways (is_raw reads_debug part) its.0 is)
+pub raw_records : (options : ReadOptions) (part : Part) (before : List SpelledRecord) (own : List Step) (after : List ℕ) → is_raw options.debug part ≡ true
+    → IsOwn options part false before own after → records_of own ≡ []
+raw_records options part before own after is (inl its) = its.1
+raw_records options part before own after is (inr its) = absurd (both_ways (is_raw options.debug part) its.0 is)
 
 -- the records of a part that is read
-pub record ReadPart (part : Part) (before : List SpelledRecord) (own : List Step) (after : List ℕ) : Type 0 where
+pub record ReadPart (options : ReadOptions) (part : Part) (before : List SpelledRecord) (own : List Step) (after : List ℕ) : Type 0 where
   pub bytes : bytes_of (records_of own) ≡ prefix_bytes own
-  pub are_whole : AreWhole false (records_of own) after
+  pub are_whole : AreWhole options false (records_of own) after
   pub keeps : KeptFrom part before (records_of own)
 
-pub read_records : (reads_debug : Bool) (part : Part) (before : List SpelledRecord) (own : List Step) (after : List ℕ) → is_raw reads_debug part
-    ≡ false → IsOwn reads_debug part false before own after → ReadPart part before own after
-read_records reads_debug part before own after is (inl its) = absurd (both_ways (is_raw reads_debug part) is its.0)
-read_records reads_debug part before own after is (inr its) = record { bytes = its.1; are_whole = its.2; keeps = its.3 }
+pub read_records : (options : ReadOptions) (part : Part) (before : List SpelledRecord) (own : List Step) (after : List ℕ) → is_raw options.debug part
+    ≡ false → IsOwn options part false before own after → ReadPart options part before own after
+read_records options part before own after is (inl its) = absurd (both_ways (is_raw options.debug part) is its.0)
+read_records options part before own after is (inr its) = record { bytes = its.1; are_whole = its.2; keeps = its.3 }
 
 -- the debug part: its records if it is read, otherwise the bytes that are skipped
-pub record DebugPart (reads_debug : Bool) (before : List SpelledRecord) (own : List Step) (after skipped : List ℕ) : Type 0 where
+pub record DebugPart (options : ReadOptions) (reads_debug : Bool) (before : List SpelledRecord) (own : List Step) (after skipped : List ℕ) : Type 0 where
   pub bytes : bytes_of (records_of own) ++ skipped ≡ prefix_bytes own
-  pub are_whole : AreWhole false (records_of own) after
+  pub are_whole : AreWhole options false (records_of own) after
   pub keeps : KeptFrom debug_part before (records_of own)
   pub read : MatchBool reads_debug (skipped ≡ []) (records_of own ≡ [])
 
@@ -93,19 +94,23 @@ abbrev pub skipped_of : Bool → List Step → List ℕ
 skipped_of true own = []
 skipped_of false own = prefix_bytes own
 
-pub debug_records : (reads_debug : Bool) (before : List SpelledRecord) (own : List Step) (after : List ℕ)
-    → IsOwn reads_debug debug_part false before own after → DebugPart reads_debug before own after (skipped_of reads_debug own)
-debug_records true before own after is =
-    let its = read_records true debug_part before own after refl is in
+debug_by : (options : ReadOptions) (reads_debug : Bool) (before : List SpelledRecord) (own : List Step) (after : List ℕ) → options.debug ≡ reads_debug
+    → IsOwn options debug_part false before own after → DebugPart options reads_debug before own after (skipped_of reads_debug own)
+debug_by options true before own after same is =
+    let its = read_records options debug_part before own after (ap (λ (b : Bool). not b) same) is in
     record { bytes = append-nil (bytes_of (records_of own)) ∙ its.bytes; are_whole = its.are_whole; keeps = its.keeps; read = refl }
-debug_records false before own after is =
-    let none = raw_records false debug_part before own after refl is in
+debug_by options false before own after same is =
+    let none = raw_records options debug_part before own after (ap (λ (b : Bool). not b) same) is in
     record {
       bytes = ap (λ (l : List SpelledRecord). bytes_of l ++ prefix_bytes own) none;
-      are_whole = subst (λ (l : List SpelledRecord). AreWhole false l after) (sym none) tt;
+      are_whole = subst (λ (l : List SpelledRecord). AreWhole options false l after) (sym none) tt;
       keeps = subst (λ (l : List SpelledRecord). KeptFrom debug_part before l) (sym none) tt;
       read = none;
     }
+
+pub debug_records : (options : ReadOptions) (before : List SpelledRecord) (own : List Step) (after : List ℕ)
+    → IsOwn options debug_part false before own after → DebugPart options options.debug before own after (skipped_of options.debug own)
+debug_records options before own after is = debug_by options options.debug before own after refl is
 
 no_open : (blocks : List OpenBlock) → open_fault blocks ≡ None → blocks ≡ []
 no_open [] h = refl
@@ -122,18 +127,18 @@ debug_closed before own none (inr h) = sym (kinds-open (before ++ own))
 -- ---- the file
 
 -- An ended prefix as the parts of a file. Records after the header state nothing of the header's kind.
-pub record Sliced (reads_debug : Bool) (prefix : List Step) : Type 0 where
+pub record Sliced (options : ReadOptions) (prefix : List Step) : Type 0 where
   pub f : FileParts
   pub end : SpelledRecord
   pub bytes : prefix_bytes prefix ≡ bytes_of (header_of f) ++ after_header f
   pub header : AreOfModes header_modes (header_of f) (after_header f)
   pub stand : StandAt (offsets_in f.offsets) (length (bytes_of (header_of f))) (parts_of f)
-  pub sections : AreWhole false f.sections (from_externals f)
-  pub externals : AreWhole false f.externals (from_debug f)
-  pub loads : AreWhole false f.loads (from_trailer f)
-  pub trailer : AreWhole false f.trailer module_end
-  pub debug : AreWhole false f.debug (from_loads f)
-  pub debug_read : MatchBool reads_debug (f.skipped ≡ []) (f.debug ≡ [])
+  pub sections : AreWhole options false f.sections (seen_from_externals options f)
+  pub externals : AreWhole options false f.externals (seen_from_debug options f)
+  pub loads : AreWhole options false f.loads (from_trailer f)
+  pub trailer : AreWhole options false f.trailer module_end
+  pub debug : AreWhole options false f.debug (from_loads f)
+  pub debug_read : MatchBool options.debug (f.skipped ≡ []) (f.debug ≡ [])
   pub keep_sections : KeptFrom section_part (header_of f) f.sections
   pub keep_externals : KeptFrom external_part (header_of f ++ f.sections) f.externals
   pub keep_debug : KeptFrom debug_part ((header_of f ++ f.sections) ++ f.externals) f.debug

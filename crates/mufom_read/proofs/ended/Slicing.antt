@@ -1,6 +1,6 @@
 -- Seven parts after a header, and the record after them, make the parts of a file.
 use Rattle.std.proofs.Common.{◌≡◌, ◌⊎◌, ℕ, ◌+◌, Bool, true, false, ◌&&◌, List, [], ◌∷◌, ◌++◌, length, drop, Option, None, is_none, refl, sym, ap}
-use Rattle.std.proofs.Common.{subst, ◌∙◌, arith, append_assoc, append-nil, filter_map}
+use Rattle.std.proofs.Common.{subst, ◌∙◌, arith, append_assoc, append-nil, filter_map, cond, inr, Some, inl, length-append, ◌≤◌}
 use Rattle.std.specs.List.{list_all, AllByRecursion}
 use Rattle.mufom_records.specs.declared.record.Mode.TheVariants as mode
 use Rattle.mufom_records.specs.Fields.{first_of}
@@ -20,6 +20,9 @@ use Rattle.mufom_read.proofs.ended.Parts.{KeptFrom, own_of, no_offset}
 use Rattle.mufom_read.proofs.ended.Chunks.{Chunk, EndsThere, Chunks, chunks_of, is_end}
 use Rattle.mufom_read.proofs.ended.Sliced.{ReadPart, raw_records, read_records, DebugPart, skipped_of, debug_records, debug_closed, IsGiven}
 use Rattle.mufom_read.proofs.ended.Sliced.{all_based, all_given, Sliced, stands_of}
+use Rattle.mufom_records.specs.declared.options.ReadOptions.{ReadOptions}
+use Rattle.mufom_read.proofs.ended.Seen.{seen_later, not_zero_offset, part_seen}
+use Rattle.mufom_module.specs.Grammar.{ends_before_debug, debug_offset, seen_from_debug, seen_from_externals}
 
 -- the place of a part, or none if it is empty
 abbrev Stands : ℕ → List Step → List Step → Type 0
@@ -33,42 +36,46 @@ record RawChunk (w : ℕ) (before own later steps : List Step) : Type 0 where
   offsets : offsets_of own ≡ []
 
 -- a part that is read as records
-record ReadChunk (part : Part) (w : ℕ) (before own later steps : List Step) : Type 0 where
+record ReadChunk (options : ReadOptions) (all : List ℕ) (part : Part) (w : ℕ) (before own later steps : List Step) : Type 0 where
   split : steps ≡ own ++ later
-  is_read : ReadPart part (records_of before) own (prefix_bytes later)
+  is_read : ReadPart options part (records_of before) own (seen_later options all (size_of (before ++ own)) (prefix_bytes later))
   stands : Stands w before own
   offsets : offsets_of own ≡ []
 
-raw_chunk : (reads_debug : Bool) (part : Part) (w to : ℕ) (before steps : List Step) → is_raw reads_debug part ≡ true
-    → (c : Chunk reads_debug part w to before steps) → RawChunk w before c.cut.own c.cut.later steps
-raw_chunk reads_debug part w to before steps is c = record {
+raw_chunk : (options : ReadOptions) (all : List ℕ) (part : Part) (w to : ℕ) (before steps : List Step) → is_raw options.debug part ≡ true
+    → (c : Chunk options all part w to before steps) → RawChunk w before c.cut.own c.cut.later steps
+raw_chunk options all part w to before steps is c = record {
   split = c.cut.split;
-  none = raw_records reads_debug part (records_of before) c.cut.own (prefix_bytes c.cut.later) is c.cut.is_own;
+  none = raw_records options part (records_of before) c.cut.own (seen_later options all to (prefix_bytes c.cut.later)) is c.cut.is_own;
   stands = c.stands;
   offsets = c.cut.offsets;
 }
 
-read_chunk : (reads_debug : Bool) (part : Part) (w to : ℕ) (before steps : List Step) → is_raw reads_debug part ≡ false
-    → (c : Chunk reads_debug part w to before steps) → ReadChunk part w before c.cut.own c.cut.later steps
-read_chunk reads_debug part w to before steps is c = record {
+read_chunk : (options : ReadOptions) (all : List ℕ) (part : Part) (w to : ℕ) (before steps : List Step) → is_raw options.debug part ≡ false
+    → (c : Chunk options all part w to before steps) → ReadChunk options all part w before c.cut.own c.cut.later steps
+read_chunk options all part w to before steps is c = record {
   split = c.cut.split;
-  is_read = read_records reads_debug part (records_of before) c.cut.own (prefix_bytes c.cut.later) is c.cut.is_own;
+  is_read = subst (λ (n : ℕ). ReadPart options part (records_of before) c.cut.own (seen_later options all n (prefix_bytes c.cut.later))) (sym c.cut.size)
+      (read_records options part (records_of before) c.cut.own (seen_later options all to (prefix_bytes c.cut.later)) is c.cut.is_own);
   stands = c.stands;
   offsets = c.cut.offsets;
 }
 
 -- the debug part
-record DebugChunk (reads_debug : Bool) (w : ℕ) (before own later steps : List Step) : Type 0 where
+record DebugChunk (options : ReadOptions) (all : List ℕ) (w : ℕ) (before own later steps : List Step) : Type 0 where
   split : steps ≡ own ++ later
-  is_debug : DebugPart reads_debug (records_of before) own (prefix_bytes later) (skipped_of reads_debug own)
+  is_debug : DebugPart options options.debug (records_of before) own (seen_later options all (size_of (before ++ own)) (prefix_bytes later))
+      (skipped_of options.debug own)
   stands : Stands w before own
   offsets : offsets_of own ≡ []
 
-debug_chunk : (reads_debug : Bool) (w to : ℕ) (before steps : List Step) → (c : Chunk reads_debug debug_part w to before steps)
-    → DebugChunk reads_debug w before c.cut.own c.cut.later steps
-debug_chunk reads_debug w to before steps c = record {
+debug_chunk : (options : ReadOptions) (all : List ℕ) (w to : ℕ) (before steps : List Step) → (c : Chunk options all debug_part w to before steps)
+    → DebugChunk options all w before c.cut.own c.cut.later steps
+debug_chunk options all w to before steps c = record {
   split = c.cut.split;
-  is_debug = debug_records reads_debug (records_of before) c.cut.own (prefix_bytes c.cut.later) c.cut.is_own;
+  is_debug = subst (λ (n : ℕ). DebugPart options options.debug (records_of before) c.cut.own (seen_later options all n (prefix_bytes c.cut.later))
+      (skipped_of options.debug c.cut.own)) (sym c.cut.size)
+      (debug_records options (records_of before) c.cut.own (seen_later options all to (prefix_bytes c.cut.later)) c.cut.is_own);
   stands = c.stands;
   offsets = c.cut.offsets;
 }
@@ -84,9 +91,9 @@ record HeaderFacts (before later : List Step) (begin descriptor : SpelledRecord)
   no_bad : is_bad_descriptor descriptor.row ≡ false
 
 -- the parts of the file
-abbrev file_of : Bool → SpelledRecord → SpelledRecord → List SpelledRecord → List Step → List Step → List Step → List Step → List Step → List Step
+abbrev file_of : ReadOptions → SpelledRecord → SpelledRecord → List SpelledRecord → List Step → List Step → List Step → List Step → List Step → List Step
     → List Step → FileParts
-file_of reads_debug begin descriptor offsets o0 o1 o2 o3 o4 o5 o6 = record {
+file_of options begin descriptor offsets o0 o1 o2 o3 o4 o5 o6 = record {
   begin = begin;
   descriptor = descriptor;
   offsets = offsets;
@@ -95,7 +102,7 @@ file_of reads_debug begin descriptor offsets o0 o1 o2 o3 o4 o5 o6 = record {
   sections = records_of o2;
   externals = records_of o3;
   debug = records_of o4;
-  skipped = skipped_of reads_debug o4;
+  skipped = skipped_of options.debug o4;
   loads = records_of o5;
   trailer = records_of o6;
 }
@@ -143,25 +150,81 @@ header_silent : (begin descriptor : SpelledRecord) (offs : List SpelledRecord) �
 header_silent begin descriptor offs first second rest =
     (λ i. is_none (part_of (first.2 i)) && (is_none (part_of (second.3 i)) && list_all (λ p. is_none (part_of p.row)) offs)) ∙ rest
 
+-- ---- what the records of the parts see
+
+-- W4 is the offset at which the external part ends, if it is not 0
+abbrev Stood : List ℕ → ℕ → Type 0
+Stood ws n = (debug_offset ws ≡ n) ⊎ (debug_offset ws ≡ 0)
+
+stood_there : (options : ReadOptions) (ws : List ℕ) (n : ℕ) → Stood ws n → ends_before_debug options ws ≡ true → debug_offset ws ≡ n
+stood_there options ws n (inl here) ends = here
+stood_there options ws n (inr none) ends = absurd (not_zero_offset options ws ends none)
+
+first_same : (own a b : List ℕ) → (length own ≡ 0 → ⊥) → first_of (own ++ a) None ≡ first_of (own ++ b) None
+first_same [] a b some = absurd (some refl)
+first_same (x ∷ own) a b some = refl
+
+empty_ends : (own after : List ℕ) → length own ≡ 0 → after ≡ module_end → first_of (own ++ after) None ≡ Some 0xE1
+empty_ends [] after none same = ap (λ (l : List ℕ). first_of l None) same
+empty_ends (x ∷ own) after none same = absurd (omega (arith, none))
+
+seen_is : (options : ReadOptions) (f : FileParts) (ws : List ℕ) → offsets_in f.offsets ≡ ws → (t : Bool) → ends_before_debug options ws ≡ t
+    → seen_from_debug options f ≡ cond t module_end (from_debug f)
+seen_is options f ws values t is = ap (λ (vs : List ℕ). cond (ends_before_debug options vs) module_end (from_debug f)) values
+    ∙ ap (λ (b : Bool). cond b module_end (from_debug f)) is
+
+externals_seen : (options : ReadOptions) (f : FileParts) (ws : List ℕ) (here : ℕ) (real : List ℕ) → offsets_in f.offsets ≡ ws → real ≡ from_debug f
+    → Stood ws here → AreWhole options false f.externals (seen_later options ws here real) → AreWhole options false f.externals (seen_from_debug options f)
+externals_seen options f ws here real values same stood are =
+    part_seen options f.externals ws here real (seen_from_debug options f) are
+    (λ ends there. inr (ap (λ (l : List ℕ). first_of l None) (seen_is options f ws values true ends)))
+    (λ open_. elim open_ [
+      | inl no_ ↦ ap (λ (l : List ℕ). first_of l None) (same ∙ sym (seen_is options f ws values false no_))
+      | inr away ↦ absurd (away.1 (sym (stood_there options ws here stood away.0)))
+    ])
+
+sections_seen : (options : ReadOptions) (f : FileParts) (ws : List ℕ) (here next : ℕ) (real : List ℕ) → offsets_in f.offsets ≡ ws → real ≡ from_externals f
+    → next ≡ here + length (bytes_of f.externals) → Stood ws next → AreWhole options false f.sections (seen_later options ws here real)
+    → AreWhole options false f.sections (seen_from_externals options f)
+sections_seen options f ws here next real values same longer stood are =
+    part_seen options f.sections ws here real (seen_from_externals options f) are
+    (λ ends there. inr (empty_ends (bytes_of f.externals) (seen_from_debug options f) (omega (arith, longer, there, stood_there options ws next stood ends))
+    (seen_is options f ws values true ends)))
+    (λ open_. elim open_ [
+      | inl no_ ↦ ap (λ (l : List ℕ). first_of l None) (same ∙ ap (λ (l : List ℕ). bytes_of f.externals ++ l) (sym (seen_is options f ws values false no_)))
+      | inr away ↦ ap (λ (l : List ℕ). first_of l None) same
+          ∙ first_same (bytes_of f.externals) (from_debug f) (seen_from_debug options f)
+          (λ none. away.1 (omega (arith, longer, none, stood_there options ws next stood away.0)))
+    ])
+
+-- the debug part and those after it see what is there
+later_seen : (options : ReadOptions) (ws : List ℕ) (records : List SpelledRecord) (start here : ℕ) (real target : List ℕ) → real ≡ target
+    → start + length (bytes_of records) ≤ here → Stood ws start → AreWhole options false records (seen_later options ws here real)
+    → AreWhole options false records target
+later_seen options ws records start here real target same longer stood are =
+    part_seen options records ws here real target are
+    (λ ends there. inl (omega (arith, longer, there, stood_there options ws start stood ends)))
+    (λ open_. ap (λ (l : List ℕ). first_of l None) same)
+
 -- ---- all together
 
-slice_from : (reads_debug : Bool) (prefix b0 l : List Step) (begin descriptor : SpelledRecord) (offs : List SpelledRecord) (w0 w1 w2 w3 w4 w5 w6 w7 : ℕ)
+slice_from : (options : ReadOptions) (prefix b0 l : List Step) (begin descriptor : SpelledRecord) (offs : List SpelledRecord) (w0 w1 w2 w3 w4 w5 w6 w7 : ℕ)
     (o0 o1 o2 o3 o4 o5 o6 l0 l1 l2 l3 l4 l5 l6 : List Step) → prefix ≡ b0 ++ l → HeaderFacts b0 l begin descriptor offs → offsets_in offs
     ≡ w0 ∷ w1 ∷ w2 ∷ w3 ∷ w4 ∷ w5 ∷ w6 ∷ w7 ∷ []
     → RawChunk w0 b0 o0 l0 l
     → RawChunk w1 (b0 ++ o0) o1 l1 l0
-    → ReadChunk section_part w2 ((b0 ++ o0) ++ o1) o2 l2 l1
-    → ReadChunk external_part w3 (((b0 ++ o0) ++ o1) ++ o2) o3 l3 l2
-    → DebugChunk reads_debug w4 ((((b0 ++ o0) ++ o1) ++ o2) ++ o3) o4 l4 l3
-    → ReadChunk data_part w5 (((((b0 ++ o0) ++ o1) ++ o2) ++ o3) ++ o4) o5 l5 l4
-    → ReadChunk trailer_part w6 ((((((b0 ++ o0) ++ o1) ++ o2) ++ o3) ++ o4) ++ o5) o6 l6 l5
+    → ReadChunk options (w0 ∷ w1 ∷ w2 ∷ w3 ∷ w4 ∷ w5 ∷ w6 ∷ w7 ∷ []) section_part w2 ((b0 ++ o0) ++ o1) o2 l2 l1
+    → ReadChunk options (w0 ∷ w1 ∷ w2 ∷ w3 ∷ w4 ∷ w5 ∷ w6 ∷ w7 ∷ []) external_part w3 (((b0 ++ o0) ++ o1) ++ o2) o3 l3 l2
+    → DebugChunk options (w0 ∷ w1 ∷ w2 ∷ w3 ∷ w4 ∷ w5 ∷ w6 ∷ w7 ∷ []) w4 ((((b0 ++ o0) ++ o1) ++ o2) ++ o3) o4 l4 l3
+    → ReadChunk options (w0 ∷ w1 ∷ w2 ∷ w3 ∷ w4 ∷ w5 ∷ w6 ∷ w7 ∷ []) data_part w5 (((((b0 ++ o0) ++ o1) ++ o2) ++ o3) ++ o4) o5 l5 l4
+    → ReadChunk options (w0 ∷ w1 ∷ w2 ∷ w3 ∷ w4 ∷ w5 ∷ w6 ∷ w7 ∷ []) trailer_part w6 ((((((b0 ++ o0) ++ o1) ++ o2) ++ o3) ++ o4) ++ o5) o6 l6 l5
     → ((o2 ≡ []) ⊎ (whole_fault section_part (((b0 ++ o0) ++ o1) ++ o2) ≡ None))
     → ((o3 ≡ []) ⊎ (whole_fault external_part ((((b0 ++ o0) ++ o1) ++ o2) ++ o3) ≡ None))
     → ((o4 ≡ []) ⊎ (whole_fault debug_part (((((b0 ++ o0) ++ o1) ++ o2) ++ o3) ++ o4) ≡ None))
-    → EndsThere (((((((b0 ++ o0) ++ o1) ++ o2) ++ o3) ++ o4) ++ o5) ++ o6) (w7 ∷ []) l6 → Sliced reads_debug prefix
-slice_from reads_debug prefix b0 l begin descriptor offs w0 w1 w2 w3 w4 w5 w6 w7 o0 o1 o2 o3 o4 o5 o6 l0 l1 l2 l3 l4 l5 l6 whole h values c0 c1 c2 c3
+    → EndsThere (((((((b0 ++ o0) ++ o1) ++ o2) ++ o3) ++ o4) ++ o5) ++ o6) (w7 ∷ []) l6 → Sliced options prefix
+slice_from options prefix b0 l begin descriptor offs w0 w1 w2 w3 w4 w5 w6 w7 o0 o1 o2 o3 o4 o5 o6 l0 l1 l2 l3 l4 l5 l6 whole h values c0 c1 c2 c3
     c4 c5 c6 based given closed last =
-    let f = file_of reads_debug begin descriptor offs o0 o1 o2 o3 o4 o5 o6 in
+    let f = file_of options begin descriptor offs o0 o1 o2 o3 o4 o5 o6 in
     let header = begin ∷ descriptor ∷ offs in
     let t : prefix_bytes l5 ≡ from_trailer f = chain o6 l6 l5 (bytes_of f.trailer) module_end c6.split c6.is_read.bytes
     (end_bytes_of (((((((b0 ++ o0) ++ o1) ++ o2) ++ o3) ++ o4) ++ o5) ++ o6) l6 (w7 ∷ []) last) in
@@ -225,6 +288,8 @@ slice_from reads_debug prefix b0 l begin descriptor offs w0 w1 w2 w3 w4 w5 w6 w7
     let a6 = same_offsets (((((b0 ++ o0) ++ o1) ++ o2) ++ o3) ++ o4) o5 (offsets_in offs) a5 c5.offsets in
     let a7 = same_offsets ((((((b0 ++ o0) ++ o1) ++ o2) ++ o3) ++ o4) ++ o5) o6 (offsets_in offs) a6 c6.offsets in
     let it = read (size_of (((((((b0 ++ o0) ++ o1) ++ o2) ++ o3) ++ o4) ++ o5) ++ o6)) last.spelled in
+    let ws = w0 ∷ w1 ∷ w2 ∷ w3 ∷ w4 ∷ w5 ∷ w6 ∷ w7 ∷ [] in
+    let stood : (w4 ≡ size_of ((((b0 ++ o0) ++ o1) ++ o2) ++ o3)) ⊎ (w4 ≡ 0) = elim c4.stands [ inl here ↦ inl here.0 | inr none ↦ inr none.0 ] in
     record {
       f = f;
       end = last.spelled;
@@ -259,12 +324,19 @@ slice_from reads_debug prefix b0 l begin descriptor offs w0 w1 w2 w3 w4 w5 w6 w7
           ),
         ),
       );
-      sections = subst (λ (k : List ℕ). AreWhole false f.sections k) d3 c2.is_read.are_whole;
-      externals = subst (λ (k : List ℕ). AreWhole false f.externals k) d4 c3.is_read.are_whole;
-      loads = subst (λ (k : List ℕ). AreWhole false f.loads k) t c5.is_read.are_whole;
-      trailer = subst (λ (k : List ℕ). AreWhole false f.trailer k)
-          (end_bytes_of (((((((b0 ++ o0) ++ o1) ++ o2) ++ o3) ++ o4) ++ o5) ++ o6) l6 (w7 ∷ []) last) c6.is_read.are_whole;
-      debug = subst (λ (k : List ℕ). AreWhole false f.debug k) d5 c4.is_debug.are_whole;
+      sections = sections_seen options f ws (size_of (((b0 ++ o0) ++ o1) ++ o2)) (size_of ((((b0 ++ o0) ++ o1) ++ o2) ++ o3)) (prefix_bytes l2) values d3
+          (omega (arith, e3, e4)) stood c2.is_read.are_whole;
+      externals = externals_seen options f ws (size_of ((((b0 ++ o0) ++ o1) ++ o2) ++ o3)) (prefix_bytes l3) values d4 stood c3.is_read.are_whole;
+      loads = later_seen options ws f.loads (size_of ((((b0 ++ o0) ++ o1) ++ o2) ++ o3)) (size_of ((((((b0 ++ o0) ++ o1) ++ o2) ++ o3) ++ o4) ++ o5))
+          (prefix_bytes l5)
+          (from_trailer f) t (omega (arith, e4, e6)) stood c5.is_read.are_whole;
+      trailer = later_seen options ws f.trailer (size_of ((((b0 ++ o0) ++ o1) ++ o2) ++ o3))
+          (size_of (((((((b0 ++ o0) ++ o1) ++ o2) ++ o3) ++ o4) ++ o5) ++ o6))
+          (prefix_bytes l6) module_end (end_bytes_of (((((((b0 ++ o0) ++ o1) ++ o2) ++ o3) ++ o4) ++ o5) ++ o6) l6 (w7 ∷ []) last)
+          (omega (arith, e4, e7)) stood
+          c6.is_read.are_whole;
+      debug = later_seen options ws f.debug (size_of ((((b0 ++ o0) ++ o1) ++ o2) ++ o3)) (size_of (((((b0 ++ o0) ++ o1) ++ o2) ++ o3) ++ o4)) (prefix_bytes l4)
+          (from_loads f) d5 (omega (arith, e4, e5, length-append (bytes_of f.debug) f.skipped)) stood c4.is_debug.are_whole;
       debug_read = c4.is_debug.read;
       keep_sections = subst (λ (k : List SpelledRecord). KeptFrom section_part k f.sections) p2 c2.is_read.keeps;
       keep_externals = subst (λ (k : List SpelledRecord). KeptFrom external_part k f.externals) p3 c3.is_read.keeps;
@@ -291,9 +363,9 @@ slice_from reads_debug prefix b0 l begin descriptor offs w0 w1 w2 w3 w4 w5 w6 w7
 
 -- ---- an ended prefix
 
-header_facts : (reads_debug : Bool) (prefix : List Step) (h : HeaderRun reads_debug prefix)
+header_facts : (options : ReadOptions) (prefix : List Step) (h : HeaderRun options prefix)
     → HeaderFacts (read 0 h.begin ∷ read (length h.begin.bytes) h.descriptor ∷ h.rest.own) h.rest.later h.begin h.descriptor (records_of h.rest.own)
-header_facts reads_debug prefix h =
+header_facts options prefix h =
     let offs = records_of h.rest.own in
     let after = prefix_bytes h.rest.later in
     let first = begin_row h.begin.row h.begin.bytes (first_of (prefix_bytes (read (length h.begin.bytes) h.descriptor ∷ drop 2 prefix)) None) h.begins in
@@ -315,11 +387,12 @@ header_facts reads_debug prefix h =
       no_bad = h.no_bad;
     }
 
-slice_chunks : (reads_debug : Bool) (prefix b0 l : List Step) (begin descriptor : SpelledRecord) (offs : List SpelledRecord)
+slice_chunks : (options : ReadOptions) (prefix b0 l : List Step) (begin descriptor : SpelledRecord) (offs : List SpelledRecord)
     (w0 w1 w2 w3 w4 w5 w6 w7 : ℕ) → prefix ≡ b0 ++ l → HeaderFacts b0 l begin descriptor offs
     → offsets_in offs ≡ w0 ∷ w1 ∷ w2 ∷ w3 ∷ w4 ∷ w5 ∷ w6 ∷ w7 ∷ []
-    → Chunks reads_debug parts_in_order (w0 ∷ w1 ∷ w2 ∷ w3 ∷ w4 ∷ w5 ∷ w6 ∷ w7 ∷ []) b0 l → Sliced reads_debug prefix
-slice_chunks reads_debug prefix b0 l begin descriptor offs w0 w1 w2 w3 w4 w5 w6 w7 whole h values all =
+    → Chunks options (w0 ∷ w1 ∷ w2 ∷ w3 ∷ w4 ∷ w5 ∷ w6 ∷ w7 ∷ []) parts_in_order (w0 ∷ w1 ∷ w2 ∷ w3 ∷ w4 ∷ w5 ∷ w6 ∷ w7 ∷ []) b0 l → Sliced options prefix
+slice_chunks options prefix b0 l begin descriptor offs w0 w1 w2 w3 w4 w5 w6 w7 whole h values all =
+    let ws = w0 ∷ w1 ∷ w2 ∷ w3 ∷ w4 ∷ w5 ∷ w6 ∷ w7 ∷ [] in
     let c0 = all.0 in
     let c1 = all.1.0 in
     let c2 = all.1.1.0 in
@@ -327,29 +400,29 @@ slice_chunks reads_debug prefix b0 l begin descriptor offs w0 w1 w2 w3 w4 w5 w6 
     let c4 = all.1.1.1.1.0 in
     let c5 = all.1.1.1.1.1.0 in
     let c6 = all.1.1.1.1.1.1.0 in
-    slice_from reads_debug prefix b0 l begin descriptor offs w0 w1 w2 w3 w4 w5 w6 w7 c0.cut.own c1.cut.own c2.cut.own c3.cut.own c4.cut.own c5.cut.own
+    slice_from options prefix b0 l begin descriptor offs w0 w1 w2 w3 w4 w5 w6 w7 c0.cut.own c1.cut.own c2.cut.own c3.cut.own c4.cut.own c5.cut.own
     c6.cut.own
     c0.cut.later c1.cut.later c2.cut.later c3.cut.later c4.cut.later c5.cut.later c6.cut.later whole h values
-    (raw_chunk reads_debug extension_part w0 _ _ _ refl c0) (raw_chunk reads_debug environment_part w1 _ _ _ refl c1)
-    (read_chunk reads_debug section_part w2 _ _ _ refl c2) (read_chunk reads_debug external_part w3 _ _ _ refl c3)
-    (debug_chunk reads_debug w4 _ _ _ c4)
-    (read_chunk reads_debug data_part w5 _ _ _ refl c5) (read_chunk reads_debug trailer_part w6 _ _ _ refl c6)
+    (raw_chunk options ws extension_part w0 _ _ _ refl c0) (raw_chunk options ws environment_part w1 _ _ _ refl c1)
+    (read_chunk options ws section_part w2 _ _ _ refl c2) (read_chunk options ws external_part w3 _ _ _ refl c3)
+    (debug_chunk options ws w4 _ _ _ c4)
+    (read_chunk options ws data_part w5 _ _ _ refl c5) (read_chunk options ws trailer_part w6 _ _ _ refl c6)
     c2.faultless c3.faultless c4.faultless all.1.1.1.1.1.1.1
 
-slice_by : (reads_debug : Bool) (prefix : List Step) (h : HeaderRun reads_debug prefix) (offsets : List ℕ) → h.rest.offsets ≡ offsets → length offsets
-    ≡ 8 → Sliced reads_debug prefix
-slice_by reads_debug prefix h (w0 ∷ w1 ∷ w2 ∷ w3 ∷ w4 ∷ w5 ∷ w6 ∷ w7 ∷ []) same count =
+slice_by : (options : ReadOptions) (prefix : List Step) (h : HeaderRun options prefix) (offsets : List ℕ) → h.rest.offsets ≡ offsets → length offsets
+    ≡ 8 → Sliced options prefix
+slice_by options prefix h (w0 ∷ w1 ∷ w2 ∷ w3 ∷ w4 ∷ w5 ∷ w6 ∷ w7 ∷ []) same count =
     let b0 = read 0 h.begin ∷ read (length h.begin.bytes) h.descriptor ∷ h.rest.own in
     let offsets = w0 ∷ w1 ∷ w2 ∷ w3 ∷ w4 ∷ w5 ∷ w6 ∷ w7 ∷ [] in
-    let facts = header_facts reads_debug prefix h in
+    let facts = header_facts options prefix h in
     let order : InOrder [] offsets = subst (λ (ws : List ℕ). InOrder [] ws) same h.rest.in_order in
     let values : offsets_in (records_of h.rest.own) ≡ offsets = h.rest.values ∙ same in
     let are : offsets_of b0 ≡ offsets = header_offsets h.begin h.descriptor (records_of h.rest.own) facts.begins facts.describes ∙ values in
     let size : size_of b0 ≡ first_present offsets = sym (h.rest.gap (omega arith) (ap length same)) ∙ ap first_present same in
-    slice_chunks reads_debug prefix b0 h.rest.later h.begin h.descriptor (records_of h.rest.own) w0 w1 w2 w3 w4 w5 w6 w7
+    slice_chunks options prefix b0 h.rest.later h.begin h.descriptor (records_of h.rest.own) w0 w1 w2 w3 w4 w5 w6 w7
     (h.split ∙ ap (λ l. read 0 h.begin ∷ read (length h.begin.bytes) h.descriptor ∷ l) h.rest.split) facts values
-    (chunks_of reads_debug offsets b0 h.rest.later refl order size (omega (arith, h.rest.count)) are h.rest.unended h.rest.ends h.rest.walk)
-slice_by reads_debug prefix h offsets same count = absurd (omega arith)
+    (chunks_of options offsets b0 h.rest.later refl order size (omega (arith, h.rest.count)) are h.rest.unended h.rest.ends h.rest.walk)
+slice_by options prefix h offsets same count = absurd (omega arith)
 
-pub sliced_of : (reads_debug : Bool) (prefix : List Step) → is_ended prefix ≡ true → IsWalk reads_debug [] prefix → Sliced reads_debug prefix
-sliced_of reads_debug prefix ends walk = let h = header_run reads_debug prefix ends walk in slice_by reads_debug prefix h h.rest.offsets refl h.rest.many
+pub sliced_of : (options : ReadOptions) (prefix : List Step) → is_ended prefix ≡ true → IsWalk options [] prefix → Sliced options prefix
+sliced_of options prefix ends walk = let h = header_run options prefix ends walk in slice_by options prefix h h.rest.offsets refl h.rest.many

@@ -35,6 +35,7 @@ use Rattle.mufom_read.proofs.ended.Sliced.{Sliced}
 use Rattle.mufom_read.proofs.ended.Names.{assigned-append}
 use Rattle.mufom_read.proofs.ended.Blocks.{debug_closes}
 use Rattle.mufom_read.proofs.ended.Gathered.{AreSorted, same_sections, same_indexes, same_publics, same_references, same_marks, same_loads, same_starts}
+use Rattle.mufom_records.specs.declared.options.ReadOptions.{ReadOptions}
 
 -- ---- the order of bytes
 
@@ -93,8 +94,8 @@ module_by f processor name maus letter = record {
   start = slice_get (starts_of (indexes_of f) f.trailer) 0;
 }
 
-abbrev pub stated_by : (reads_debug : Bool) (prefix : List Step) → Sliced reads_debug prefix → Parts
-stated_by reads_debug prefix s = module_by s.f s.begins.0 s.begins.1 s.describes.1 s.describes.2
+abbrev pub stated_by : (options : ReadOptions) (prefix : List Step) → Sliced options prefix → Parts
+stated_by options prefix s = module_by s.f s.begins.0 s.begins.1 s.describes.1 s.describes.2
 
 -- what a descriptor without an error states
 pub units_of : (bits maus : ℕ) (letter : Option ℕ) → is_bad_descriptor (r.Descriptor bits maus letter) ≡ false → (bits ≡ 8) × (is_unit_count maus ≡ true)
@@ -102,31 +103,31 @@ units_of bits maus letter h = let both = and_parts (bits == 8) (is_unit_count ma
     (eqb-true bits 8 both.0, both.1)
 
 -- its debug items have the marks of the records
-pub its_marks : (reads_debug : Bool) (prefix : List Step) (s : Sliced reads_debug prefix) → marks_of (stated_by reads_debug prefix s).debug
+pub its_marks : (options : ReadOptions) (prefix : List Step) (s : Sliced options prefix) → marks_of (stated_by options prefix s).debug
     ≡ marks (indexes_of s.f) s.f.debug
-its_marks reads_debug prefix s = rebuilt-marks (marks (indexes_of s.f) s.f.debug) [] []
+its_marks options prefix s = rebuilt-marks (marks (indexes_of s.f) s.f.debug) [] []
     (debug_closes (indexes_of s.f) debug_part ((header_of s.f ++ s.f.sections) ++ s.f.externals) s.f.debug
     (none_before (header_of s.f) s.f.sections s.f.externals s.silent (own_of section_part _ s.f.sections s.keep_sections)
     (own_of external_part _ s.f.externals s.keep_externals)) s.keep_debug s.closed)
 
-named : (reads_debug : Bool) (prefix : List Step) (s : Sliced reads_debug prefix) → NamesModule (stated_by reads_debug prefix s) s.f.begin s.f.begin.row
-named reads_debug prefix s = subst (λ (row : Record). NamesModule (stated_by reads_debug prefix s) s.f.begin row) (sym s.begins.2) (refl, refl)
+named : (options : ReadOptions) (prefix : List Step) (s : Sliced options prefix) → NamesModule (stated_by options prefix s) s.f.begin s.f.begin.row
+named options prefix s = subst (λ (row : Record). NamesModule (stated_by options prefix s) s.f.begin row) (sym s.begins.2) (refl, refl)
 
-described : (reads_debug : Bool) (prefix : List Step) (s : Sliced reads_debug prefix) → Describes (stated_by reads_debug prefix s) s.f.descriptor.row
-described reads_debug prefix s =
+described : (options : ReadOptions) (prefix : List Step) (s : Sliced options prefix) → Describes (stated_by options prefix s) s.f.descriptor.row
+described options prefix s =
     let kept = units_of s.describes.0 s.describes.1 s.describes.2 (subst (λ (row : Record). is_bad_descriptor row ≡ false) s.describes.3 s.no_bad) in
-    subst (λ (row : Record). Describes (stated_by reads_debug prefix s) row) (sym s.describes.3) (kept.0, refl, letter_of s.describes.2 s.describes.4)
+    subst (λ (row : Record). Describes (stated_by options prefix s) row) (sym s.describes.3) (kept.0, refl, letter_of s.describes.2 s.describes.4)
 
-pub states : (reads_debug : Bool) (prefix : List Step) (s : Sliced reads_debug prefix) → States s.f (indexes_of s.f) (stated_by reads_debug prefix s)
-states reads_debug prefix s = record {
-  begin = named reads_debug prefix s;
-  descriptor = described reads_debug prefix s;
+pub states : (options : ReadOptions) (prefix : List Step) (s : Sliced options prefix) → States s.f (indexes_of s.f) (stated_by options prefix s)
+states options prefix s = record {
+  begin = named options prefix s;
+  descriptor = described options prefix s;
   extension = refl;
   environment = refl;
   sections = refl;
   publics = refl;
   references = refl;
-  debug = its_marks reads_debug prefix s;
+  debug = its_marks options prefix s;
   loads = refl;
   start = one_start (indexes_of s.f) _ s.f.trailer s.keep_trailer;
 }
@@ -190,9 +191,9 @@ begun row bytes next is = let e = ap length is.5 ∙ length-append is.1 is.2 in 
 
 -- ---- the prefix states the module
 
-pub sorted : (reads_debug : Bool) (prefix : List Step) (s : Sliced reads_debug prefix)
+pub sorted : (options : ReadOptions) (prefix : List Step) (s : Sliced options prefix)
     → AreSorted (header_of s.f) s.f.sections s.f.externals s.f.debug s.f.loads s.f.trailer s.end
-sorted reads_debug prefix s = record {
+sorted options prefix s = record {
   header = s.silent;
   sections = own_of section_part _ s.f.sections s.keep_sections;
   externals = own_of external_part _ s.f.externals s.keep_externals;
@@ -203,17 +204,17 @@ sorted reads_debug prefix s = record {
 }
 
 -- the index lists of the file
-pub same_ix : (reads_debug : Bool) (prefix : List Step) (s : Sliced reads_debug prefix) → indexes_in (records_of prefix) ≡ indexes_of s.f
-same_ix reads_debug prefix s =
+pub same_ix : (options : ReadOptions) (prefix : List Step) (s : Sliced options prefix) → indexes_in (records_of prefix) ≡ indexes_of s.f
+same_ix options prefix s =
     ap (λ l. indexes_in l) s.records ∙ same_indexes (header_of s.f) s.f.sections s.f.externals s.f.debug s.f.loads s.f.trailer s.end
-    (sorted reads_debug prefix s)
+    (sorted options prefix s)
 
-pub is_stated : (reads_debug : Bool) (prefix : List Step) (s : Sliced reads_debug prefix) → IsStatedBy prefix (stated_by reads_debug prefix s)
-is_stated reads_debug prefix s =
+pub is_stated : (options : ReadOptions) (prefix : List Step) (s : Sliced options prefix) → IsStatedBy prefix (stated_by options prefix s)
+is_stated options prefix s =
     let f = s.f in
     let h = header_of f in
-    let are = sorted reads_debug prefix s in
-    let ix = same_ix reads_debug prefix s in
+    let are = sorted options prefix s in
+    let ix = same_ix options prefix s in
     let some : 1 ≤ length (bytes_of h) = let e = length-append f.begin.bytes (bytes_of (f.descriptor ∷ f.offsets)) in let one =
     begun f.begin.row f.begin.bytes _ s.header.0 in omega arith in
     record {
@@ -221,8 +222,8 @@ is_stated reads_debug prefix s =
       descriptor = f.descriptor;
       after = (((((f.offsets ++ f.sections) ++ f.externals) ++ f.debug) ++ f.loads) ++ f.trailer) ++ s.end ∷ [];
       records = s.records;
-      begins = named reads_debug prefix s;
-      describes = described reads_debug prefix s;
+      begins = named options prefix s;
+      describes = described options prefix s;
       extension = extension_between f (offsets_in f.offsets) (prefix_bytes prefix) s.bytes some s.stand
           ∙ ap (λ ws. bytes_between ws (prefix_bytes prefix)) (sym s.offsets);
       environment = environment_between f (offsets_in f.offsets) (prefix_bytes prefix) s.bytes some s.stand
@@ -230,7 +231,7 @@ is_stated reads_debug prefix s =
       sections = sym (ap (λ l. sections_of l) s.records ∙ same_sections h f.sections f.externals f.debug f.loads f.trailer s.end are);
       publics = sym ((λ i. publics_of (ix i) (s.records i)) ∙ same_publics (indexes_of f) h f.sections f.externals f.debug f.loads f.trailer s.end are);
       references = sym (ap (λ l. references_of l) s.records ∙ same_references h f.sections f.externals f.debug f.loads f.trailer s.end are);
-      debug = its_marks reads_debug prefix s ∙ sym ((λ i. marks (ix i) (s.records i))
+      debug = its_marks options prefix s ∙ sym ((λ i. marks (ix i) (s.records i))
           ∙ same_marks (indexes_of f) h f.sections f.externals f.debug f.loads f.trailer s.end are);
       loads = sym ((λ i. loads_of (ix i) s.describes.1 (s.records i))
           ∙ same_loads (indexes_of f) s.describes.1 h f.sections f.externals f.debug f.loads f.trailer s.end are);

@@ -15,7 +15,6 @@ use Rattle.mufom_names.specs.declared.name.Weak.{Weak}
 use Rattle.mufom_module.specs.SpelledRecords.{SpelledRecord, text_in, tree_in, tree_of_record, expression_of, named_by, public, reference, is_declared}
 use Rattle.mufom_module.specs.Grammar.{declares_again, states_again}
 use Rattle.mufom_module.specs.Gathered.{note_of, value_for, public_note_for, weak_for, reference_note_for, references_of}
-use Rattle.mufom_read.specs.declared.publics.PublicMark.{PublicMark}
 use Rattle.mufom_read.specs.declared.publics.PublicMark.TheVariants.{Declared, Valued}
 use Rattle.mufom_read.specs.declared.publics.Publics.{Publics}
 use Rattle.mufom_read.specs.Prefixes.{OffsetRecord}

@@ -10,8 +10,9 @@ use Rattle.mufom_records.specs.declared.record.Record.TheVariants as r
 use Rattle.mufom_records.specs.Fields.{ValueOf}
 use Rattle.mufom_records.specs.Layouts
 use Rattle.mufom_records.proofs.NumberLaws.{number_first}
-use Rattle.mufom_module.specs.RecordParts.{begins_item}
+use Rattle.mufom_module.specs.RecordParts.{begins_item, items_mode}
 use Rattle.mufom_read.proofs.ended.Rows.{Promises, promised, by_test}
+use Rattle.mufom_records.specs.declared.options.ReadOptions.{ReadOptions}
 
 -- ---- records
 
@@ -88,10 +89,15 @@ number_begins : (n : ℕ) (prefix back : List ℕ) (more : (b : ℕ) × (rest : 
 number_begins n prefix back (b, rest, same, begins) = ap (λ l. begins_item (l ++ back)) same ∙ or_left (begins_number b) _ begins
 
 -- an item begins with a number or an opening bracket
-pub items_begin : (row : Record) (bytes : List ℕ) (next : Option ℕ) → Layouts.IsWholeRecord mode.Items row bytes next → begins_item bytes ≡ true
-items_begin row bytes next (None, prefix, back, first, (n, count, rest, spelled, others, parts), split) =
+pub items_begin : (gnu : Bool) (row : Record) (bytes : List ℕ) (next : Option ℕ)
+    → Layouts.IsWholeRecord (cond gnu mode.GnuItems mode.Items) row bytes next → begins_item bytes ≡ true
+items_begin true row bytes next (None, prefix, back, first, (n, count, rest, spelled, others, parts), split) =
     ap begins_item (split ∙ (λ i. first.0 i ++ parts i)) ∙ number_begins n count rest (number_first n count spelled.0)
-items_begin row bytes next (Some b, prefix, back, first, others, split) =
+items_begin true row bytes next (Some b, prefix, back, first, others, split) =
+    ap begins_item (split ∙ ap (λ l. l ++ back) first.0) ∙ or_right (begins_number b) _ first.1
+items_begin false row bytes next (None, prefix, back, first, (n, count, rest, spelled, others, parts), split) =
+    ap begins_item (split ∙ (λ i. first.0 i ++ parts i)) ∙ number_begins n count rest (number_first n count spelled.0)
+items_begin false row bytes next (Some b, prefix, back, first, others, split) =
     ap begins_item (split ∙ ap (λ l. l ++ back) first.0) ∙ or_right (begins_number b) _ first.1
 
 -- ---- no record is empty
@@ -103,10 +109,10 @@ item_some : (bytes : List ℕ) → begins_item bytes ≡ true → 1 ≤ length b
 item_some [] h = cc
 item_some (b ∷ bytes) h = omega arith
 
-pub record_some : (test : Bool) (row : Record) (bytes : List ℕ) (next : Option ℕ)
-    → Layouts.IsWholeRecord (cond test mode.Items mode.Body) row bytes next → 1 ≤ length bytes
-record_some true row bytes next is = item_some bytes (items_begin row bytes next is)
-record_some false row bytes next is = body_some row bytes next is
+pub record_some : (options : ReadOptions) (test : Bool) (row : Record) (bytes : List ℕ) (next : Option ℕ)
+    → Layouts.IsWholeRecord (cond test (items_mode options) mode.Body) row bytes next → 1 ≤ length bytes
+record_some options true row bytes next is = item_some bytes (items_begin options.gnu row bytes next is)
+record_some options false row bytes next is = body_some row bytes next is
 
 -- bytes after a record do not change what it begins with
 pub begins_grown : (bytes rest : List ℕ) → 1 ≤ length bytes → begins_item (bytes ++ rest) ≡ begins_item bytes

@@ -31,6 +31,7 @@ use Rattle.mufom_read.proofs.spelled.Loads.{AreIn, NoneMisplaced, CounterFrom, l
 use Rattle.mufom_read.proofs.spelled.Kept.{follow-parts, keep_part, all_aligned, none_aligned, section_counters, public_counters, debug_counters}
 use Rattle.mufom_read.proofs.spelled.Kept.{start_counters}
 use Rattle.mufom_read.proofs.spelled.Blocks.{NestWell, nest_items}
+use Rattle.mufom_records.specs.declared.options.ReadOptions.{ReadOptions}
 
 -- ---- a valid module
 
@@ -190,21 +191,21 @@ none_open : (f : FileParts) → list_all (λ p. stands_in section_part p.row) f.
 none_open f own_sections own_externals = none_before [] f.sections f.externals refl own_sections own_externals
 
 -- the debug blocks keep to their rules
-nest_debug : (bytes : List ℕ) (reads_debug : Bool) (f : FileParts) (m : Parts) → IsCutInto bytes reads_debug f → IsSound m → marks_of m.debug
+nest_debug : (bytes : List ℕ) (options : ReadOptions) (f : FileParts) (m : Parts) → IsCutInto bytes options f → IsSound m → marks_of m.debug
     ≡ marks (indexes_of f) f.debug → NestWell [] f.debug
-nest_debug bytes reads_debug f m cut good states =
+nest_debug bytes options f m cut good states =
     nest_items (indexes_of f) f.debug m.debug states good.ends good.deep
-    (part_short debug_part false f.debug (from_loads f) refl cut.debug.own cut.debug.are_whole)
+    (part_short options debug_part false f.debug (from_loads f) refl cut.debug.own cut.debug.are_whole)
 
-keep_debug : (bytes : List ℕ) (reads_debug : Bool) (f : FileParts) (m : Parts) → IsCutInto bytes reads_debug f → IsSound m → marks_of m.debug
+keep_debug : (bytes : List ℕ) (options : ReadOptions) (f : FileParts) (m : Parts) → IsCutInto bytes options f → IsSound m → marks_of m.debug
     ≡ marks (indexes_of f) f.debug → IsSilent (header_of f) → FollowFrom (f.sections ++ f.externals) f.debug
     → KeptFrom debug_part ((header_of f ++ f.sections) ++ f.externals) f.debug
-keep_debug bytes reads_debug f m cut good states quiet follow =
+keep_debug bytes options f m cut good states quiet follow =
     let before = f.sections ++ f.externals in
     let counters = debug_counters (indexes_of f) before f.debug cut.debug.own (ap (list_any (any_expression (d.has_other_counter None))) (sym states)
     ∙ good.debug) in
     let nest = subst (λ (k : List ℕ). NestFrom k f.debug) (sym (none_open f cut.sections.own cut.externals.own))
-    (nest_debug bytes reads_debug f m cut good states).0 in
+    (nest_debug bytes options f m cut good states).0 in
     subst (λ (l : List SpelledRecord). KeptFrom debug_part l f.debug) (sym (append_assoc (header_of f) f.sections f.externals))
     (keep_part debug_part (header_of f) before f.debug quiet cut.debug.own follow (none_aligned debug_part f.debug refl cut.debug.own) counters nest)
 
@@ -216,15 +217,15 @@ to_trailer : (f : FileParts) → header_of f ++ (((f.sections ++ f.externals) ++
     ≡ (((header_of f ++ f.sections) ++ f.externals) ++ f.debug) ++ f.loads
 to_trailer f = sym (append_assoc (header_of f) ((f.sections ++ f.externals) ++ f.debug) f.loads) ∙ ap (λ l. l ++ f.loads) (to_loads f)
 
-keep_loads : (bytes : List ℕ) (reads_debug : Bool) (f : FileParts) (m : Parts) → IsCutInto bytes reads_debug f → IsSound m → m.loads
+keep_loads : (bytes : List ℕ) (options : ReadOptions) (f : FileParts) (m : Parts) → IsCutInto bytes options f → IsSound m → m.loads
     ≡ loads_of (indexes_of f) m.maus f.loads → IsSilent (header_of f) → FollowFrom ((f.sections ++ f.externals) ++ f.debug) f.loads
     → KeptFrom data_part (((header_of f ++ f.sections) ++ f.externals) ++ f.debug) f.loads
-keep_loads bytes reads_debug f m cut good states quiet follow =
+keep_loads bytes options f m cut good states quiet follow =
     let ix = indexes_of f in
     let before = (f.sections ++ f.externals) ++ f.debug in
     let none = no_current f.sections f.externals f.debug cut.sections.own cut.externals.own cut.debug.own in
     let loads : NoneMisplaced None (loads_of ix m.maus f.loads) = subst (λ (l : List Load). NoneMisplaced None l) states good.loads in
-    let counters = load_counters ix m.maus false before f.loads (from_trailer f) cut.loads.are_whole cut.loads.own follow
+    let counters = load_counters options ix m.maus false before f.loads (from_trailer f) cut.loads.are_whole cut.loads.own follow
     (are_still_in f cut.debug.own (are_in f cut.sections.own cut.externals.own))
     (subst (IsListed ix) (sym none) tt) (subst (λ (o : Option ℕ). NoneMisplaced (placed_section ix o) (loads_of ix m.maus f.loads)) (sym none) loads)
     (λ e. absurd (true≢false (sym e))) in
@@ -232,11 +233,11 @@ keep_loads bytes reads_debug f m cut good states quiet follow =
     (keep_part data_part (header_of f) before f.loads quiet cut.loads.own follow (none_aligned data_part f.loads refl cut.loads.own) counters
     (nest-other data_part (open_kinds before) f.loads refl cut.loads.own))
 
-keep_trailer : (bytes : List ℕ) (reads_debug : Bool) (f : FileParts) (m : Parts) → IsCutInto bytes reads_debug f → IsSound m → option_to_list m.start
+keep_trailer : (bytes : List ℕ) (options : ReadOptions) (f : FileParts) (m : Parts) → IsCutInto bytes options f → IsSound m → option_to_list m.start
     ≡ starts_of (indexes_of f) f.trailer → IsSilent (header_of f)
     → FollowFrom (((f.sections ++ f.externals) ++ f.debug) ++ f.loads) f.trailer
     → KeptFrom trailer_part ((((header_of f ++ f.sections) ++ f.externals) ++ f.debug) ++ f.loads) f.trailer
-keep_trailer bytes reads_debug f m cut good states quiet follow =
+keep_trailer bytes options f m cut good states quiet follow =
     let before = ((f.sections ++ f.externals) ++ f.debug) ++ f.loads in
     let counters = start_counters (indexes_of f) before f.trailer cut.trailer.own (ap (list_any (d.has_other_counter None)) (sym states)
     ∙ any_list (d.has_other_counter None) m.start good.start) in
@@ -244,23 +245,23 @@ keep_trailer bytes reads_debug f m cut good states quiet follow =
     (keep_part trailer_part (header_of f) before f.trailer quiet cut.trailer.own follow (none_aligned trailer_part f.trailer refl cut.trailer.own)
     counters (nest-other trailer_part (open_kinds before) f.trailer refl cut.trailer.own))
 
-all_closed : (bytes : List ℕ) (reads_debug : Bool) (f : FileParts) (m : Parts) → IsCutInto bytes reads_debug f → IsSound m → marks_of m.debug
+all_closed : (bytes : List ℕ) (options : ReadOptions) (f : FileParts) (m : Parts) → IsCutInto bytes options f → IsSound m → marks_of m.debug
     ≡ marks (indexes_of f) f.debug → IsSilent (header_of f)
     → open_kinds (((header_of f ++ f.sections) ++ f.externals) ++ f.debug) ≡ []
-all_closed bytes reads_debug f m cut good states quiet =
+all_closed bytes options f m cut good states quiet =
     kinds-append [] ((header_of f ++ f.sections) ++ f.externals) f.debug
     ∙ ap (λ (k : List ℕ). kinds_from k f.debug) (none_before (header_of f) f.sections f.externals quiet cut.sections.own cut.externals.own)
-    ∙ (nest_debug bytes reads_debug f m cut good states).1
+    ∙ (nest_debug bytes options f m cut good states).1
 
-pub are_kept : (bytes : List ℕ) (reads_debug : Bool) (f : FileParts) (m : Parts) → IsCutInto bytes reads_debug f → HasNames f
+pub are_kept : (bytes : List ℕ) (options : ReadOptions) (f : FileParts) (m : Parts) → IsCutInto bytes options f → HasNames f
     → States f (indexes_of f) m → IsSound m → IsSilent (header_of f) → AreKept f
-are_kept bytes reads_debug f m cut names states good quiet =
+are_kept bytes options f m cut names states good quiet =
     let turn = in_turn f names.follow in
     record {
       sections = keep_sections f m good states.sections quiet cut.sections.own turn.sections;
       externals = keep_externals f m good states.publics quiet cut.sections.own cut.externals.own turn.externals;
-      debug = keep_debug bytes reads_debug f m cut good states.debug quiet turn.debug;
-      loads = keep_loads bytes reads_debug f m cut good states.loads quiet turn.loads;
-      trailer = keep_trailer bytes reads_debug f m cut good states.start quiet turn.trailer;
-      closed = all_closed bytes reads_debug f m cut good states.debug quiet;
+      debug = keep_debug bytes options f m cut good states.debug quiet turn.debug;
+      loads = keep_loads bytes options f m cut good states.loads quiet turn.loads;
+      trailer = keep_trailer bytes options f m cut good states.start quiet turn.trailer;
+      closed = all_closed bytes options f m cut good states.debug quiet;
     }

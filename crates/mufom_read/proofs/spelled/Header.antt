@@ -16,6 +16,7 @@ use Rattle.mufom_read.proofs.ended.Walk.{size-append, taken}
 use Rattle.mufom_read.proofs.ended.Rows.{offset_row}
 use Rattle.mufom_read.proofs.ended.Header.{ended-read, offsets-append, header_location, modes_from}
 use Rattle.mufom_read.proofs.spelled.Walk.{steps_of, IsStep, sound_step, next_read, Beyond, none_ended}
+use Rattle.mufom_records.specs.declared.options.ReadOptions.{ReadOptions}
 
 -- ---- a record of the header
 
@@ -24,22 +25,22 @@ pub header_fault_at : (k : ℕ) (before : List Step) (p : SpelledRecord) → len
     ≡ header_fault (offsets_of before) (size_of before) (size_of before + length p.bytes) p.row
 header_fault_at k before p count few = ap (λ (q : Location). record_fault before q (size_of before) p) (header_location before k count few)
 
-pub header_next : (reads_debug : Bool) (k : ℕ) (before : List Step) (p : SpelledRecord) (after : List ℕ) → length before ≡ k → k < 10
+pub header_next : (options : ReadOptions) (k : ℕ) (before : List Step) (p : SpelledRecord) (after : List ℕ) → length before ≡ k → k < 10
     → IsWholeRecord (header_mode k) p.row p.bytes (first_of after None)
-    → next_step reads_debug before (p.bytes ++ after) ≡ taken (read (size_of before) p) (length p.bytes)
-header_next reads_debug k before p after count few is = next_read reads_debug before (in_header k) (header_mode k) p after
+    → next_step options before (p.bytes ++ after) ≡ taken (read (size_of before) p) (length p.bytes)
+header_next options k before p after count few is = next_read options before (in_header k) (header_mode k) p after
     (header_location before k count few) refl is
 
-pub header_is_step : (reads_debug : Bool) (k : ℕ) (before : List Step) (p : SpelledRecord) (after : List ℕ) → length before ≡ k → k < 10
+pub header_is_step : (options : ReadOptions) (k : ℕ) (before : List Step) (p : SpelledRecord) (after : List ℕ) → length before ≡ k → k < 10
     → is_ended before ≡ false → ended_part_fault before ≡ None
     → IsWholeRecord (header_mode k) p.row p.bytes (first_of after None)
     → header_fault (offsets_of before) (size_of before) (size_of before + length p.bytes) p.row ≡ None
-    → IsStep reads_debug before (read (size_of before) p) after
-header_is_step reads_debug k before p after count few open_ whole is fault = record {
+    → IsStep options before (read (size_of before) p) after
+header_is_step options k before p after count few open_ whole is fault = record {
   unended = open_;
   whole = whole;
   own = header_fault_at k before p count few ∙ fault;
-  next = header_next reads_debug k before p after count few is;
+  next = header_next options k before p after count few is;
 }
 
 -- ---- the offsets
@@ -101,14 +102,14 @@ cons_parts : (a b : ℕ) (xs ys : List ℕ) → a ∷ xs ≡ b ∷ ys → (a ≡
 cons_parts a b xs ys h = (cc, cc)
 
 -- the first of these offsets
-first_offset : (n k : ℕ) (reads_debug : Bool) (end v : ℕ) (earlier offsets : List ℕ) (before : List Step) (p : SpelledRecord)
+first_offset : (n k : ℕ) (options : ReadOptions) (end v : ℕ) (earlier offsets : List ℕ) (before : List Step) (p : SpelledRecord)
     (records : List SpelledRecord) (after : List ℕ) → Standing k (suc n) end earlier (v ∷ offsets) before (p ∷ records)
     → AreOfModes (modes_from k (suc n)) (p ∷ records) after → offsets_in records ≡ offsets → p.row ≡ r.Offset k v → ended_part_fault before ≡ None
     → (Standing (suc k) n end (earlier ++ v ∷ []) offsets (before ++ read (size_of before) p ∷ []) records
-    → IsSoundFrom reads_debug (before ++ read (size_of before) p ∷ []) (steps_of (size_of (before ++ read (size_of before) p ∷ [])) records)
+    → IsSoundFrom options (before ++ read (size_of before) p ∷ []) (steps_of (size_of (before ++ read (size_of before) p ∷ [])) records)
     (bytes_of records ++ after))
-    → IsSoundFrom reads_debug before (steps_of (size_of before) (p ∷ records)) (bytes_of (p ∷ records) ++ after)
-first_offset n k reads_debug end v earlier offsets before p records after at modes tail its whole onward =
+    → IsSoundFrom options before (steps_of (size_of before) (p ∷ records)) (bytes_of (p ∷ records) ++ after)
+first_offset n k options end v earlier offsets before p records after at modes tail its whole onward =
     let it = read (size_of before) p in
     let rest = bytes_of records ++ after in
     let all_in = length-append p.bytes (bytes_of records) in
@@ -116,7 +117,7 @@ first_offset n k reads_debug end v earlier offsets before p records after at mod
     ∙ ap (λ (l : List ℕ). size_of before + length l) (append-nil p.bytes) in
     let gap = no_gap_here n k earlier offsets v (size_of before) end (size_of before + length p.bytes) records after modes.1 at.many at.eight tail
     at.first (omega (arith, at.size, all_in)) in
-    let is : IsStep reads_debug before it rest = header_is_step reads_debug (suc (suc k)) before p rest at.count (omega (arith, at.eight)) at.unended
+    let is : IsStep options before it rest = header_is_step options (suc (suc k)) before p rest at.count (omega (arith, at.eight)) at.unended
     whole modes.0
     ((λ i. header_fault (at.here i) (size_of before) (size_of before + length p.bytes) (its i))
     ∙ offset_kept earlier v (size_of before) (size_of before + length p.bytes) at.ordered.0 gap) in
@@ -134,26 +135,26 @@ first_offset n k reads_debug end v earlier offsets before p records after at mod
       some = at.some;
       first = ap first_present (append_assoc earlier (v ∷ []) offsets) ∙ at.first;
     } in
-    subst (λ (l : List ℕ). IsSoundFrom reads_debug before (steps_of (size_of before) (p ∷ records)) l) (sym (append_assoc p.bytes (bytes_of records) after))
-    (sound_step reads_debug before it (steps_of (size_of before + length p.bytes) records) rest is
-    (subst (λ (m : ℕ). IsSoundFrom reads_debug prefix (steps_of m records) rest) size (onward next)))
+    subst (λ (l : List ℕ). IsSoundFrom options before (steps_of (size_of before) (p ∷ records)) l) (sym (append_assoc p.bytes (bytes_of records) after))
+    (sound_step options before it (steps_of (size_of before + length p.bytes) records) rest is
+    (subst (λ (m : ℕ). IsSoundFrom options prefix (steps_of m records) rest) size (onward next)))
 
-pub offset_walk : (n k : ℕ) (reads_debug : Bool) (end : ℕ) (earlier offsets : List ℕ) (before : List Step) (records : List SpelledRecord)
+pub offset_walk : (n k : ℕ) (options : ReadOptions) (end : ℕ) (earlier offsets : List ℕ) (before : List Step) (records : List SpelledRecord)
     (after : List ℕ) → Standing k n end earlier offsets before records
     → AreOfModes (modes_from k n) records after → offsets_in records ≡ offsets
-    → IsSoundFrom reads_debug before (steps_of (size_of before) records) (bytes_of records ++ after)
-offset_walk zero k reads_debug end earlier [] before [] after at modes values = tt
-offset_walk zero k reads_debug end earlier (w ∷ offsets) before [] after at modes values = absurd cc
-offset_walk zero k reads_debug end earlier offsets before (p ∷ records) after at modes values = absurd modes
-offset_walk (suc n) k reads_debug end earlier offsets before [] after at modes values = absurd modes
-offset_walk (suc n) k reads_debug end earlier [] before (p ∷ records) after at modes values =
+    → IsSoundFrom options before (steps_of (size_of before) records) (bytes_of records ++ after)
+offset_walk zero k options end earlier [] before [] after at modes values = tt
+offset_walk zero k options end earlier (w ∷ offsets) before [] after at modes values = absurd cc
+offset_walk zero k options end earlier offsets before (p ∷ records) after at modes values = absurd modes
+offset_walk (suc n) k options end earlier offsets before [] after at modes values = absurd modes
+offset_walk (suc n) k options end earlier [] before (p ∷ records) after at modes values =
     let row = offset_row k p.row p.bytes (first_of (bytes_of records ++ after) None) modes.0 in
     let wrong : row.0 ∷ offsets_in records ≡ [] = sym (row_offsets p records k row.0 row.1) ∙ values in absurd cc
-offset_walk (suc n) k reads_debug end earlier (v ∷ offsets) before (p ∷ records) after at modes values =
+offset_walk (suc n) k options end earlier (v ∷ offsets) before (p ∷ records) after at modes values =
     let row = offset_row k p.row p.bytes (first_of (bytes_of records ++ after) None) modes.0 in
     let heads = cons_parts row.0 v (offsets_in records) offsets (sym (row_offsets p records k row.0 row.1) ∙ values) in
     let its : p.row ≡ r.Offset k v = row.1 ∙ ap (λ (w : ℕ). r.Offset k w) heads.0 in
     let whole : ended_part_fault before ≡ None = none_ended before end (subst (λ (l : List ℕ). Beyond end l) (sym at.here) at.passed)
     (omega (arith, at.size)) at.some in
-    first_offset n k reads_debug end v earlier offsets before p records after at modes heads.1 its whole
-    (λ next. offset_walk n (suc k) reads_debug end (earlier ++ v ∷ []) offsets (before ++ read (size_of before) p ∷ []) records after next modes.1 heads.1)
+    first_offset n k options end v earlier offsets before p records after at modes heads.1 its whole
+    (λ next. offset_walk n (suc k) options end (earlier ++ v ∷ []) offsets (before ++ read (size_of before) p ∷ []) records after next modes.1 heads.1)

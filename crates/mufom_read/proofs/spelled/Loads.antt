@@ -31,6 +31,7 @@ use Rattle.mufom_read.proofs.ended.Trees.{IsKnown, placed_section, named_known, 
 use Rattle.mufom_read.proofs.ended.Loads.{after_one, same_section, after_all, after_row, prefix_some}
 use Rattle.mufom_read.proofs.spelled.Plain.{is_item, body_plain}
 use Rattle.mufom_read.proofs.spelled.Entries.{IsListed, tree_back}
+use Rattle.mufom_records.specs.declared.options.ReadOptions.{ReadOptions}
 
 -- ---- the index lists
 
@@ -199,17 +200,19 @@ abbrev pub CounterFrom : List SpelledRecord → List SpelledRecord → Type 0
 CounterFrom before [] = Unit {0}
 CounterFrom before (p ∷ records) = (misplaces_counter before p ≡ false) × CounterFrom (before ++ p ∷ []) records
 
-where_items : (items : Bool) (p : SpelledRecord) (next : Option ℕ) → IsWholeRecord (mode_of items p.bytes) p.row p.bytes next → is_item p.row ≡ true
+where_items : (options : ReadOptions) (items : Bool) (p : SpelledRecord) (next : Option ℕ) → IsWholeRecord
+    (mode_of options items p.bytes) p.row p.bytes next → is_item p.row ≡ true
     → items ≡ true
-where_items true p next is its = refl
-where_items false p next is its = absurd (both_ways (is_item p.row) (body_plain p.row p.bytes next is) its)
+where_items options true p next is its = refl
+where_items options false p next is its = absurd (both_ways (is_item p.row) (body_plain p.row p.bytes next is) its)
 
-pub load_counters : (ix : Indexes) (maus : ℕ) (items : Bool) (before records : List SpelledRecord) (after : List ℕ) → AreWhole items records after
+pub load_counters : (options : ReadOptions) (ix : Indexes) (maus : ℕ) (items : Bool) (before records : List SpelledRecord) (after : List ℕ)
+    → AreWhole options items records after
     → list_all (λ p. stands_in data_part p.row) records ≡ true → FollowFrom before records → AreIn ix before
     → IsListed ix (current_section before) → NoneMisplaced (placed_section ix (current_section before)) (loads_of ix maus records)
     → (items ≡ true → NoItemMisplaced (placed_section ix (current_section before)) (items_at_prefix ix maus records)) → CounterFrom before records
-load_counters ix maus items before [] after whole own follow are listed loads its = tt
-load_counters ix maus items before (p ∷ records) after whole own follow are listed loads its =
+load_counters options ix maus items before [] after whole own follow are listed loads its = tt
+load_counters options ix maus items before (p ∷ records) after whole own follow are listed loads its =
     let current = placed_section ix (current_section before) in
     let both = and_parts (stands_in data_part p.row) _ own in
     let split = placed_parts current (loads_by ix p (items_at_prefix ix maus records) p.row) (loads_of ix maus records) loads in
@@ -217,14 +220,14 @@ load_counters ix maus items before (p ∷ records) after whole own follow are li
       are = are;
       listed = listed;
       follows = follow.0;
-      may = where_items items p (first_of (bytes_of records ++ after) None) whole.0;
+      may = where_items options items p (first_of (bytes_of records ++ after) None) whole.0;
       loads = split.0;
       its_items = its;
     } in
     let next : after_all current (loads_by ix p (items_at_prefix ix maus records) p.row) ≡ placed_section ix (current_section (before ++ p ∷ [])) =
     after_row ix p (items_at_prefix ix maus records) (current_section before) p.row ∙ ap (placed_section ix) (sym (after_one before p)) in (
       own_row ix maus items before p records p.row known refl both.0,
-      load_counters ix maus (opens_items p.row) (before ++ p ∷ []) records after whole.1 both.1 follow.1 (are_in_next ix before p both.0 are)
+      load_counters options ix maus (opens_items p.row) (before ++ p ∷ []) records after whole.1 both.1 follow.1 (are_in_next ix before p both.0 are)
           (listed_row ix maus items before p records p.row known refl)
           (subst (λ (o : Option ℕ). NoneMisplaced o (loads_of ix maus records)) next split.1) (next_row ix maus items before p records p.row known refl),
     )

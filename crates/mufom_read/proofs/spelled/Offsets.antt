@@ -22,6 +22,7 @@ use Rattle.mufom_read.proofs.ended.Stated.{first_at}
 use Rattle.mufom_read.proofs.spelled.Walk.{steps_of, steps_bytes, steps_records, IsStep, sound_step, Beyond, none_ended}
 use Rattle.mufom_read.proofs.spelled.Header.{header_is_step, AreOrdered, Standing, offset_walk}
 use Rattle.mufom_read.proofs.spelled.Parts.{Joint}
+use Rattle.mufom_records.specs.declared.options.ReadOptions.{ReadOptions}
 
 -- ---- offsets
 
@@ -167,10 +168,10 @@ offsets_standing f after before are rows stand two none open_ size =
     }
 
 -- the header is sound
-pub header_prefix : (reads_debug : Bool) (f : FileParts) (after : List ℕ) → AreOfModes header_modes (header_of f) after → HeaderRows f
+pub header_prefix : (options : ReadOptions) (f : FileParts) (after : List ℕ) → AreOfModes header_modes (header_of f) after → HeaderRows f
     → is_bad_descriptor f.descriptor.row ≡ false → StandAt (offsets_in f.offsets) (length (bytes_of (header_of f))) (parts_of f)
-    → IsSoundFrom reads_debug [] (steps_of 0 (header_of f)) (bytes_of (header_of f) ++ after)
-header_prefix reads_debug f after are rows good stand =
+    → IsSoundFrom options [] (steps_of 0 (header_of f)) (bytes_of (header_of f) ++ after)
+header_prefix options f after are rows good stand =
     let a = read 0 f.begin in
     let n = length f.begin.bytes in
     let b = read (0 + n) f.descriptor in
@@ -179,13 +180,13 @@ header_prefix reads_debug f after are rows good stand =
     let split_rest : bytes_of (f.descriptor ∷ f.offsets) ++ after ≡ rest = append_assoc f.descriptor.bytes (bytes_of f.offsets) after in
     let split : bytes_of (header_of f) ++ after ≡ f.begin.bytes ++ rest = append_assoc f.begin.bytes (bytes_of (f.descriptor ∷ f.offsets)) after
     ∙ ap (λ l. f.begin.bytes ++ l) split_rest in
-    let first : IsStep reads_debug [] a rest = header_is_step reads_debug 0 [] f.begin rest refl (omega arith) refl refl
+    let first : IsStep options [] a rest = header_is_step options 0 [] f.begin rest refl (omega arith) refl refl
     (subst (λ (l : List ℕ). IsWholeRecord mode.Begin f.begin.row f.begin.bytes (first_of l None)) split_rest are.0)
     (ap (λ (row : Record). header_fault [] 0 (0 + n) row) rows.begins.2) in
     let none : offsets_of (a ∷ []) ≡ [] = ap (λ (row : Record). offsets_in (record { row = row; bytes = f.begin.bytes } ∷ [])) rows.begins.2 in
     let size : size_of (a ∷ []) ≡ 0 + n = ap length (append-nil f.begin.bytes) ∙ omega arith in
-    let second : IsStep reads_debug (a ∷ []) b later = subst (λ (k : ℕ). IsStep reads_debug (a ∷ []) (read k f.descriptor) later) size
-    (header_is_step reads_debug 1 (a ∷ []) f.descriptor later refl (omega arith) (ap is_module_end rows.begins.2)
+    let second : IsStep options (a ∷ []) b later = subst (λ (k : ℕ). IsStep options (a ∷ []) (read k f.descriptor) later) size
+    (header_is_step options 1 (a ∷ []) f.descriptor later refl (omega arith) (ap is_module_end rows.begins.2)
     (none_ended (a ∷ []) (suc n) (subst (λ (l : List ℕ). Beyond (suc n) l) (sym none) tt) (omega (arith, size)) (omega arith)) are.1.0
     ((λ i. header_fault (none i) (size_of (a ∷ [])) (size_of (a ∷ []) + length f.descriptor.bytes) (rows.describes.3 i))
     ∙ ap (λ t. fault_if t (size_of (a ∷ [])) why.BadDescriptor) (sym (ap is_bad_descriptor rows.describes.3) ∙ good))) in
@@ -195,11 +196,11 @@ header_prefix reads_debug f after are rows good stand =
     let none_two : offsets_of prefix ≡ [] = offsets-append (a ∷ []) (b ∷ [])
     ∙ (λ i. none i ++ offsets_in (record { row = rows.describes.3 i; bytes = f.descriptor.bytes } ∷ [])) in
     let standing = offsets_standing f after prefix are rows stand refl none_two (ap is_module_end rows.describes.3) (two_size ∙ omega arith) in
-    let on = offset_walk 8 0 reads_debug (length (bytes_of (header_of f))) [] (offsets_in f.offsets) prefix f.offsets after standing are.1.1 refl in
-    subst (λ (l : List ℕ). IsSoundFrom reads_debug [] (steps_of 0 (header_of f)) l) (sym split)
-    (sound_step reads_debug [] a (b ∷ steps_of (0 + n + length f.descriptor.bytes) f.offsets) rest first
-    (sound_step reads_debug (a ∷ []) b (steps_of (0 + n + length f.descriptor.bytes) f.offsets) later second
-    (subst (λ (k : ℕ). IsSoundFrom reads_debug prefix (steps_of k f.offsets) later) two_size on)))
+    let on = offset_walk 8 0 options (length (bytes_of (header_of f))) [] (offsets_in f.offsets) prefix f.offsets after standing are.1.1 refl in
+    subst (λ (l : List ℕ). IsSoundFrom options [] (steps_of 0 (header_of f)) l) (sym split)
+    (sound_step options [] a (b ∷ steps_of (0 + n + length f.descriptor.bytes) f.offsets) rest first
+    (sound_step options (a ∷ []) b (steps_of (0 + n + length f.descriptor.bytes) f.offsets) later second
+    (subst (λ (k : ℕ). IsSoundFrom options prefix (steps_of k f.offsets) later) two_size on)))
 
 -- after the header the parts begin
 pub header_joint : (f : FileParts) (after : List ℕ) → AreOfModes header_modes (header_of f) after → HeaderRows f

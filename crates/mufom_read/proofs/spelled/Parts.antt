@@ -1,7 +1,7 @@
 -- The parts of a module's file as steps, one part after another.
 use Rattle.std.proofs.Common.{◌≡◌, ◌⊎◌, ℕ, zero, suc, ◌+◌, ◌-◌, ◌<◌, ◌≤◌, Bool, true, false, cond, not, ◌==◌, ◌&&◌, nat_lt, List, [], ◌∷◌, ◌++◌}
 use Rattle.std.proofs.Common.{length, Option, Some, None, refl, sym, ap, subst, ◌∙◌, inl, inr, arith, append_assoc, append-nil, filter_map, eq-eqb}
-use Rattle.std.proofs.Common.{ne_eqb, length-append}
+use Rattle.std.proofs.Common.{ne_eqb, length-append, IfSome, ltb-true}
 use Rattle.std.specs.List.{last_or, cons_option}
 use Rattle.std.specs.Option.{option_or}
 use Rattle.std.proofs.lemmas.Bool.{not_from_true, not_from_false}
@@ -9,24 +9,27 @@ use Rattle.mufom_numbers.specs.declared.reason.Reason.TheVariants as why
 use Rattle.mufom_records.specs.declared.record.Mode.TheVariants as mode
 use Rattle.mufom_records.specs.Fields.{first_of}
 use Rattle.mufom_records.specs.Layouts.{IsWholeRecord}
-use Rattle.mufom_records.specs.Reading.{record_at}
+use Rattle.mufom_records.specs.Reading.{record_within, next_seen}
+use Rattle.mufom_records.proofs.Exact.{first_of-append}
 use Rattle.mufom_debug.specs.Marks.{joined}
 use Rattle.mufom_module.specs.SpelledRecords.{SpelledRecord, bytes_of}
-use Rattle.mufom_module.specs.RecordParts.{Part, number_of, stands_in, opens_items, begins_item, mode_of}
-use Rattle.mufom_module.specs.Grammar.{offsets_in, StandAt, AreWhole}
+use Rattle.mufom_module.specs.RecordParts.{Part, number_of, stands_in, opens_items, begins_item, mode_of, items_mode}
+use Rattle.mufom_module.specs.Grammar.{offsets_in, StandAt, AreWhole, ends_before_debug, debug_offset}
 use Rattle.mufom_read.specs.Prefixes.{Step, raw, read, prefix_bytes, size_of, records_of, offsets_of, Extent, Location, in_part, at_end}
 use Rattle.mufom_read.specs.Prefixes.{first_present, part_among, parts_in_order, part_at, location_by, location_after, is_raw, awaits_items}
-use Rattle.mufom_read.specs.Prefixes.{body_mode, as_step, raw_step, step_at, is_module_end, is_ended}
+use Rattle.mufom_read.specs.Prefixes.{body_mode, as_step, raw_step, step_at, is_module_end, is_ended, bytes_to_debug}
 use Rattle.mufom_read.specs.Faults.{Fault, fault_if, fault_for, rule_broken, part_record_fault, record_fault, whole_fault, ended_fault, ended_part_fault}
 use Rattle.mufom_read.specs.Judging.{IsSoundFrom}
 use Rattle.mufom_read.proofs.so_far.BlockKinds.{ends-kinds, deep-kinds}
 use Rattle.mufom_read.proofs.ended.Walk.{bytes-append, size-append, records-append}
 use Rattle.mufom_read.proofs.ended.Header.{last-append, ended-read, ended-raw, offsets-append, after_header}
+use Rattle.mufom_read.proofs.ended.Seen.{seen_later, IsOutside, seen_as, no_records}
 use Rattle.mufom_read.proofs.ended.Parts.{IsKept, KeptFrom, AllInside, location_inside, extent, not_end, no_offset}
 use Rattle.mufom_read.proofs.ended.Chunks.{is_within, is_after}
 use Rattle.mufom_read.proofs.ended.Stated.{first_at}
 use Rattle.mufom_read.proofs.spelled.Begin.{record_some, begins_grown}
-use Rattle.mufom_read.proofs.spelled.Walk.{steps_of, raw_steps, steps_bytes, steps_records, raw_bytes, raw_none, IsStep, sound_step, sound-append, next_read}
+use Rattle.mufom_read.proofs.spelled.Walk.{steps_of, raw_steps, steps_bytes, steps_records, raw_bytes, raw_none, IsStep, sound_step, sound-append, next_within}
+use Rattle.mufom_records.specs.declared.options.ReadOptions.{ReadOptions}
 
 -- ---- a place in a part
 
@@ -48,18 +51,19 @@ none_inside part from to all prefix within offsets low high =
 
 -- ---- bytes that are not read as records
 
-raw_is_step : (reads_debug : Bool) (part : Part) (from to : ℕ) (all : List ℕ) (before : List Step) (b : ℕ) (after : List ℕ)
-    → AllInside part from to all → is_raw reads_debug part ≡ true
-    → Inside from to all before → size_of before < to → IsStep reads_debug before (raw b) after
-raw_is_step reads_debug part from to all before b after within is at below =
+raw_is_step : (options : ReadOptions) (part : Part) (from to : ℕ) (all : List ℕ) (before : List Step) (b : ℕ) (after : List ℕ)
+    → AllInside part from to all → is_raw options.debug part ≡ true
+    → Inside from to all before → size_of before < to → IsStep options before (raw b) after
+raw_is_step options part from to all before b after within is at below =
     let rest = b ∷ after in
     let offset = location_inside part from to all before within at.many at.offsets at.begun below in
     record {
       unended = at.unended;
       whole = at.whole below;
       own = refl;
-      next = ap (λ (q : Location). step_at reads_debug before q rest) offset
-          ∙ ap (λ t. cond t (raw_step rest) (as_step (size_of before) rest (record_at (body_mode before (extent part from to) rest) rest))) is;
+      next = ap (λ (q : Location). step_at options before q rest) offset
+          ∙ ap (λ t. cond t (raw_step rest) (as_step (size_of before) rest (record_within (bytes_to_debug options before)
+          (body_mode options before (extent part from to) rest) rest))) is;
     }
 
 raw_inside : (part : Part) (from to : ℕ) (all : List ℕ) (before : List Step) (b : ℕ) → AllInside part from to all → Inside from to all before
@@ -76,14 +80,14 @@ raw_inside part from to all before b within at =
       whole = λ below. none_inside part from to all prefix within offsets (omega (arith, at.begun, size)) below;
     }
 
-raw_sound : (reads_debug : Bool) (part : Part) (from to : ℕ) (all : List ℕ) (before : List Step) (bytes after : List ℕ) → AllInside part from to all
-    → is_raw reads_debug part ≡ true
-    → Inside from to all before → size_of before + length bytes ≡ to → IsSoundFrom reads_debug before (raw_steps bytes) (bytes ++ after)
-raw_sound reads_debug part from to all before [] after within is at total = tt
-raw_sound reads_debug part from to all before (b ∷ bytes) after within is at total =
-    sound_step reads_debug before (raw b) (raw_steps bytes) (bytes
-    ++ after) (raw_is_step reads_debug part from to all before b (bytes ++ after) within is at (omega arith))
-    (raw_sound reads_debug part from to all (before ++ raw b ∷ []) bytes after within is (raw_inside part from to all before b within at)
+raw_sound : (options : ReadOptions) (part : Part) (from to : ℕ) (all : List ℕ) (before : List Step) (bytes after : List ℕ) → AllInside part from to all
+    → is_raw options.debug part ≡ true
+    → Inside from to all before → size_of before + length bytes ≡ to → IsSoundFrom options before (raw_steps bytes) (bytes ++ after)
+raw_sound options part from to all before [] after within is at total = tt
+raw_sound options part from to all before (b ∷ bytes) after within is at total =
+    sound_step options before (raw b) (raw_steps bytes) (bytes
+    ++ after) (raw_is_step options part from to all before b (bytes ++ after) within is at (omega arith))
+    (raw_sound options part from to all (before ++ raw b ∷ []) bytes after within is (raw_inside part from to all before b within at)
     (let size = size-append before (raw b ∷ []) in omega arith))
 
 -- ---- records
@@ -114,14 +118,14 @@ no_fault_here part from to before p below own keeps =
     not_above a b h = grind arith
 
 -- the mode in which the record is read
-mode_here : (items a b : Bool) (p : SpelledRecord) (rest : List ℕ) (next : Option ℕ) → (a && b) ≡ items
-    → IsWholeRecord (mode_of items p.bytes) p.row p.bytes next
-    → IsWholeRecord (cond (a && (b && begins_item (p.bytes ++ rest))) mode.Items mode.Body) p.row p.bytes next
-mode_here items a b p rest next flag is =
-    let some = record_some (items && begins_item p.bytes) p.row p.bytes next is in
+mode_here : (options : ReadOptions) (items a b : Bool) (p : SpelledRecord) (rest : List ℕ) (next : Option ℕ) → (a && b) ≡ items
+    → IsWholeRecord (mode_of options items p.bytes) p.row p.bytes next
+    → IsWholeRecord (cond (a && (b && begins_item (p.bytes ++ rest))) (items_mode options) mode.Body) p.row p.bytes next
+mode_here options items a b p rest next flag is =
+    let some = record_some options (items && begins_item p.bytes) p.row p.bytes next is in
     let same : (items && begins_item p.bytes) ≡ (a && (b && begins_item (p.bytes ++ rest))) =
     (λ i. sym flag i && begins_item p.bytes) ∙ and_assoc a b (begins_item p.bytes) ∙ (λ i. a && (b && sym (begins_grown p.bytes rest some) i)) in
-    subst (λ (t : Bool). IsWholeRecord (cond t mode.Items mode.Body) p.row p.bytes next) same is
+    subst (λ (t : Bool). IsWholeRecord (cond t (items_mode options) mode.Body) p.row p.bytes next) same is
   where
     and_assoc : (x y z : Bool) → ((x && y) && z) ≡ (x && (y && z))
     and_assoc true y z = refl
@@ -131,23 +135,66 @@ mode_here items a b p rest next flag is =
 abbrev awaiting : ℕ → List Step → Bool
 awaiting from before = not (size_of before == from) && awaits_items (last_or None (records_of before))
 
-read_is_step : (reads_debug : Bool) (part : Part) (from to : ℕ) (all : List ℕ) (items : Bool) (before : List Step) (p : SpelledRecord)
-    (after : List ℕ) → AllInside part from to all → is_raw reads_debug part ≡ false → IsPlain part
-    → Inside from to all before → awaiting from before ≡ items → size_of before < to → size_of before + length p.bytes ≤ to → stands_in part p.row
-    ≡ true → IsKept (records_of before) p
-    → IsWholeRecord (mode_of items p.bytes) p.row p.bytes (first_of after None) → IsStep reads_debug before (read (size_of before) p) after
-read_is_step reads_debug part from to all items before p after within is plain at flag below inside own keeps whole_p =
-    let rest = p.bytes ++ after in
+-- what is around a part with these offsets: the debug part does not begin in it, its records see these bytes after it, and the
+-- stream reaches beyond the start of the debug part
+pub record Around (options : ReadOptions) (all : List ℕ) (from to : ℕ) (seen after : List ℕ) : Type 0 where
+  pub outside : IsOutside from to (debug_offset all)
+  pub sees : from < to → first_of (seen_later options all to after) None ≡ first_of seen None
+  pub deep : ends_before_debug options all ≡ true → debug_offset all < to + length after
+
+-- a record ends before the debug part, which begins in the stream
+within_bounds : (options : ReadOptions) (all : List ℕ) (from to : ℕ) (seen after : List ℕ) (before : List Step) (text own : List ℕ)
+    → Around options all from to seen after → offsets_of before ≡ all → from ≤ size_of before → size_of before + length text + length own ≡ to
+    → IfSome (bytes_to_debug options before) (λ n. (length text ≤ n) × (n < length (text ++ (own ++ after))))
+within_bounds options all from to seen after before text own around offsets begun total =
+    subst (λ (ws : List ℕ). IfSome (cond (ends_before_debug options ws && nat_lt (size_of before) (debug_offset ws))
+    (Some (debug_offset ws - size_of before)) None) (λ n. (length text ≤ n) × (n < length (text ++ (own ++ after))))) (sym offsets)
+    (by_tests (ends_before_debug options all) (nat_lt (size_of before) (debug_offset all)) refl refl)
+  where
+    by_tests : (t b : Bool) → ends_before_debug options all ≡ t → nat_lt (size_of before) (debug_offset all) ≡ b
+        → IfSome (cond (t && b) (Some (debug_offset all - size_of before)) None) (λ n. (length text ≤ n) × (n < length (text ++ (own ++ after))))
+    by_tests false b ends below = tt
+    by_tests true false ends below = tt
+    by_tests true true ends below =
+        let low = ltb-true (size_of before) (debug_offset all) below in
+        let deep = around.deep ends in
+        let lengths = length-append text (own ++ after) in
+        let more = length-append own after in
+        elim around.outside [
+          | inl none ↦ absurd (omega (arith, low, none))
+          | inr placed ↦ elim placed [
+            | inl before_it ↦ absurd (omega (arith, low, before_it, begun))
+            | inr after_it ↦ (omega (arith, after_it, total, low), omega (arith, deep, total, lengths, more, low))
+          ]
+        ]
+
+read_is_step : (options : ReadOptions) (part : Part) (from to : ℕ) (all : List ℕ) (items : Bool) (before : List Step) (p : SpelledRecord)
+    (own_bytes seen after : List ℕ) → AllInside part from to all → is_raw options.debug part ≡ false → IsPlain part
+    → Inside from to all before → Around options all from to seen after → awaiting from before ≡ items → size_of before < to
+    → size_of before + length p.bytes + length own_bytes ≡ to → stands_in part p.row ≡ true → IsKept (records_of before) p
+    → IsWholeRecord (mode_of options items p.bytes) p.row p.bytes (first_of (own_bytes ++ seen) None)
+    → IsStep options before (read (size_of before) p) (own_bytes ++ after)
+read_is_step options part from to all items before p own_bytes seen after within is plain at around flag below total own keeps whole_p =
+    let rest = p.bytes ++ (own_bytes ++ after) in
     let e = extent part from to in
     let offset = location_inside part from to all before within at.many at.offsets at.begun below in
-    let m = body_mode before e rest in
+    let m = body_mode options before e rest in
+    let some = record_some options (items && begins_item p.bytes) p.row p.bytes (first_of (own_bytes ++ seen) None) whole_p in
+    let seen_is : next_seen (bytes_to_debug options before) (length p.bytes) rest ≡ first_of (own_bytes ++ seen) None =
+    seen_as options before all from to p.bytes own_bytes after at.offsets around.outside at.begun (omega (arith, some)) total
+    ∙ first_of-append own_bytes (seen_later options all to after) None ∙ ap (first_of own_bytes) (around.sees (omega (arith, at.begun, below)))
+    ∙ sym (first_of-append own_bytes seen None) in
+    let whole_here = subst (λ (n : Option ℕ). IsWholeRecord (mode_of options items p.bytes) p.row p.bytes n) (sym seen_is) whole_p in
     record {
       unended = at.unended;
       whole = at.whole below;
-      own = ap (λ (q : Location). record_fault before q (size_of before) p) offset ∙ no_fault_here part from to before p inside own keeps;
-      next = next_read reads_debug before (in_part e) m p after offset
-          (ap (λ t. cond t (raw_step rest) (as_step (size_of before) rest (record_at m rest))) is)
-          (mode_here items (not (size_of before == from)) (awaits_items (last_or None (records_of before))) p after (first_of after None) flag whole_p);
+      own = ap (λ (q : Location). record_fault before q (size_of before) p) offset
+          ∙ no_fault_here part from to before p (omega (arith, total)) own keeps;
+      next = next_within options before (in_part e) (bytes_to_debug options before) m p (own_bytes ++ after) offset
+          (ap (λ t. cond t (raw_step rest) (as_step (size_of before) rest (record_within (bytes_to_debug options before) m rest))) is)
+          (mode_here options items (not (size_of before == from)) (awaits_items (last_or None (records_of before))) p (own_bytes ++ after)
+          (next_seen (bytes_to_debug options before) (length p.bytes) rest) flag whole_here)
+          (within_bounds options all from to seen after before p.bytes own_bytes around at.offsets at.begun total);
     }
 
 read_inside : (part : Part) (from to : ℕ) (all : List ℕ) (before : List Step) (p : SpelledRecord) → AllInside part from to all → IsPlain part
@@ -180,29 +227,30 @@ awaits_next from before p begun some =
     ap (λ ps. awaits_items (last_or None ps)) (records-append before (it ∷ [])) ∙ ap (λ o. awaits_items o) (last-append None (records_of before) p) in
     (λ i. after i && last i)
 
-read_sound : (reads_debug : Bool) (part : Part) (from to : ℕ) (all : List ℕ) (items : Bool) (before : List Step) (records : List SpelledRecord)
-    (after : List ℕ) → AllInside part from to all → is_raw reads_debug part ≡ false → IsPlain part
-    → Inside from to all before → awaiting from before ≡ items → AreWhole items records after → KeptFrom part (records_of before) records
+read_sound : (options : ReadOptions) (part : Part) (from to : ℕ) (all : List ℕ) (items : Bool) (before : List Step) (records : List SpelledRecord)
+    (seen after : List ℕ) → AllInside part from to all → is_raw options.debug part ≡ false → IsPlain part
+    → Inside from to all before → Around options all from to seen after → awaiting from before ≡ items → AreWhole options items records seen
+    → KeptFrom part (records_of before) records
     → size_of before + length (bytes_of records) ≡ to
-    → IsSoundFrom reads_debug before (steps_of (size_of before) records) (bytes_of records ++ after)
-read_sound reads_debug part from to all items before [] after within is plain at flag are own total = tt
-read_sound reads_debug part from to all items before (p ∷ records) after within is plain at flag are own total =
+    → IsSoundFrom options before (steps_of (size_of before) records) (bytes_of records ++ after)
+read_sound options part from to all items before [] seen after within is plain at around flag are own total = tt
+read_sound options part from to all items before (p ∷ records) seen after within is plain at around flag are own total =
     let it = read (size_of before) p in
     let prefix = before ++ it ∷ [] in
     let rest = bytes_of records ++ after in
-    let some = record_some (items && begins_item p.bytes) p.row p.bytes (first_of rest None) are.0 in
+    let some = record_some options (items && begins_item p.bytes) p.row p.bytes (first_of (bytes_of records ++ seen) None) are.0 in
     let all_in = length-append p.bytes (bytes_of records) in
     let size : size_of prefix ≡ size_of before + length p.bytes = size-append before (it ∷ [])
     ∙ ap (λ (l : List ℕ). size_of before + length l) (append-nil p.bytes) in
-    let step = read_is_step reads_debug part from to all items before p rest within is plain at flag (omega (arith, all_in, some, total))
-    (omega (arith, all_in, total)) own.0 own.1 are.0 in
-    let later = read_sound reads_debug part from to all (opens_items p.row) prefix records after within is plain
-    (read_inside part from to all before p within plain at own.0 some)
+    let step = read_is_step options part from to all items before p (bytes_of records) seen after within is plain at around flag
+    (omega (arith, all_in, some, total)) (omega (arith, all_in, total)) own.0 own.1 are.0 in
+    let later = read_sound options part from to all (opens_items p.row) prefix records seen after within is plain
+    (read_inside part from to all before p within plain at own.0 some) around
     (awaits_next from before p at.begun some) are.1 (subst (λ (l : List SpelledRecord). KeptFrom part l records)
     (sym (records-append before (it ∷ []))) own.2) (omega (arith, size, all_in, total)) in
-    subst (λ (l : List ℕ). IsSoundFrom reads_debug before (steps_of (size_of before) (p ∷ records)) l) (sym (append_assoc p.bytes (bytes_of records) after))
-    (sound_step reads_debug before it (steps_of (size_of before + length p.bytes) records) rest step
-    (subst (λ (n : ℕ). IsSoundFrom reads_debug prefix (steps_of n records) rest) size later))
+    subst (λ (l : List ℕ). IsSoundFrom options before (steps_of (size_of before) (p ∷ records)) l) (sym (append_assoc p.bytes (bytes_of records) after))
+    (sound_step options before it (steps_of (size_of before + length p.bytes) records) rest step
+    (subst (λ (n : ℕ). IsSoundFrom options prefix (steps_of n records) rest) size later))
 
 -- ---- what fills a part
 
@@ -214,9 +262,9 @@ pub record Joint (all : List ℕ) (before : List Step) : Type 0 where
   pub whole : ended_part_fault before ≡ None
 
 -- steps that fill a part with these bytes
-pub record Content (reads_debug : Bool) (part : Part) (before own : List Step) (bytes after : List ℕ) : Type 0 where
-  pub goes_on : (all : List ℕ) → AllInside part (size_of before) (size_of before + length bytes) all → Joint all before
-      → IsSoundFrom reads_debug before own (bytes ++ after)
+pub record Content (options : ReadOptions) (all : List ℕ) (part : Part) (before own : List Step) (bytes after : List ℕ) : Type 0 where
+  pub goes_on : AllInside part (size_of before) (size_of before + length bytes) all → Joint all before
+      → IsSoundFrom options before own (bytes ++ after)
   pub its_bytes : prefix_bytes own ≡ bytes
   pub none : length bytes ≡ 0 → own ≡ []
   pub no_offsets : offsets_of own ≡ []
@@ -237,10 +285,10 @@ ended-raws before bytes =
       ends None = false
       ends (Some p) = is_module_end p.row
 
-pub raw_content : (reads_debug : Bool) (part : Part) (before : List Step) (bytes after : List ℕ) → is_raw reads_debug part ≡ true
-    → whole_fault part (before ++ raw_steps bytes) ≡ None → Content reads_debug part before (raw_steps bytes) bytes after
-raw_content reads_debug part before bytes after is whole = record {
-  goes_on = λ all within at. raw_sound reads_debug part (size_of before) (size_of before + length bytes) all before bytes after within is
+pub raw_content : (options : ReadOptions) (all : List ℕ) (part : Part) (before : List Step) (bytes after : List ℕ) → is_raw options.debug part ≡ true
+    → whole_fault part (before ++ raw_steps bytes) ≡ None → Content options all part before (raw_steps bytes) bytes after
+raw_content options all part before bytes after is whole = record {
+  goes_on = λ within at. raw_sound options part (size_of before) (size_of before + length bytes) all before bytes after within is
       (joint_inside (size_of before) (size_of before + length bytes) all before at refl) refl;
   its_bytes = raw_bytes bytes;
   none = λ h. ap raw_steps (empty bytes h);
@@ -252,12 +300,6 @@ raw_content reads_debug part before bytes after is whole = record {
     empty : (l : List ℕ) → length l ≡ 0 → l ≡ []
     empty [] h = refl
     empty (b ∷ l) h = absurd (omega arith)
-
-pub no_records : (items : Bool) (records : List SpelledRecord) (after : List ℕ) → AreWhole items records after → length (bytes_of records) ≡ 0 → records ≡ []
-no_records items [] after are h = refl
-no_records items (p ∷ records) after are h =
-    let some = record_some (items && begins_item p.bytes) p.row p.bytes (first_of (bytes_of records ++ after) None) are.0 in
-    absurd (omega (arith, length-append p.bytes (bytes_of records)))
 
 no_offset_in : (part : Part) (before records : List SpelledRecord) → KeptFrom part before records → offsets_in records ≡ []
 no_offset_in part before [] own = refl
@@ -272,17 +314,18 @@ ended-reads part before at earlier (p ∷ records) plain own open_ =
     ∙ ended-reads part (before ++ read at p ∷ []) (at + length p.bytes) (earlier ++ p ∷ []) records plain own.2 (ended-read before at p
     ∙ not_end part p.row plain own.0)
 
-pub read_content : (reads_debug : Bool) (part : Part) (before : List Step) (records : List SpelledRecord) (after : List ℕ) → is_raw reads_debug part
-    ≡ false → IsPlain part → AreWhole false records after → KeptFrom part (records_of before) records
+pub read_content : (options : ReadOptions) (all : List ℕ) (part : Part) (before : List Step) (records : List SpelledRecord) (seen after : List ℕ)
+    → is_raw options.debug part ≡ false → IsPlain part → Around options all (size_of before) (size_of before + length (bytes_of records)) seen after
+    → AreWhole options false records seen → KeptFrom part (records_of before) records
     → whole_fault part (before ++ steps_of (size_of before) records) ≡ None
-    → Content reads_debug part before (steps_of (size_of before) records) (bytes_of records) after
-read_content reads_debug part before records after is plain are own whole = record {
-  goes_on = λ all within at. read_sound reads_debug part (size_of before) (size_of before + length (bytes_of records)) all false before records after
+    → Content options all part before (steps_of (size_of before) records) (bytes_of records) after
+read_content options all part before records seen after is plain around are own whole = record {
+  goes_on = λ within at. read_sound options part (size_of before) (size_of before + length (bytes_of records)) all false before records seen after
       within is plain
-      (joint_inside (size_of before) (size_of before + length (bytes_of records)) all before at refl)
+      (joint_inside (size_of before) (size_of before + length (bytes_of records)) all before at refl) around
       (ap (λ b. not b && awaits_items (last_or None (records_of before))) (eq-eqb (size_of before) (size_of before) refl)) are own refl;
   its_bytes = steps_bytes (size_of before) records;
-  none = λ h. ap (steps_of (size_of before)) (no_records false records after are h);
+  none = λ h. ap (steps_of (size_of before)) (no_records options false records seen are h);
   no_offsets = ap offsets_in (steps_records (size_of before) records) ∙ no_offset_in part (records_of before) records own;
   unended = λ open_. ended-reads part before (size_of before) (records_of before) records plain own open_;
   whole = whole;
@@ -291,15 +334,16 @@ read_content reads_debug part before records after is plain are own whole = reco
 -- ---- all parts
 
 -- contents of the parts, one after another, with these bytes after the last
-abbrev pub Contents : Bool → List Part → List Step → List (List Step) → List (List ℕ) → List ℕ → Type 0
-Contents reads_debug [] before [] [] after = Unit {0}
-Contents reads_debug (part ∷ parts) before (own ∷ contents) (bytes ∷ texts) after = Content reads_debug part before own bytes (joined texts ++ after)
-    × Contents reads_debug parts (before ++ own) contents texts after
-Contents reads_debug _ before _ _ after = ⊥
+abbrev pub Contents : ReadOptions → List ℕ → List Part → List Step → List (List Step) → List (List ℕ) → List ℕ → Type 0
+Contents options all [] before [] [] after = Unit {0}
+Contents options all (part ∷ parts) before (own ∷ contents) (bytes ∷ texts) after = Content options all part before own bytes (joined texts ++ after)
+    × Contents options all parts (before ++ own) contents texts after
+Contents options all _ before _ _ after = ⊥
 
 -- a sound prefix up to the end of the parts
-pub record Parted (reads_debug : Bool) (all : List ℕ) (before : List Step) (contents : List (List Step)) (texts : List (List ℕ)) (after : List ℕ) : Type 0 where
-  pub sound : IsSoundFrom reads_debug before (joined contents) (joined texts ++ after)
+pub record Parted (options : ReadOptions) (all : List ℕ) (before : List Step) (contents : List (List Step)) (texts : List (List ℕ))
+    (after : List ℕ) : Type 0 where
+  pub sound : IsSoundFrom options before (joined contents) (joined texts ++ after)
   pub joint : Joint all (before ++ joined contents)
   pub place : location_after (before ++ joined contents) ≡ at_end
   pub bytes : prefix_bytes (joined contents) ≡ joined texts
@@ -328,12 +372,12 @@ places_after all part parts w n m offsets offsets_named low first = λ at from.
     (part_among parts offsets at)) (is_after w at (first_present offsets) (omega arith))
 
 -- after a part
-joint_after : (reads_debug : Bool) (all : List ℕ) (part : Part) (before own : List Step) (bytes after : List ℕ)
-    → (c : Content reads_debug part before own bytes after) → AllInside part (size_of before) (size_of before + length bytes) all
+joint_after : (options : ReadOptions) (all : List ℕ) (part : Part) (before own : List Step) (bytes after : List ℕ)
+    → (c : Content options all part before own bytes after) → AllInside part (size_of before) (size_of before + length bytes) all
     → Joint all before → (count : ℕ) → length bytes ≡ count → Joint all (before ++ own)
-joint_after reads_debug all part before own bytes after c within at zero count =
+joint_after options all part before own bytes after c within at zero count =
     subst (λ (l : List Step). Joint all l) (sym (append-nil before) ∙ ap (λ l. before ++ l) (sym (c.none count))) at
-joint_after reads_debug all part before own bytes after c within at (suc n) count =
+joint_after options all part before own bytes after c within at (suc n) count =
     let grown : offsets_of (before ++ own) ≡ all = offsets-append before own ∙ (λ i. at.offsets i ++ c.no_offsets i) ∙ append-nil all in
     let size : size_of (before ++ own) ≡ size_of before + length bytes = size-append before own ∙ ap (λ (l : List ℕ). size_of before + length l) c.its_bytes in
     let offset : part_at (before ++ own) (size_of (before ++ own) - 1) ≡ Some (extent part (size_of before) (size_of before + length bytes)) =
@@ -350,11 +394,11 @@ joint_after reads_debug all part before own bytes after c within at (suc n) coun
     either_none true o h = h
     either_none false o h = refl
 
-pub walk_contents : (reads_debug : Bool) (all : List ℕ) (parts : List Part) (offsets : List ℕ) (before : List Step) (contents : List (List Step))
+pub walk_contents : (options : ReadOptions) (all : List ℕ) (parts : List Part) (offsets : List ℕ) (before : List Step) (contents : List (List Step))
     (texts : List (List ℕ)) (after : List ℕ) → Places all parts offsets (size_of before)
-    → StandAt offsets (size_of before) texts → 1 ≤ size_of before → Contents reads_debug parts before contents texts after → Joint all before
-    → Parted reads_debug all before contents texts after
-walk_contents reads_debug all [] offsets before [] [] after offsets_named stand some fill at =
+    → StandAt offsets (size_of before) texts → 1 ≤ size_of before → Contents options all parts before contents texts after → Joint all before
+    → Parted options all before contents texts after
+walk_contents options all [] offsets before [] [] after offsets_named stand some fill at =
     let same = append-nil before in
     record {
       sound = tt;
@@ -363,27 +407,27 @@ walk_contents reads_debug all [] offsets before [] [] after offsets_named stand 
           ∙ ap location_by (offsets_named (size_of before) (omega arith));
       bytes = refl;
     }
-walk_contents reads_debug all [] offsets before [] (bytes ∷ texts) after offsets_named stand some fill at = absurd fill
-walk_contents reads_debug all [] offsets before (own ∷ contents) texts after offsets_named stand some fill at = absurd fill
-walk_contents reads_debug all (part ∷ parts) offsets before [] texts after offsets_named stand some fill at = absurd fill
-walk_contents reads_debug all (part ∷ parts) offsets before (own ∷ contents) [] after offsets_named stand some fill at = absurd fill
-walk_contents reads_debug all (part ∷ parts) [] before (own ∷ contents) (bytes ∷ texts) after offsets_named stand some fill at = absurd stand
-walk_contents reads_debug all (part ∷ parts) (w ∷ offsets) before (own ∷ contents) (bytes ∷ texts) after offsets_named stand some fill at =
+walk_contents options all [] offsets before [] (bytes ∷ texts) after offsets_named stand some fill at = absurd fill
+walk_contents options all [] offsets before (own ∷ contents) texts after offsets_named stand some fill at = absurd fill
+walk_contents options all (part ∷ parts) offsets before [] texts after offsets_named stand some fill at = absurd fill
+walk_contents options all (part ∷ parts) offsets before (own ∷ contents) [] after offsets_named stand some fill at = absurd fill
+walk_contents options all (part ∷ parts) [] before (own ∷ contents) (bytes ∷ texts) after offsets_named stand some fill at = absurd stand
+walk_contents options all (part ∷ parts) (w ∷ offsets) before (own ∷ contents) (bytes ∷ texts) after offsets_named stand some fill at =
     let c = fill.0 in
     let rest = joined texts ++ after in
     let first = first_at offsets (size_of before + length bytes) texts (omega arith) stand.1 in
     let within = within_part all part parts w (size_of before) offsets bytes offsets_named stand.0 some first in
     let size : size_of (before ++ own) ≡ size_of before + length bytes = size-append before own ∙ ap (λ (l : List ℕ). size_of before + length l) c.its_bytes in
-    let joint = joint_after reads_debug all part before own bytes rest c within at (length bytes) refl in
-    let later = walk_contents reads_debug all parts offsets (before ++ own) contents texts after
+    let joint = joint_after options all part before own bytes rest c within at (length bytes) refl in
+    let later = walk_contents options all parts offsets (before ++ own) contents texts after
     (places_after all part parts w (size_of before) (size_of (before ++ own)) offsets offsets_named (omega arith) (first ∙ sym size))
     (subst (λ (n : ℕ). StandAt offsets n texts) (sym size) stand.1) (omega arith) fill.1 joint in
     let same = append_assoc before own (joined contents) in
     record {
-      sound = subst (λ (l : List ℕ). IsSoundFrom reads_debug before (own ++ joined contents) l) (ap (λ l. l ++ rest) c.its_bytes
+      sound = subst (λ (l : List ℕ). IsSoundFrom options before (own ++ joined contents) l) (ap (λ l. l ++ rest) c.its_bytes
           ∙ sym (append_assoc bytes (joined texts) after))
-          (sound-append reads_debug before own (joined contents) rest
-          (subst (λ (l : List ℕ). IsSoundFrom reads_debug before own (l ++ rest)) (sym c.its_bytes) (c.goes_on all within at)) later.sound);
+          (sound-append options before own (joined contents) rest
+          (subst (λ (l : List ℕ). IsSoundFrom options before own (l ++ rest)) (sym c.its_bytes) (c.goes_on within at)) later.sound);
       joint = subst (λ (l : List Step). Joint all l) same later.joint;
       place = ap location_after (sym same) ∙ later.place;
       bytes = bytes-append own (joined contents) ∙ (λ i. c.its_bytes i ++ later.bytes i);

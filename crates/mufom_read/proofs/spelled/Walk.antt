@@ -1,13 +1,14 @@
 -- The records of a file as steps, and how a sound prefix goes on with one.
 use Rattle.std.proofs.Common.{◌≡◌, ◌⊎◌, ℕ, ◌+◌, ◌-◌, ◌<◌, ◌≤◌, Bool, true, false, cond, not, ◌==◌, ◌&&◌, nat_lt, nat_le, List, [], ◌∷◌, ◌++◌, length}
-use Rattle.std.proofs.Common.{map, drop, Option, Some, None, refl, sym, ap, subst, ◌∙◌, inl, inr, arith, append_assoc, append-nil}
+use Rattle.std.proofs.Common.{map, drop, Option, Some, None, refl, sym, ap, subst, ◌∙◌, inl, inr, arith, append_assoc, append-nil, IfSome}
 use Rattle.std.specs.List.{AllByRecursion}
 use Rattle.std.specs.Option.{option_or}
 use Rattle.std.proofs.lemmas.List.{take_at, drop_at}
 use Rattle.mufom_records.specs.declared.record.Mode.{Mode}
 use Rattle.mufom_records.specs.Fields.{first_of}
 use Rattle.mufom_records.specs.Layouts.{IsWholeRecord}
-use Rattle.mufom_records.specs.Reading.{record_at}
+use Rattle.mufom_records.specs.Reading.{record_at, record_within, next_seen}
+use Rattle.mufom_records.proofs.BeforeLaws.{record_within-only}
 use Rattle.mufom_records.proofs.RecordLaws.{record_at-only}
 use Rattle.mufom_module.specs.SpelledRecords.{SpelledRecord, bytes_of}
 use Rattle.mufom_module.specs.RecordParts.{Part}
@@ -16,6 +17,7 @@ use Rattle.mufom_read.specs.Prefixes.{part_among, parts_in_order, location_after
 use Rattle.mufom_read.specs.Faults.{ended_fault, ended_part_fault, step_fault}
 use Rattle.mufom_read.specs.Judging.{IsSoundFrom}
 use Rattle.mufom_read.proofs.ended.Walk.{the_record, taken}
+use Rattle.mufom_records.specs.declared.options.ReadOptions.{ReadOptions}
 
 -- ---- steps
 
@@ -47,46 +49,60 @@ raw_none (b ∷ bytes) = raw_none bytes
 -- ---- one step
 
 -- the next step has no error, and neither has a part that ends before it
-pub record IsStep (reads_debug : Bool) (before : List Step) (step : Step) (after : List ℕ) : Type 0 where
+pub record IsStep (options : ReadOptions) (before : List Step) (step : Step) (after : List ℕ) : Type 0 where
   pub unended : is_ended before ≡ false
   pub whole : ended_part_fault before ≡ None
   pub own : step_fault before (taken step (length (step_bytes step))) ≡ None
-  pub next : next_step reads_debug before (step_bytes step ++ after) ≡ taken step (length (step_bytes step))
+  pub next : next_step options before (step_bytes step ++ after) ≡ taken step (length (step_bytes step))
 
-pub sound_step : (reads_debug : Bool) (before : List Step) (step : Step) (steps : List Step) (after : List ℕ) → IsStep reads_debug before step after
-    → IsSoundFrom reads_debug (before ++ step ∷ []) steps after
-    → IsSoundFrom reads_debug before (step ∷ steps) (step_bytes step ++ after)
-sound_step reads_debug before step steps after is later = (
+pub sound_step : (options : ReadOptions) (before : List Step) (step : Step) (steps : List Step) (after : List ℕ) → IsStep options before step after
+    → IsSoundFrom options (before ++ step ∷ []) steps after
+    → IsSoundFrom options before (step ∷ steps) (step_bytes step ++ after)
+sound_step options before step steps after is later = (
   is.unended,
   (λ i. option_or (is.whole i) (step_fault before (is.next i))) ∙ is.own,
   is.next,
-  subst (λ (l : List ℕ). IsSoundFrom reads_debug (before ++ step ∷ []) steps l) (sym (drop_at (step_bytes step) after (length (step_bytes step)) refl)) later,
+  subst (λ (l : List ℕ). IsSoundFrom options (before ++ step ∷ []) steps l) (sym (drop_at (step_bytes step) after (length (step_bytes step)) refl)) later,
 )
 
-pub sound-append : (reads_debug : Bool) (before a b : List Step) (rest : List ℕ) → IsSoundFrom reads_debug before a (prefix_bytes a ++ rest)
-    → IsSoundFrom reads_debug (before ++ a) b rest
-    → IsSoundFrom reads_debug before (a ++ b) (prefix_bytes a ++ rest)
-sound-append reads_debug before [] b rest x y = subst (λ (l : List Step). IsSoundFrom reads_debug l b rest) (append-nil before) y
-sound-append reads_debug before (s ∷ a) b rest x y =
+pub sound-append : (options : ReadOptions) (before a b : List Step) (rest : List ℕ) → IsSoundFrom options before a (prefix_bytes a ++ rest)
+    → IsSoundFrom options (before ++ a) b rest
+    → IsSoundFrom options before (a ++ b) (prefix_bytes a ++ rest)
+sound-append options before [] b rest x y = subst (λ (l : List Step). IsSoundFrom options l b rest) (append-nil before) y
+sound-append options before (s ∷ a) b rest x y =
     let n = length (step_bytes s) in
     let split : drop n (prefix_bytes (s ∷ a) ++ rest) ≡ prefix_bytes a ++ rest = ap (drop n) (append_assoc (step_bytes s) (prefix_bytes a) rest)
     ∙ drop_at (step_bytes s) (prefix_bytes a ++ rest) n refl in (
       x.0,
       x.1,
       x.2,
-      subst (λ (l : List ℕ). IsSoundFrom reads_debug (before ++ s ∷ []) (a ++ b) l) (sym split)
-          (sound-append reads_debug (before ++ s ∷ []) a b rest (subst (λ (l : List ℕ). IsSoundFrom reads_debug (before ++ s ∷ []) a l) split x.3)
-          (subst (λ (l : List Step). IsSoundFrom reads_debug l b rest) (sym (append_assoc before (s ∷ []) a)) y)),
+      subst (λ (l : List ℕ). IsSoundFrom options (before ++ s ∷ []) (a ++ b) l) (sym split)
+          (sound-append options (before ++ s ∷ []) a b rest (subst (λ (l : List ℕ). IsSoundFrom options (before ++ s ∷ []) a l) split x.3)
+          (subst (λ (l : List Step). IsSoundFrom options l b rest) (sym (append_assoc before (s ∷ []) a)) y)),
     )
 
 -- the next step is a record
-pub next_read : (reads_debug : Bool) (before : List Step) (offset : Location) (m : Mode) (p : SpelledRecord) (after : List ℕ) → location_after before ≡ offset
-    → step_at reads_debug before offset (p.bytes ++ after) ≡ as_step (size_of before) (p.bytes ++ after) (record_at m (p.bytes ++ after))
-    → IsWholeRecord m p.row p.bytes (first_of after None) → next_step reads_debug before (p.bytes ++ after) ≡ taken (read (size_of before) p) (length p.bytes)
-next_read reads_debug before offset m p after here as_it is =
+pub next_read : (options : ReadOptions) (before : List Step) (offset : Location) (m : Mode) (p : SpelledRecord) (after : List ℕ)
+    → location_after before ≡ offset
+    → step_at options before offset (p.bytes ++ after) ≡ as_step (size_of before) (p.bytes ++ after) (record_at m (p.bytes ++ after))
+    → IsWholeRecord m p.row p.bytes (first_of after None) → next_step options before (p.bytes ++ after) ≡ taken (read (size_of before) p) (length p.bytes)
+next_read options before offset m p after here as_it is =
     let rest = p.bytes ++ after in
-    ap (λ (q : Location). step_at reads_debug before q rest) here ∙ as_it
+    ap (λ (q : Location). step_at options before q rest) here ∙ as_it
     ∙ ap (as_step (size_of before) rest) (record_at-only m rest p.row p.bytes after is refl)
+    ∙ ap (λ l. taken (read (size_of before) (the_record p.row l)) (length p.bytes)) (take_at p.bytes after (length p.bytes) refl)
+
+-- the same where it is read before bytes that are not records
+pub next_within : (options : ReadOptions) (before : List Step) (offset : Location) (end : Option ℕ) (m : Mode) (p : SpelledRecord) (after : List ℕ)
+    → location_after before ≡ offset
+    → step_at options before offset (p.bytes ++ after) ≡ as_step (size_of before) (p.bytes ++ after) (record_within end m (p.bytes ++ after))
+    → IsWholeRecord m p.row p.bytes (next_seen end (length p.bytes) (p.bytes ++ after))
+    → IfSome end (λ n. (length p.bytes ≤ n) × (n < length (p.bytes ++ after)))
+    → next_step options before (p.bytes ++ after) ≡ taken (read (size_of before) p) (length p.bytes)
+next_within options before offset end m p after here as_it is bounds =
+    let rest = p.bytes ++ after in
+    ap (λ (q : Location). step_at options before q rest) here ∙ as_it
+    ∙ ap (as_step (size_of before) rest) (record_within-only end m p.row p.bytes after is bounds)
     ∙ ap (λ l. taken (read (size_of before) (the_record p.row l)) (length p.bytes)) (take_at p.bytes after (length p.bytes) refl)
 
 -- ---- no part before the first offset

@@ -1,5 +1,5 @@
 -- Bytes of a part that are not read as records, as the code takes them.
-use Rattle.std.proofs.Common.{◌≡◌, ℕ, suc, ◌+◌, ◌-◌, ◌<◌, ◌≤◌, Bool, true, false, true≢false, nat_lt, List, [], ◌∷◌, ◌++◌, length, take, drop, map}
+use Rattle.std.proofs.Common.{◌≡◌, ℕ, suc, ◌+◌, ◌-◌, ◌<◌, ◌≤◌, true, false, true≢false, nat_lt, List, [], ◌∷◌, ◌++◌, length, take, drop, map}
 use Rattle.std.proofs.Common.{Some, None, is_some, cond, refl, sym, ap, subst, ◌∙◌, arith, append-nil, length-append, le-ltb, ltb-false, ne_eqb}
 use Rattle.std.specs.Option.{option_or}
 use Rattle.std.specs.List.{last_or}
@@ -19,7 +19,7 @@ use Rattle.mufom_read.specs.declared.prefix.Next.TheVariants as next
 use Rattle.mufom_read.specs.declared.part.Extent as extents
 use Rattle.mufom_read.specs.Prefixes.{Step, raw, size_of, record_of, records_of, offset_record, offset_records_of, offsets_of, Extent, in_header}
 use Rattle.mufom_read.specs.Prefixes.{in_part, first_present, part_among, parts_in_order, part_at, location_by, location_after, is_raw, raw_step}
-use Rattle.mufom_read.specs.Prefixes.{as_step, step_at, body_mode, next_step, awaits_items, ends_with, is_ended}
+use Rattle.mufom_read.specs.Prefixes.{as_step, step_at, body_mode, next_step, awaits_items, ends_with, is_ended, bytes_to_debug}
 use Rattle.mufom_read.specs.Faults.{whole_fault, step_fault, ended_fault, ended_part_fault}
 use Rattle.mufom_read.specs.Judging.{IsSoundFrom}
 use Rattle.mufom_read.specs.PartsOfCode.{as_part, as_extent}
@@ -30,8 +30,9 @@ use Rattle.mufom_read.proofs.stepping.Place.{part-found}
 use Rattle.mufom_read.proofs.stepping.LocationMoves.{among-stays, location-moves}
 use Rattle.mufom_read.proofs.stepping.Step.{part-within}
 use Rattle.mufom_read.proofs.stepping.Judge.{taken_length}
-use Rattle.mufom_records.specs.Reading.{record_at}
+use Rattle.mufom_records.specs.Reading.{record_within}
 use Rattle.std.proofs.lemmas.List.{take-append-drop}
+use Rattle.mufom_records.specs.declared.options.ReadOptions.{ReadOptions}
 
 nothing : {A : Type 0} {x : A} → Some x ≡ None → ⊥
 nothing e = true≢false (ap is_some e)
@@ -103,23 +104,24 @@ raw-prefix old new prefix e bytes is header found within more =
 placed_in : (prefix : List Step) (e : Extent) → nat_lt (length prefix) 10 ≡ false → part_at prefix (size_of prefix) ≡ Some e → location_after prefix ≡ in_part e
 placed_in prefix e header found = ap (λ b. cond b (in_header (length prefix)) (location_by (part_at prefix (size_of prefix)))) header ∙ ap location_by found
 
-raw_next : (reads_debug : Bool) (prefix : List Step) (e : Extent) (rest : List ℕ) → nat_lt (length prefix) 10 ≡ false
-    → part_at prefix (size_of prefix) ≡ Some e → is_raw reads_debug e.part ≡ true → next_step reads_debug prefix rest ≡ raw_step rest
-raw_next reads_debug prefix e rest header found unread =
-    ap (λ pl. step_at reads_debug prefix pl rest) (placed_in prefix e header found)
-    ∙ ap (λ b. cond b (raw_step rest) (as_step (size_of prefix) rest (record_at (body_mode prefix e rest) rest))) unread
+raw_next : (options : ReadOptions) (prefix : List Step) (e : Extent) (rest : List ℕ) → nat_lt (length prefix) 10 ≡ false
+    → part_at prefix (size_of prefix) ≡ Some e → is_raw options.debug e.part ≡ true → next_step options prefix rest ≡ raw_step rest
+raw_next options prefix e rest header found unread =
+    ap (λ pl. step_at options prefix pl rest) (placed_in prefix e header found)
+    ∙ ap (λ b. cond b (raw_step rest) (as_step (size_of prefix) rest (record_within (bytes_to_debug options prefix)
+    (body_mode options prefix e rest) rest))) unread
 
 -- the same after one more byte, if the part does not end
-record StaysIn (reads_debug : Bool) (prefix : List Step) (e : Extent) : Type 0 where
+record StaysIn (options : ReadOptions) (prefix : List Step) (e : Extent) : Type 0 where
   pub unended : is_ended prefix ≡ false
   pub whole : ended_part_fault prefix ≡ None
   pub header : nat_lt (length prefix) 10 ≡ false
   pub found : part_at prefix (size_of prefix) ≡ Some e
   pub ordered : AreOrdered (offsets_of prefix)
 
-stays_in : (reads_debug : Bool) (prefix : List Step) (e : Extent) (b : ℕ) → StaysIn reads_debug prefix e → size_of prefix + 1 < e.to
-    → StaysIn reads_debug (prefix ++ raw b ∷ []) e
-stays_in reads_debug prefix e b is within =
+stays_in : (options : ReadOptions) (prefix : List Step) (e : Extent) (b : ℕ) → StaysIn options prefix e → size_of prefix + 1 < e.to
+    → StaysIn options (prefix ++ raw b ∷ []) e
+stays_in options prefix e b is within =
     let records = records_same prefix (b ∷ []) in
     let size : size_of (prefix ++ raw b ∷ []) ≡ size_of prefix + 1 = size-append prefix (raw b ∷ []) in
     let steps : length (prefix ++ raw b ∷ []) ≡ length prefix + 1 = length-append prefix (raw b ∷ []) in
@@ -139,51 +141,51 @@ stays_in reads_debug prefix e b is within =
     }
 
 -- they are sound: each byte is in the part, before its end
-raw_sound : (reads_debug : Bool) (prefix : List Step) (e : Extent) (bytes rest : List ℕ) → StaysIn reads_debug prefix e → is_raw reads_debug e.part
-    ≡ true → size_of prefix + length bytes ≤ e.to → IsSoundFrom reads_debug prefix (map raw bytes) (bytes ++ rest)
-raw_sound reads_debug prefix e [] rest is unread within = tt
-raw_sound reads_debug prefix e (b ∷ []) rest is unread within =
-    let here = raw_next reads_debug prefix e (b ∷ rest) is.header is.found unread in
-    (is.unended, ap (λ o. option_or o (step_fault prefix (next_step reads_debug prefix (b ∷ rest)))) is.whole ∙ ap (step_fault prefix) here, here, tt)
-raw_sound reads_debug prefix e (b ∷ c ∷ bytes) rest is unread within =
-    let here = raw_next reads_debug prefix e (b ∷ c ∷ bytes ++ rest) is.header is.found unread in
+raw_sound : (options : ReadOptions) (prefix : List Step) (e : Extent) (bytes rest : List ℕ) → StaysIn options prefix e → is_raw options.debug e.part
+    ≡ true → size_of prefix + length bytes ≤ e.to → IsSoundFrom options prefix (map raw bytes) (bytes ++ rest)
+raw_sound options prefix e [] rest is unread within = tt
+raw_sound options prefix e (b ∷ []) rest is unread within =
+    let here = raw_next options prefix e (b ∷ rest) is.header is.found unread in
+    (is.unended, ap (λ o. option_or o (step_fault prefix (next_step options prefix (b ∷ rest)))) is.whole ∙ ap (step_fault prefix) here, here, tt)
+raw_sound options prefix e (b ∷ c ∷ bytes) rest is unread within =
+    let here = raw_next options prefix e (b ∷ c ∷ bytes ++ rest) is.header is.found unread in
     let size : size_of (prefix ++ raw b ∷ []) ≡ size_of prefix + 1 = size-append prefix (raw b ∷ []) in (
       is.unended,
-      ap (λ o. option_or o (step_fault prefix (next_step reads_debug prefix (b ∷ c ∷ bytes ++ rest)))) is.whole ∙ ap (step_fault prefix) here,
+      ap (λ o. option_or o (step_fault prefix (next_step options prefix (b ∷ c ∷ bytes ++ rest)))) is.whole ∙ ap (step_fault prefix) here,
       here,
-      raw_sound reads_debug (prefix ++ raw b ∷ []) e (c ∷ bytes) rest (stays_in reads_debug prefix e b is (omega (arith, within))) unread
+      raw_sound options (prefix ++ raw b ∷ []) e (c ∷ bytes) rest (stays_in options prefix e b is (omega (arith, within))) unread
           (omega (arith, within, size)),
     )
 
 -- bytes that are not read as records
-pub skip-gone : (reads_debug : Bool) (old : Prefix) (prefix : List Step) (e : extents.Extent) (at : code.Location) (rest : List ℕ) (new : Prefix)
+pub skip-gone : (options : ReadOptions) (old : Prefix) (prefix : List Step) (e : extents.Extent) (at : code.Location) (rest : List ℕ) (new : Prefix)
     (done : Next) → IsPrefixOf old prefix → is_ended prefix ≡ false → ended_part_fault prefix ≡ None
-    → at ≡ offset.Part e → as_location at ≡ location_after prefix → is_raw reads_debug (as_part e.part) ≡ true
-    → HasSkipped old e.part (e.to - old.size) rest new done → IsStepTaken reads_debug prefix rest new done
-skip-gone reads_debug old prefix e at rest new done is unended whole here same unread skipped = by_done done skipped where
+    → at ≡ offset.Part e → as_location at ≡ location_after prefix → is_raw options.debug (as_part e.part) ≡ true
+    → HasSkipped old e.part (e.to - old.size) rest new done → IsStepTaken options prefix rest new done
+skip-gone options old prefix e at rest new done is unended whole here same unread skipped = by_done done skipped where
   found : (nat_lt (length prefix) 10 ≡ false) × (part_at prefix (size_of prefix) ≡ Some (as_extent e))
   found = part-found prefix at e here same
 
-  stays : StaysIn reads_debug prefix (as_extent e)
+  stays : StaysIn options prefix (as_extent e)
   stays = record { unended = unended; whole = whole; header = found.0; found = found.1; ordered = is.ordered }
 
   before : size_of prefix < e.to
   before = part-within prefix at e here same
 
-  by_done : (done : Next) → HasSkipped old e.part (e.to - old.size) rest new done → IsStepTaken reads_debug prefix rest new done
+  by_done : (done : Next) → HasSkipped old e.part (e.to - old.size) rest new done → IsStepTaken options prefix rest new done
   by_done (next.Took n) (count, some, more) =
       let long : length (take n rest) ≡ n = taken_length n rest (omega (arith, count)) in
       let size = is.size in (
         map raw (take n rest),
         raw-prefix old new prefix e (take n rest) is found.0 found.1 (omega (arith, long, count, before, size)) more,
-        subst (λ (r : List ℕ). IsSoundFrom reads_debug prefix (map raw (take n rest)) r) (take-append-drop n rest)
-            (raw_sound reads_debug prefix (as_extent e) (take n rest) (drop n rest) stays unread (omega (arith, long, count, before, size))),
+        subst (λ (r : List ℕ). IsSoundFrom options prefix (map raw (take n rest)) r) (take-append-drop n rest)
+            (raw_sound options prefix (as_extent e) (take n rest) (drop n rest) stays unread (omega (arith, long, count, before, size))),
         raw_size (take n rest) ∙ long,
         some,
         omega (arith, count),
       )
   by_done next.More (none, same_) = (
     subst (λ (f : Prefix). IsPrefixOf f prefix) (sym same_) is,
-    raw_next reads_debug prefix (as_extent e) rest found.0 found.1 unread ∙ ap raw_step none,
+    raw_next options prefix (as_extent e) rest found.0 found.1 unread ∙ ap raw_step none,
   )
   by_done (next.Refused f) skipped = absurd skipped

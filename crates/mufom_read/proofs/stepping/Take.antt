@@ -13,6 +13,7 @@ use Rattle.mufom_read.specs.Judging.{IsSoundFrom}
 use Rattle.mufom_read.specs.PrefixOfCode.{IsPrefixOf, HasAdvanced}
 use Rattle.mufom_read.specs.Reader.{HasTakenAll, HasGoneOn}
 use Rattle.mufom_read.proofs.stepping.PrefixLaws.{size-append}
+use Rattle.mufom_records.specs.declared.options.ReadOptions.{ReadOptions}
 
 drop-none : (n : ℕ) → ◌≡◌ {A = List ℕ} [] (drop n [])
 drop-none zero = refl
@@ -30,25 +31,25 @@ pub size-one : (s : Step) (steps : List Step) → size_of (s ∷ steps) ≡ leng
 size-one s steps = size-append (s ∷ []) steps ∙ ap (λ n. n + size_of steps) (ap length (append-nil (step_bytes s)))
 
 -- sound steps, and sound steps after them
-pub sound-append : (reads_debug : Bool) (before steps more : List Step) (rest : List ℕ) → IsSoundFrom reads_debug before steps rest
-    → IsSoundFrom reads_debug (before ++ steps) more (drop (size_of steps) rest) → IsSoundFrom reads_debug before (steps ++ more) rest
-sound-append reads_debug before [] more rest sound after = subst (λ (prefix : List Step). IsSoundFrom reads_debug prefix more rest) (append-nil before) after
-sound-append reads_debug before (s ∷ steps) more rest (unended, clean, got, sound) after =
-    let here : IsSoundFrom reads_debug (before ++ s ∷ steps) more (drop (size_of steps) (drop (length (step_bytes s)) rest)) =
-    subst (λ (r : List ℕ). IsSoundFrom reads_debug (before ++ s ∷ steps) more r) (ap (λ n. drop n rest) (size-one s steps)
+pub sound-append : (options : ReadOptions) (before steps more : List Step) (rest : List ℕ) → IsSoundFrom options before steps rest
+    → IsSoundFrom options (before ++ steps) more (drop (size_of steps) rest) → IsSoundFrom options before (steps ++ more) rest
+sound-append options before [] more rest sound after = subst (λ (prefix : List Step). IsSoundFrom options prefix more rest) (append-nil before) after
+sound-append options before (s ∷ steps) more rest (unended, clean, got, sound) after =
+    let here : IsSoundFrom options (before ++ s ∷ steps) more (drop (size_of steps) (drop (length (step_bytes s)) rest)) =
+    subst (λ (r : List ℕ). IsSoundFrom options (before ++ s ∷ steps) more r) (ap (λ n. drop n rest) (size-one s steps)
     ∙ sym (drop-drop (length (step_bytes s)) (size_of steps) rest)) after in (
       unended,
       clean,
       got,
-      sound-append reads_debug (before ++ s ∷ []) steps more (drop (length (step_bytes s)) rest) sound
-          (subst (λ (prefix : List Step). IsSoundFrom reads_debug prefix more (drop (size_of steps) (drop (length (step_bytes s)) rest)))
+      sound-append options (before ++ s ∷ []) steps more (drop (length (step_bytes s)) rest) sound
+          (subst (λ (prefix : List Step). IsSoundFrom options prefix more (drop (size_of steps) (drop (length (step_bytes s)) rest)))
           (sym (append_assoc before (s ∷ []) steps)) here),
     )
 
 -- none yet
-pub gone-none : (reads_debug : Bool) (before : List Step) (rest : List ℕ) (f : Prefix) → IsPrefixOf f before
-    → (is_ended before ≡ false → ended_part_fault before ≡ None) → HasGoneOn reads_debug before rest f 0
-gone-none reads_debug before rest f is whole = record {
+pub gone-none : (options : ReadOptions) (before : List Step) (rest : List ℕ) (f : Prefix) → IsPrefixOf f before
+    → (is_ended before ≡ false → ended_part_fault before ≡ None) → HasGoneOn options before rest f 0
+gone-none options before rest f is whole = record {
   steps = [];
   is = subst (λ (prefix : List Step). IsPrefixOf f prefix) (sym (append-nil before)) is;
   sound = tt;
@@ -58,12 +59,12 @@ gone-none reads_debug before rest f is whole = record {
 }
 
 -- and some more
-pub gone-more : (reads_debug : Bool) (before : List Step) (rest after : List ℕ) (f new : Prefix) (taken n : ℕ)
-    → HasGoneOn reads_debug before rest f taken → after ≡ drop taken rest
+pub gone-more : (options : ReadOptions) (before : List Step) (rest after : List ℕ) (f new : Prefix) (taken n : ℕ)
+    → HasGoneOn options before rest f taken → after ≡ drop taken rest
     → ((prefix : List Step) → IsPrefixOf f prefix → is_ended prefix ≡ false → ended_part_fault prefix ≡ None
-    → HasAdvanced reads_debug prefix after new (next.Took n))
-    → ((prefix : List Step) → IsPrefixOf f prefix → is_ended prefix ≡ false) → HasGoneOn reads_debug before rest new (taken + n)
-gone-more reads_debug before rest after f new taken n gone at step unended =
+    → HasAdvanced options prefix after new (next.Took n))
+    → ((prefix : List Step) → IsPrefixOf f prefix → is_ended prefix ≡ false) → HasGoneOn options before rest new (taken + n)
+gone-more options before rest after f new taken n gone at step unended =
     let prefix = before ++ gone.steps in
     let open_ = unended prefix gone.is in
     let more = step prefix gone.is open_ (gone.whole open_) in
@@ -72,30 +73,30 @@ gone-more reads_debug before rest after f new taken n gone at step unended =
     record {
       steps = gone.steps ++ more.0;
       is = subst (λ (fr : List Step). IsPrefixOf new fr) same more.1;
-      sound = sound-append reads_debug before gone.steps more.0 rest gone.sound
-          (subst (λ (r : List ℕ). IsSoundFrom reads_debug prefix more.0 r) (at ∙ ap (λ k. drop k rest) (sym gone.size)) more.2);
+      sound = sound-append options before gone.steps more.0 rest gone.sound
+          (subst (λ (r : List ℕ). IsSoundFrom options prefix more.0 r) (at ∙ ap (λ k. drop k rest) (sym gone.size)) more.2);
       size = size-append gone.steps more.0 ∙ ap (λ k. k + size_of more.0) gone.size ∙ ap (λ k. taken + k) more.3;
       within = omega (arith, gone.within, more.5, ap length at, left);
       whole = subst (λ (fr : List Step). is_ended fr ≡ false → ended_part_fault fr ≡ None) same more.6;
     }
 
 -- the module has ended
-pub all-ended : (reads_debug : Bool) (before : List Step) (rest : List ℕ) (f : Prefix) (taken : ℕ) → HasGoneOn reads_debug before rest f taken
+pub all-ended : (options : ReadOptions) (before : List Step) (rest : List ℕ) (f : Prefix) (taken : ℕ) → HasGoneOn options before rest f taken
     → ((prefix : List Step) → IsPrefixOf f prefix → is_ended prefix ≡ true)
-    → HasTakenAll reads_debug before rest f (Ok taken)
-all-ended reads_debug before rest f taken gone ended = (gone.steps, gone.is, gone.sound, gone.size, gone.within, inl (ended (before ++ gone.steps) gone.is))
+    → HasTakenAll options before rest f (Ok taken)
+all-ended options before rest f taken gone ended = (gone.steps, gone.is, gone.sound, gone.size, gone.within, inl (ended (before ++ gone.steps) gone.is))
 
 -- more bytes are needed
-pub all-wanting : (reads_debug : Bool) (before : List Step) (rest after : List ℕ) (f new : Prefix) (taken : ℕ)
-    → HasGoneOn reads_debug before rest f taken → after ≡ drop taken rest
+pub all-wanting : (options : ReadOptions) (before : List Step) (rest after : List ℕ) (f new : Prefix) (taken : ℕ)
+    → HasGoneOn options before rest f taken → after ≡ drop taken rest
     → ((prefix : List Step) → IsPrefixOf f prefix → is_ended prefix ≡ false → ended_part_fault prefix ≡ None
-    → HasAdvanced reads_debug prefix after new next.More)
-    → ((prefix : List Step) → IsPrefixOf f prefix → is_ended prefix ≡ false) → HasTakenAll reads_debug before rest new (Ok taken)
-all-wanting reads_debug before rest after f new taken gone at step unended =
+    → HasAdvanced options prefix after new next.More)
+    → ((prefix : List Step) → IsPrefixOf f prefix → is_ended prefix ≡ false) → HasTakenAll options before rest new (Ok taken)
+all-wanting options before rest after f new taken gone at step unended =
     let prefix = before ++ gone.steps in
     let open_ = unended prefix gone.is in
     let more = step prefix gone.is open_ (gone.whole open_) in
-    let here : next_step reads_debug prefix (drop taken rest) ≡ More = subst (λ (r : List ℕ). next_step reads_debug prefix r ≡ More) at more.1 in (
+    let here : next_step options prefix (drop taken rest) ≡ More = subst (λ (r : List ℕ). next_step options prefix r ≡ More) at more.1 in (
       gone.steps,
       more.0,
       gone.sound,
@@ -103,18 +104,18 @@ all-wanting reads_debug before rest after f new taken gone at step unended =
       gone.within,
       inr (record {
         unended = open_;
-        faultless = ap (λ o. option_or o (step_fault prefix (next_step reads_debug prefix (drop taken rest)))) (gone.whole open_) ∙ ap (step_fault prefix) here;
+        faultless = ap (λ o. option_or o (step_fault prefix (next_step options prefix (drop taken rest)))) (gone.whole open_) ∙ ap (step_fault prefix) here;
         wanting = here;
       }),
     )
 
 -- there is an error
-pub all-refused : (reads_debug : Bool) (before : List Step) (rest after : List ℕ) (f new : Prefix) (taken : ℕ) (fault : ReadRefusal)
-    → HasGoneOn reads_debug before rest f taken → after ≡ drop taken rest
+pub all-refused : (options : ReadOptions) (before : List Step) (rest after : List ℕ) (f new : Prefix) (taken : ℕ) (fault : ReadRefusal)
+    → HasGoneOn options before rest f taken → after ≡ drop taken rest
     → ((prefix : List Step) → IsPrefixOf f prefix → is_ended prefix ≡ false → ended_part_fault prefix ≡ None
-    → HasAdvanced reads_debug prefix after new (next.Refused fault))
-    → ((prefix : List Step) → IsPrefixOf f prefix → is_ended prefix ≡ false) → HasTakenAll reads_debug before rest new (Err (stop.Refused fault))
-all-refused reads_debug before rest after f new taken fault gone at step unended =
+    → HasAdvanced options prefix after new (next.Refused fault))
+    → ((prefix : List Step) → IsPrefixOf f prefix → is_ended prefix ≡ false) → HasTakenAll options before rest new (Err (stop.Refused fault))
+all-refused options before rest after f new taken fault gone at step unended =
     let prefix = before ++ gone.steps in
     let open_ = unended prefix gone.is in
     let more = step prefix gone.is open_ (gone.whole open_) in
@@ -123,11 +124,11 @@ all-refused reads_debug before rest after f new taken fault gone at step unended
     ap (drop (size_of more.0)) at ∙ drop-drop taken (size_of more.0) rest ∙ ap (λ k. drop (k + size_of more.0) rest) (sym gone.size)
     ∙ ap (λ k. drop k rest) (sym (size-append gone.steps more.0)) in (
       gone.steps ++ more.0,
-      sound-append reads_debug before gone.steps more.0 rest gone.sound
-          (subst (λ (r : List ℕ). IsSoundFrom reads_debug prefix more.0 r) (at ∙ ap (λ k. drop k rest) (sym gone.size)) more.1),
+      sound-append options before gone.steps more.0 rest gone.sound
+          (subst (λ (r : List ℕ). IsSoundFrom options prefix more.0 r) (at ∙ ap (λ k. drop k rest) (sym gone.size)) more.1),
       subst (λ (fr : List Step). is_ended fr ≡ false) same more.2,
-      ap (λ (fr : List Step). fault_after reads_debug fr (drop (size_of (gone.steps ++ more.0)) rest)) (sym same)
-          ∙ ap (fault_after reads_debug (prefix ++ more.0)) (sym offset) ∙ more.3,
+      ap (λ (fr : List Step). fault_after options fr (drop (size_of (gone.steps ++ more.0)) rest)) (sym same)
+          ∙ ap (fault_after options (prefix ++ more.0)) (sym offset) ∙ more.3,
     )
 
 -- what has not ended cannot have ended

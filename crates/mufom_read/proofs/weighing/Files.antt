@@ -12,7 +12,7 @@ use Rattle.mufom_module.specs.SpelledRecords.{SpelledRecord, bytes_of, section, 
 use Rattle.mufom_module.specs.Written.{weight}
 use Rattle.mufom_module.specs.Weights.{section_weight, public_weight, reference_weight, marks_weight, load_weight, start_weight}
 use Rattle.mufom_module.specs.Grammar.{FileParts, header_of, after_header, from_sections, from_externals, from_debug, debug_bytes, from_loads}
-use Rattle.mufom_module.specs.Grammar.{from_trailer, module_end, AreOfModes, header_modes, AreWhole, NamesModule, indexes_of}
+use Rattle.mufom_module.specs.Grammar.{from_trailer, module_end, AreOfModes, header_modes, AreWhole, NamesModule, indexes_of, seen_from_externals}
 use Rattle.mufom_module.proofs.WeightLaws.{weight-sum}
 use Rattle.mufom_read.specs.Laws.{FilesWeighTenfold, ModulesWeighTenfold}
 use Rattle.mufom_read.proofs.weighing.Records.{cost, begin_paid, descriptor_paid, offset_paid}
@@ -20,6 +20,8 @@ use Rattle.mufom_read.proofs.weighing.Sums.{costs, costs_paid}
 use Rattle.mufom_read.proofs.weighing.Entries.{follow_split, new_in, sections_below}
 use Rattle.mufom_read.proofs.weighing.Names.{names_below}
 use Rattle.mufom_read.proofs.weighing.Loads.{marks_below, loads_below, starts_below}
+use Rattle.mufom_records.specs.declared.options.ReadOptions.{ReadOptions}
+use Rattle.mufom_module.specs.Grammar.{seen_from_debug}
 
 -- ---- the header
 
@@ -30,6 +32,7 @@ header_weight mode.Descriptor = 20
 header_weight (mode.Offset k) = 16
 header_weight mode.Body = 0
 header_weight mode.Items = 0
+header_weight mode.GnuItems = 0
 
 mode_paid : (m : Mode) (p : SpelledRecord) (next : Option ℕ) → IsWholeRecord m p.row p.bytes next → header_weight m ≤ 10 * length p.bytes
 mode_paid mode.Begin p next is = omega arith
@@ -37,6 +40,7 @@ mode_paid mode.Descriptor p next is = descriptor_paid p next is
 mode_paid (mode.Offset k) p next is = offset_paid k p next is
 mode_paid mode.Body p next is = omega arith
 mode_paid mode.Items p next is = omega arith
+mode_paid mode.GnuItems p next is = omega arith
 
 modes_paid : (modes : List Mode) (records : List SpelledRecord) (after : List ℕ) → AreOfModes modes records after
     → sum_by header_weight modes ≤ 10 * length (bytes_of records)
@@ -87,8 +91,9 @@ file_length f =
 
 -- ---- the file
 
-part_paid : (records : List SpelledRecord) (after : List ℕ) (w : ℕ) → AreWhole false records after → w ≤ costs records → w ≤ 10 * length (bytes_of records)
-part_paid records after w are below = let paid = costs_paid false records after are in omega (arith, paid, below)
+part_paid : (options : ReadOptions) (records : List SpelledRecord) (after : List ℕ) (w : ℕ) → AreWhole options false records after → w ≤ costs records
+    → w ≤ 10 * length (bytes_of records)
+part_paid options records after w are below = let paid = costs_paid options false records after are in omega (arith, paid, below)
 
 total : (w p n x e s u r d l t all header sections externals debug skipped loads trailer : ℕ) → w ≡ 156 + p + n + x + e + s + u + r + d + l + t
     → all ≡ header + x + e + sections + externals + debug + skipped + loads + trailer + 1 → 155 + p + n ≤ 10 * header → s ≤ 10 * sections
@@ -97,7 +102,7 @@ total : (w p n x e s u r d l t all header sections externals debug skipped loads
 total w p n x e s u r d l t all header sections externals debug skipped loads trailer a b c f g h i j = omega arith
 
 pub files_weigh : FilesWeighTenfold
-files_weigh reads_debug bytes f m are cut names states =
+files_weigh options bytes f m are cut names states =
     let ix = indexes_of f in
     let first = follow_split [] f.sections (f.externals ++ (f.debug ++ (f.loads ++ f.trailer))) names.follow in
     let second = follow_split f.sections f.externals (f.debug ++ (f.loads ++ f.trailer)) first.1 in
@@ -121,11 +126,11 @@ files_weigh reads_debug bytes f m are cut names states =
     + sum_by reference_weight m.names.references + marks_weight (marks_of m.debug) + sum_by load_weight m.loads + start_weight m.start))
     (ap length cut.all ∙ file_length f)
     (header_below m f (after_header f) cut.header states.begin)
-    (part_paid f.sections (from_externals f) _ cut.sections.are_whole (omega (arith, sections, s)))
-    (part_paid f.externals (from_debug f) _ cut.externals.are_whole (omega (arith, publics, references, n)))
-    (part_paid f.debug (from_loads f) _ cut.debug.are_whole (omega (arith, debug, d)))
-    (part_paid f.loads (from_trailer f) _ cut.loads.are_whole (omega (arith, loads, l)))
-    (part_paid f.trailer module_end _ cut.trailer.are_whole t)
+    (part_paid options f.sections (seen_from_externals options f) _ cut.sections.are_whole (omega (arith, sections, s)))
+    (part_paid options f.externals (seen_from_debug options f) _ cut.externals.are_whole (omega (arith, publics, references, n)))
+    (part_paid options f.debug (from_loads f) _ cut.debug.are_whole (omega (arith, debug, d)))
+    (part_paid options f.loads (from_trailer f) _ cut.loads.are_whole (omega (arith, loads, l)))
+    (part_paid options f.trailer module_end _ cut.trailer.are_whole t)
 
 pub modules_weigh : ModulesWeighTenfold
-modules_weigh reads_debug bytes m are (f, cut, names, states, valid) = files_weigh reads_debug bytes f m are cut names states
+modules_weigh options bytes m are (f, cut, names, states, valid) = files_weigh options bytes f m are cut names states

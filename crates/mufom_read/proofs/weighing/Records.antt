@@ -12,13 +12,14 @@ use Rattle.mufom_records.specs.declared.record.BlockTail.TheVariants as tail
 use Rattle.arrayvec.specs.ArrayVec.{ArrayVec}
 use Rattle.mufom_expr.specs.Spelled.{SpellsTree}
 use Rattle.mufom_records.specs.Fields.{Field, ValueOf, byte, number, string, run, letter, optional_number, numbers, expression, optional_expression}
-use Rattle.mufom_records.specs.Fields.{is_one_of, SpellsNumbers, SpellsField, first_of}
+use Rattle.mufom_records.specs.Fields.{is_one_of, SpellsNumbers, SpellsField, first_of, sized_expression}
 use Rattle.mufom_records.specs.Layouts
 use Rattle.mufom_module.specs.SpelledRecords.{SpelledRecord, text_in, tree_in}
-use Rattle.mufom_module.specs.RecordParts.{begins_item, mode_of}
+use Rattle.mufom_module.specs.RecordParts.{begins_item, mode_of, items_mode}
 use Rattle.mufom_module.specs.Gathered.{purpose_of}
 use Rattle.mufom_module.specs.Weights.{expression_weight, section_letters_weight, purpose_weight}
 use Rattle.mufom_read.proofs.weighing.Trees.{number_long, tree_tenfold}
+use Rattle.mufom_records.specs.declared.options.ReadOptions.{ReadOptions}
 
 abbrev Layout : Type 0
 Layout = Layouts.Layout
@@ -84,6 +85,7 @@ least optional_number n = present n
 least (numbers most) ns = length ns.items
 least expression span = span.len
 least optional_expression span = span_length span
+least sized_expression x = x.0.len
 
 lead_long : (len : ℕ) (lead : List ℕ) → IsStringLead len lead → 1 ≤ length lead
 lead_long len [] is = absurd is
@@ -117,6 +119,13 @@ field_long expression x at bytes next (tree, fault_offset, stops) = let its : x.
 field_long optional_expression None at bytes next is = omega arith
 field_long optional_expression (Some x) at bytes next (tree, fault_offset, stops) = let its : x.len ≡ length bytes =
     ap (λ (s : Span). s.len) fault_offset in omega (arith, its)
+field_long sized_expression (x, None) at bytes next (tree, fault_offset, stops) = let its : x.len ≡ length bytes =
+    ap (λ (s : Span). s.len) fault_offset in omega (arith, its)
+field_long sized_expression (x, Some last) at bytes next (tree, text, number_bytes, spells, few, spelled, fits, uses, span_is, closed, parts) =
+    let its : x.len ≡ length text = ap (λ (s : Span). s.len) span_is in
+    let all = ap length parts in
+    let both = length-append text number_bytes in
+    omega (arith, its, all, both)
 
 -- ---- what is written for a field
 
@@ -129,6 +138,7 @@ InRecord p string span = length (text_in p span) ≤ span.len
 InRecord p (run n) span = length (text_in p span) ≤ span.len
 InRecord p expression span = HasTree p span
 InRecord p optional_expression (Some span) = HasTree p span
+InRecord p sized_expression x = HasTree p x.0
 InRecord p _ _ = Unit {0}
 
 text_long : (p : SpelledRecord) (span : Span) → length (text_in p span) ≤ span.len
@@ -167,6 +177,12 @@ in_record p (numbers most) x at before prefix back next is whole start = tt
 in_record p expression x at before prefix back next is whole start = has_tree p x at before prefix back next is whole start
 in_record p optional_expression None at before prefix back next is whole start = tt
 in_record p optional_expression (Some x) at before prefix back next is whole start = has_tree p x at before prefix back next is whole start
+in_record p sized_expression (x, None) at before prefix back next is whole start = has_tree p x at before prefix back next is whole start
+in_record p sized_expression (x, Some last) at before prefix back next
+    (tree, text, number_bytes, spells, few, spelled, fits, uses, span_is, closed, parts) whole
+    start =
+    has_tree p x at before text (number_bytes ++ back) (Some 0xBB) ((tree, spells), span_is, refl)
+    (whole ∙ ap (λ l. before ++ (l ++ back)) parts ∙ ap (λ l. before ++ l) (append_assoc text number_bytes back)) start
 
 -- ---- a layout whose records are paid for
 
@@ -253,6 +269,16 @@ comma_paid p b v None n x some = λ (e : ℕ) _. by_test p (cost p) (n + 1) (e =
 comma_paid p b v (Some c) n x some = λ (k : ℕ) _ (e : ℕ) _. by_test p (cost p) (n + 1 + 1) (e == Layouts.partner b)
     (Layouts.whole (r.FieldItem (Layouts.kind_of b) v (Some k))) _ (omega (arith, some, x)) tt
 
+size_paid : (p : SpelledRecord) (b : ℕ) (s : ValueOf sized_expression) (n : ℕ) → HasTree p s.0 → 1 + s.0.len ≤ n
+    → Pays p (cost p) (Layouts.item_by_size b s.0 s.1) n
+size_paid p b (v, None) n x some = λ (c : Option ℕ) _. comma_paid p b v c (n + present c) x (omega (arith, some))
+size_paid p b (v, Some last) n x some = λ (e : ℕ) _. by_test p (cost p) (n + 1) (e == Layouts.partner b)
+    (Layouts.whole (r.FieldItem (Layouts.kind_without_comma b last.uses_pc) v (Some last.size))) _ (omega (arith, some, x)) tt
+
+gnu_bracket_paid : (p : SpelledRecord) (o : Option ℕ) → Pays p (cost p) (Layouts.gnu_item_by_bracket o) (0 + present o)
+gnu_bracket_paid p None = λ (n : ℕ) _ (span : Span) x. omega (arith, x)
+gnu_bracket_paid p (Some b) = λ (e : ValueOf sized_expression) x. size_paid p b e _ x (omega arith)
+
 bracket_paid : (p : SpelledRecord) (o : Option ℕ) → Pays p (cost p) (Layouts.item_by_bracket o) (0 + present o)
 bracket_paid p None = λ (n : ℕ) _ (span : Span) x. omega (arith, x)
 bracket_paid p (Some b) = λ (v : Span) x (c : Option ℕ) _. comma_paid p b v c _ x (omega arith)
@@ -309,13 +335,16 @@ coded_paid p b =
 body_paid : (p : SpelledRecord) (next : Option ℕ) → Layouts.IsWholeRecord mode.Body p.row p.bytes next → cost p p.row ≤ 10 * length p.bytes
 body_paid p next is = paid p (cost p) Layouts.body next is (λ (b : ℕ) _. coded_paid p b)
 
-item_paid : (p : SpelledRecord) (next : Option ℕ) → Layouts.IsWholeRecord mode.Items p.row p.bytes next → cost p p.row ≤ 10 * length p.bytes
-item_paid p next is = paid p (cost p) Layouts.item next is (λ (o : Option ℕ) _. bracket_paid p o)
+item_paid : (gnu : Bool) (p : SpelledRecord) (next : Option ℕ) → Layouts.IsWholeRecord (cond gnu mode.GnuItems mode.Items) p.row p.bytes next
+    → cost p p.row ≤ 10 * length p.bytes
+item_paid true p next is = paid p (cost p) Layouts.gnu_item next is (λ (o : Option ℕ) _. gnu_bracket_paid p o)
+item_paid false p next is = paid p (cost p) Layouts.item next is (λ (o : Option ℕ) _. bracket_paid p o)
 
 -- a record after the header, or an item
-pub record_paid : (p : SpelledRecord) (items : Bool) (next : Option ℕ) → Layouts.IsWholeRecord (mode_of items p.bytes) p.row p.bytes next
+pub record_paid : (options : ReadOptions) (p : SpelledRecord) (items : Bool) (next : Option ℕ) → Layouts.IsWholeRecord
+    (mode_of options items p.bytes) p.row p.bytes next
     → cost p p.row ≤ 10 * length p.bytes
-record_paid p items next is = by_mode (items && begins_item p.bytes) is where
-  by_mode : (b : Bool) → Layouts.IsWholeRecord (cond b mode.Items mode.Body) p.row p.bytes next → cost p p.row ≤ 10 * length p.bytes
-  by_mode true is = item_paid p next is
+record_paid options p items next is = by_mode (items && begins_item p.bytes) is where
+  by_mode : (b : Bool) → Layouts.IsWholeRecord (cond b (items_mode options) mode.Body) p.row p.bytes next → cost p p.row ≤ 10 * length p.bytes
+  by_mode true is = item_paid options.gnu p next is
   by_mode false is = body_paid p next is

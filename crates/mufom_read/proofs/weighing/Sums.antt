@@ -7,18 +7,19 @@ use Rattle.std.proofs.lemmas.List.Folds.{list_any-append}
 use Rattle.mufom_module.specs.SpelledRecords.{SpelledRecord, bytes_of}
 use Rattle.mufom_module.specs.Grammar.{AreWhole}
 use Rattle.mufom_read.proofs.weighing.Records.{cost, record_paid}
+use Rattle.mufom_records.specs.declared.options.ReadOptions.{ReadOptions}
 
 -- ---- all records of a part
 
 abbrev pub costs : List SpelledRecord → ℕ
 costs spelled_records = sum_by (λ (p : SpelledRecord). cost p p.row) spelled_records
 
-pub costs_paid : (items : Bool) (spelled_records : List SpelledRecord) (after : List ℕ) → AreWhole items spelled_records after
+pub costs_paid : (options : ReadOptions) (items : Bool) (spelled_records : List SpelledRecord) (after : List ℕ) → AreWhole options items spelled_records after
     → costs spelled_records ≤ 10 * length (bytes_of spelled_records)
-costs_paid items [] after are = omega arith
-costs_paid items (p ∷ spelled_records) after are =
-    let own = record_paid p items _ are.0 in
-    let rest = costs_paid _ spelled_records after are.1 in
+costs_paid options items [] after are = omega arith
+costs_paid options items (p ∷ spelled_records) after are =
+    let own = record_paid options p items _ are.0 in
+    let rest = costs_paid options _ spelled_records after are.1 in
     let sum = sum_by-cons (λ (q : SpelledRecord). cost q q.row) p spelled_records in
     let parts = length-append p.bytes (bytes_of spelled_records) in
     omega (arith, own, rest, sum, parts)

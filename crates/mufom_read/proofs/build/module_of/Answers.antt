@@ -15,6 +15,6 @@ sound-requires c =
     subst IsValid (sym (c.in_ok-parts.ensures stated.0 stated.2)) spells.4
 
 pub returns : goal.returns
-returns c = λ reads_debug steps bytes is.
-    let stated = whole-stated reads_debug c.args.prefix steps bytes is in
-    subst (λ (m : Parts). SpellsModule m bytes reads_debug) (sym (c.sound.ensures.same ∙ c.in_ok-parts.ensures stated.0 stated.2)) stated.1
+returns c = λ options steps bytes is.
+    let stated = whole-stated options c.args.prefix steps bytes is in
+    subst (λ (m : Parts). SpellsModule m bytes options) (sym (c.sound.ensures.same ∙ c.in_ok-parts.ensures stated.0 stated.2)) stated.1

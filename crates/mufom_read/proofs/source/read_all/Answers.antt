@@ -1,7 +1,7 @@
 use Rattle.std.proofs.Common.{◌∙◌, sym, ap, subst, arith, ℕ, Result, Err}
 use Rattle.std.proofs.lemmas.Result.{err_from_is_err_and}
 use Rattle.mufom_read.specs.declared.source.SourceStop.{SourceStop}
-use Rattle.mufom_read.specs.Reader.{reads_debug_of}
+use Rattle.mufom_read.specs.Reader.{options_of}
 use Rattle.mufom_read.specs.Source.{ReadsAtMost, HasReadAll}
 use Rattle.mufom_read.proofs.feeding.Source.{come-none, come-on, come-stopped, come-end, come-further}
 use Rattle.mufom_read.proofs.source.read_all.Goals as goal
@@ -29,10 +29,10 @@ returns-then-count-eq0-clause-read g c =
 pub loop-count-preserved : goal.loop-count-preserved
 loop-count-preserved g c =
     let come = c.loop-count.invariant in
-    come-on c.args.limit c.loop-count.length (reads_debug_of c.args.reader.now) c.loop-count.reader c.read_chunk.new.reader
+    come-on c.args.limit c.loop-count.length (options_of c.args.reader.now) c.loop-count.reader c.read_chunk.new.reader
     (g.S.World.meaning c.args.source.now) (g.S.World.meaning c.loop-count.source) (g.S.World.meaning c.read_chunk.new.source)
     (g.S.World.faults c.args.source.now) (g.S.World.faults c.loop-count.source) (g.S.World.faults c.read_chunk.new.source)
-    c.in_ok-count.count come (c.in_ok-count.ensures.read come.bytes come.read) c.read_chunk.ensures.reads_debug c.read_chunk.ensures.only.0
+    c.in_ok-count.count come (c.in_ok-count.ensures.read come.bytes come.read) c.read_chunk.ensures.options c.read_chunk.ensures.only.0
     c.read_chunk.ensures.only.1 c.read_chunk.ensures.only.2
 
 pub loop-count-init : goal.loop-count-init
@@ -44,7 +44,7 @@ returns-in_err-count-clause-further g c =
     let between = (g.S.World.meaning c.loop-count.source).left in
     let after = (g.S.World.meaning c.read_chunk.new.source).left in
     let come = c.loop-count.invariant in
-    come-further c.args.limit c.loop-count.length (reads_debug_of c.args.reader.now) before between after come.bytes come.count come.within
+    come-further c.args.limit c.loop-count.length (options_of c.args.reader.now) before between after come.bytes come.count come.within
     come.unrefused come.after.taken
     (subst (λ (n : ℕ). ReadsAtMost n between after) (c.loop-count.auto.buffer ∙ c.requires.buffer) c.read_chunk.ensures.taken)
 
@@ -54,6 +54,6 @@ returns-then-count-eq0-clause-further g c =
     let between = (g.S.World.meaning c.loop-count.source).left in
     let after = (g.S.World.meaning c.read_chunk.new.source).left in
     let come = c.loop-count.invariant in
-    come-further c.args.limit c.loop-count.length (reads_debug_of c.args.reader.now) before between after come.bytes come.count come.within
+    come-further c.args.limit c.loop-count.length (options_of c.args.reader.now) before between after come.bytes come.count come.within
     come.unrefused come.after.taken
     (subst (λ (n : ℕ). ReadsAtMost n between after) (c.loop-count.auto.buffer ∙ c.requires.buffer) c.read_chunk.ensures.taken)

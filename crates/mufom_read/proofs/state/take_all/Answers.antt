@@ -6,7 +6,7 @@ use Rattle.mufom_read.proofs.stepping.Take.{gone-none, gone-more, all-ended, all
 use Rattle.mufom_read.proofs.state.take_all.Goals as goal
 
 pub loop-alloc-init : goal.loop-alloc-init
-loop-alloc-init c = λ before is whole. gone-none c.args.reads_debug before c.args.rest.now c.args.prefix.now is whole
+loop-alloc-init c = λ before is whole. gone-none c.args.options before c.args.rest.now c.args.prefix.now is whole
 
 pub advance-requires-clause-known : goal.advance-requires-clause-known
 advance-requires-clause-known c =
@@ -23,7 +23,7 @@ advance-requires-clause-fits c =
 pub overflow_add-taken : goal.overflow_add-taken
 overflow_add-taken c =
     let step = rw c.in-Ok-Took.field-0-is at c.in-Ok-Took.ensures in
-    let gone = gone-more c.args.reads_debug c.requires.known.0 c.args.rest.now c.after.result.now c.loop-alloc.prefix c.advance.new.self
+    let gone = gone-more c.args.options c.requires.known.0 c.args.rest.now c.after.result.now c.loop-alloc.prefix c.advance.new.self
     c.loop-alloc.taken c.in-Ok-Took.count
     (c.loop-alloc.invariant c.requires.known.0 c.requires.known.1 c.requires.known.2) c.after.ensures step
     (λ prefix is. sym (c.is_ended.ensures.prefix prefix is) ∙ c.loop-alloc-test.true) in
@@ -34,7 +34,7 @@ loop-alloc-smaller c =
     let step = rw c.in-Ok-Took.field-0-is at c.in-Ok-Took.ensures in
     let before = c.loop-alloc.invariant c.requires.known.0 c.requires.known.1 c.requires.known.2 in
     let unended = λ (prefix : List Step) (is : IsPrefixOf c.loop-alloc.prefix prefix). sym (c.is_ended.ensures.prefix prefix is) ∙ c.loop-alloc-test.true in
-    let gone = gone-more c.args.reads_debug c.requires.known.0 c.args.rest.now c.after.result.now c.loop-alloc.prefix c.advance.new.self
+    let gone = gone-more c.args.options c.requires.known.0 c.args.rest.now c.after.result.now c.loop-alloc.prefix c.advance.new.self
     c.loop-alloc.taken c.in-Ok-Took.count before c.after.ensures step unended in
     let open_ = unended (c.requires.known.0 ++ before.steps) before.is in
     let some = (step (c.requires.known.0 ++ before.steps) before.is open_ (before.whole open_)).4 in
@@ -43,22 +43,22 @@ loop-alloc-smaller c =
 pub loop-alloc-preserved : goal.loop-alloc-preserved
 loop-alloc-preserved c = λ before is whole.
     let step = rw c.in-Ok-Took.field-0-is at c.in-Ok-Took.ensures in
-    gone-more c.args.reads_debug before c.args.rest.now c.after.result.now c.loop-alloc.prefix c.advance.new.self c.loop-alloc.taken c.in-Ok-Took.count
+    gone-more c.args.options before c.args.rest.now c.after.result.now c.loop-alloc.prefix c.advance.new.self c.loop-alloc.taken c.in-Ok-Took.count
     (c.loop-alloc.invariant before is whole) c.after.ensures step (λ prefix its. sym (c.is_ended.ensures.prefix prefix its) ∙ c.loop-alloc-test.true)
 
 pub returns-in-Ok-More : goal.returns-in-Ok-More
 returns-in-Ok-More c = λ before is whole.
     let step = rw c.in-Ok-More.field-0-is at c.in-Ok-More.ensures in
-    all-wanting c.args.reads_debug before c.args.rest.now c.after.result.now c.loop-alloc.prefix c.advance.new.self c.loop-alloc.taken
+    all-wanting c.args.options before c.args.rest.now c.after.result.now c.loop-alloc.prefix c.advance.new.self c.loop-alloc.taken
     (c.loop-alloc.invariant before is whole) c.after.ensures step (λ prefix its. sym (c.is_ended.ensures.prefix prefix its) ∙ c.loop-alloc-test.true)
 
 pub returns-in-Ok-Refused : goal.returns-in-Ok-Refused
 returns-in-Ok-Refused c = λ before is whole.
     let step = rw c.in-Ok-Refused.field-0-is at c.in-Ok-Refused.ensures in
-    all-refused c.args.reads_debug before c.args.rest.now c.after.result.now c.loop-alloc.prefix c.advance.new.self c.loop-alloc.taken c.in-Ok-Refused.refusal
+    all-refused c.args.options before c.args.rest.now c.after.result.now c.loop-alloc.prefix c.advance.new.self c.loop-alloc.taken c.in-Ok-Refused.refusal
     (c.loop-alloc.invariant before is whole) c.after.ensures step (λ prefix its. sym (c.is_ended.ensures.prefix prefix its) ∙ c.loop-alloc-test.true)
 
 pub returns : goal.returns
 returns c = λ before is whole.
-    all-ended c.args.reads_debug before c.args.rest.now c.loop-alloc.prefix c.loop-alloc.taken (c.loop-alloc.invariant before is whole)
+    all-ended c.args.options before c.args.rest.now c.loop-alloc.prefix c.loop-alloc.taken (c.loop-alloc.invariant before is whole)
     (λ prefix its. sym (c.is_ended.ensures.prefix prefix its) ∙ c.loop-alloc-test.false)

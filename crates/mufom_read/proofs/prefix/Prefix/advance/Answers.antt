@@ -9,21 +9,21 @@ use Rattle.mufom_read.proofs.prefix.Prefix.advance.Goals as goal
 
 pub returns-in-Refused : goal.returns-in-Refused
 returns-in-Refused c = λ prefix is unended whole.
-    stepped-refused c.args.reads_debug prefix c.args.rest.now c.step.new.self c.in-Refused.refusal unended whole
-    (subst (λ (next : Next). IsStepTaken c.args.reads_debug prefix c.args.rest.now c.step.new.self next) c.in-Refused.is
+    stepped-refused c.args.options prefix c.args.rest.now c.step.new.self c.in-Refused.refusal unended whole
+    (subst (λ (next : Next). IsStepTaken c.args.options prefix c.args.rest.now c.step.new.self next) c.in-Refused.is
     (c.in_ok-count.ensures prefix is unended whole))
 
 pub judge_part-requires : goal.judge_part-requires
 judge_part-requires c =
     let prefix = c.requires.known.0 in
     let is = c.requires.known.1 in
-    let taken : IsStepTaken c.args.reads_debug prefix c.args.rest.now c.step.new.self (next.Took c.in-Took.count) =
-    subst (λ (next : Next). IsStepTaken c.args.reads_debug prefix c.args.rest.now c.step.new.self next) c.in-Took.is
+    let taken : IsStepTaken c.args.options prefix c.args.rest.now c.step.new.self (next.Took c.in-Took.count) =
+    subst (λ (next : Next). IsStepTaken c.args.options prefix c.args.rest.now c.step.new.self next) c.in-Took.is
     (c.in_ok-count.ensures prefix is c.requires.known.2 c.requires.known.3) in
     contents-marked c.step.new.self.contents (offset_records_of (prefix ++ taken.0)) taken.1.contents
 
 pub returns-in-Took : goal.returns-in-Took
 returns-in-Took c = λ prefix is unended whole.
-    c.judge_part.ensures c.args.reads_debug prefix c.args.rest.now
-    (subst (λ (next : Next). IsStepTaken c.args.reads_debug prefix c.args.rest.now c.step.new.self next) c.in-Took.is
+    c.judge_part.ensures c.args.options prefix c.args.rest.now
+    (subst (λ (next : Next). IsStepTaken c.args.options prefix c.args.rest.now c.step.new.self next) c.in-Took.is
     (c.in_ok-count.ensures prefix is unended whole))

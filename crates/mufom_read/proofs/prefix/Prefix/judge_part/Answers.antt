@@ -4,14 +4,14 @@ use Rattle.mufom_read.proofs.stepping.Step.{stepped-end, stepped-whole, stepped-
 use Rattle.mufom_read.proofs.prefix.Prefix.judge_part.Goals as goal
 
 pub returns-then-is_ended : goal.returns-then-is_ended
-returns-then-is_ended c = λ reads_debug prefix rest gone. stepped-end reads_debug prefix rest c.args.self.now c.args.count gone
+returns-then-is_ended c = λ options prefix rest gone. stepped-end options prefix rest c.args.self.now c.args.count gone
     (sym c.if-is_ended.true ∙ c.is_ended.ensures.kept)
 
 pub returns-in-None : goal.returns-in-None
-returns-in-None c = λ reads_debug prefix rest gone. stepped-whole reads_debug prefix rest c.args.self.now c.args.count gone
+returns-in-None c = λ options prefix rest gone. stepped-whole options prefix rest c.args.self.now c.args.count gone
     (λ steps is. ap (option_map as_fault) (sym c.in-None.is) ∙ c.ended_fault.ensures steps is)
 
 pub returns-in-Some : goal.returns-in-Some
-returns-in-Some c = λ reads_debug prefix rest gone. stepped-fault reads_debug prefix rest c.args.self.now c.args.count c.in-Some.refusal gone
+returns-in-Some c = λ options prefix rest gone. stepped-fault options prefix rest c.args.self.now c.args.count c.in-Some.refusal gone
     (sym c.if-is_ended.false ∙ c.is_ended.ensures.kept)
     (λ steps is. ap (option_map as_fault) (sym c.in-Some.is) ∙ c.ended_fault.ensures steps is)

@@ -12,7 +12,7 @@ skip-requires-clause-within c =
 
 pub returns-in-Some : goal.returns-in-Some
 returns-in-Some c = if_ok _ _ c.skip.result (λ done skipped. λ prefix is unended whole.
-    skip-gone c.args.reads_debug c.args.self.now prefix c.in-Some.extent c.args.self.now.location c.args.rest.now _ done is unended whole
+    skip-gone c.args.options c.args.self.now prefix c.in-Some.extent c.args.self.now.location c.args.rest.now _ done is unended whole
     c.in-Some.ensures.0 is.location c.in-Some.ensures.1 skipped) c.skip.ensures
 
 pub read-requires-clause-known : goal.read-requires-clause-known
@@ -21,5 +21,5 @@ read-requires-clause-known c = (c.requires.known.0, c.requires.known.1, c.requir
 pub returns-in-None : goal.returns-in-None
 returns-in-None c = if_ok _ _ c.read.result (λ done judged. λ prefix is unended whole.
     let same = is.location in
-    read-gone c.args.reads_debug prefix c.args.self.now.location c.args.rest.now _ done unended whole same c.in-None.ensures (judged prefix is same))
+    read-gone c.args.options prefix c.args.self.now.location c.args.rest.now _ done unended whole same c.in-None.ensures (judged prefix is same))
     c.read.ensures

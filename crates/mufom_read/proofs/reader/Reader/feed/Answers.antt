@@ -29,9 +29,9 @@ returns-in-None-clause-refused c = λ place reason stream has memory.
     let going = ap (λ (s : State). s.stop) (sym c.self.view_is) ∙ c.in-None.is in
     let reading = subst (λ (s : State). IsReading s stream) (sym c.self.view_is)
     (subst (λ (o : Option ReadStop). Knows c.args.self.now stream o) going has.1) in
-    feed-refused c.read_on.new.self (stream ++ c.args.chunk.now) c.read_on.result c.args.self.now.reads_debug place reason bytes
+    feed-refused c.read_on.new.self (stream ++ c.args.chunk.now) c.read_on.result c.args.self.now.options place reason bytes
     (c.read_on.ensures.known stream bytes reading) memory c.read_on.ensures.answer
-    (c.read_on.ensures.reads_debug ∙ ap (λ (s : State). s.reads_debug) c.self.view_is)
+    (c.read_on.ensures.options ∙ ap (λ (s : State). s.options) c.self.view_is)
 
 pub returns-in-Some-clause-read : goal.returns-in-Some-clause-read
 returns-in-Some-clause-read c = λ stream has.
@@ -49,4 +49,4 @@ returns-in-Some-clause-refused c = λ place reason stream has memory.
     let stopped = ap (λ (s : State). s.stop) (sym c.self.view_is) ∙ c.in-Some.is in
     let known = subst (λ (o : Option ReadStop). Knows c.args.self.now (stream ++ c.args.chunk.now) o) (sym stopped)
     (stop-stays c.args.self.now stream c.args.chunk.now c.in-Some.stop bytes (subst (λ (o : Option ReadStop). Knows c.args.self.now stream o) stopped has.1)) in
-    feed-refused c.args.self.now (stream ++ c.args.chunk.now) _ c.args.self.now.reads_debug place reason bytes known memory (sym (ap answer_of stopped)) refl
+    feed-refused c.args.self.now (stream ++ c.args.chunk.now) _ c.args.self.now.options place reason bytes known memory (sym (ap answer_of stopped)) refl

@@ -34,10 +34,10 @@ module_of-requires c =
     let has = c.self.invariant.1 in
     let is : IsReading it stream = subst (λ (o : Option ReadStop). Knows it stream o) c.in_default.is has.1 in
     let ended : is_ended is.prefix ≡ true = sym (c.is_ended.ensures.prefix is.prefix is.kept) ∙ c.if-not-is_ended.false in (
-      it.reads_debug,
+      it.options,
       is.prefix,
       stream,
-      subst (λ (f : Prefix). IsWhole it.reads_debug f is.prefix stream) (sym c.into_prefix.ensures) (is-whole it stream is has.0 ended),
+      subst (λ (f : Prefix). IsWhole it.options f is.prefix stream) (sym c.into_prefix.ensures) (is-whole it stream is has.0 ended),
     )
 
 pub returns-in-Ok-clause-ok : goal.returns-in-Ok-clause-ok
@@ -46,8 +46,8 @@ returns-in-Ok-clause-ok c = λ stream given_.
     let has = subst (λ (s : State). HasRead s stream) (sym c.self.view_is) given_ in
     let is : IsReading it stream = subst (λ (o : Option ReadStop). Knows it stream o) c.in_default.is has.1 in
     let ended : is_ended is.prefix ≡ true = sym (c.is_ended.ensures.prefix is.prefix is.kept) ∙ c.if-not-is_ended.false in
-    let whole = subst (λ (f : Prefix). IsWhole it.reads_debug f is.prefix stream) (sym c.into_prefix.ensures) (is-whole it stream is has.0 ended) in
-    subst (λ (s : State). IsModule s.reads_debug stream c.in-Ok.module) c.self.view_is (c.in-Ok.ensures it.reads_debug is.prefix stream whole)
+    let whole = subst (λ (f : Prefix). IsWhole it.options f is.prefix stream) (sym c.into_prefix.ensures) (is-whole it stream is has.0 ended) in
+    subst (λ (s : State). IsModule s.options stream c.in-Ok.module) c.self.view_is (c.in-Ok.ensures it.options is.prefix stream whole)
 
 pub returns-in-Ok-clause-refused : goal.returns-in-Ok-clause-refused
 returns-in-Ok-clause-refused c = λ place reason stream has memory.
@@ -60,18 +60,18 @@ returns-in-Ok-clause-refused c = λ place reason stream has memory.
 
 pub returns-in-Some-clause-module : goal.returns-in-Some-clause-module
 returns-in-Some-clause-module c = λ stream m has is memory.
-    finish-file c.args.self.reads_debug stream m (Err c.in-Some.stop) has.0 tt
+    finish-file c.args.self.options stream m (Err c.in-Some.stop) has.0 tt
     (λ place reason. (returns-in-Some-clause-refused c place reason stream has memory).0) is memory
 
 pub returns-then-not-is_ended-clause-module : goal.returns-then-not-is_ended-clause-module
 returns-then-not-is_ended-clause-module c = λ stream m has is memory.
-    finish-file c.args.self.reads_debug stream m (Err c.refused.result) has.0 tt
+    finish-file c.args.self.options stream m (Err c.refused.result) has.0 tt
     (λ place reason. (returns-then-not-is_ended-clause-refused c place reason stream has memory).0) is memory
 
 pub returns-in-Ok-clause-module : goal.returns-in-Ok-clause-module
 returns-in-Ok-clause-module c = λ stream m has is memory.
-    finish-file c.args.self.reads_debug stream m (Ok c.in-Ok.module) has.0 (returns-in-Ok-clause-ok c stream has)
+    finish-file c.args.self.options stream m (Ok c.in-Ok.module) has.0 (returns-in-Ok-clause-ok c stream has)
     (λ place reason. (returns-in-Ok-clause-refused c place reason stream has memory).0) is memory
 
 pub returns-in-Ok-clause-weighs : goal.returns-in-Ok-clause-weighs
-returns-in-Ok-clause-weighs c = λ stream has. modules_weigh c.args.self.reads_debug stream c.in-Ok.module has.0 (returns-in-Ok-clause-ok c stream has)
+returns-in-Ok-clause-weighs c = λ stream has. modules_weigh c.args.self.options stream c.in-Ok.module has.0 (returns-in-Ok-clause-ok c stream has)

@@ -10,7 +10,7 @@ use Rattle.mufom_read.proofs.reader.Reader.pending.Goals as goal
 pub returns-clause-exact : goal.returns-clause-exact
 returns-clause-exact c = λ stream read none.
     let it = c.args.self.now in
-    subst (λ n. IsPending it.reads_debug stream n) (sym (ap length c.as_slice.ensures.value ∙ ap (λ (s : State). length s.rest.items) c.self.view_is))
+    subst (λ n. IsPending it.options stream n) (sym (ap length c.as_slice.ensures.value ∙ ap (λ (s : State). length s.rest.items) c.self.view_is))
     (pending-is it stream (subst (λ (s : Option ReadStop). Knows it stream s) none read.1))
 
 pub returns-clause-small : goal.returns-clause-small

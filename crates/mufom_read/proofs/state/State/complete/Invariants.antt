@@ -8,9 +8,9 @@ use Rattle.mufom_read.proofs.state.State.complete.Given as goal
 abbrev pub invariant-loop-used : goal.invariant-loop-used
 invariant-loop-used l = record {
   within : l.used ≤ length l.chunk;
-  flag : l.self.reads_debug ≡ l.initial.self.reads_debug;
-  waited : (before : List Step) → IsPrefixOf l.initial.self.prefix before → IsIncomplete l.initial.self.reads_debug before l.initial.self.rest.items
-      → HasWaited l.initial.self.reads_debug before l.initial.self.rest.items l.chunk l.used l.self;
+  flag : l.self.options ≡ l.initial.self.options;
+  waited : (before : List Step) → IsPrefixOf l.initial.self.prefix before → IsIncomplete l.initial.self.options before l.initial.self.rest.items
+      → HasWaited l.initial.self.options before l.initial.self.rest.items l.chunk l.used l.self;
 }
 
 abbrev pub decreases-loop-used : goal.decreases-loop-used

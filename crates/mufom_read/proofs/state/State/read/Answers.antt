@@ -13,10 +13,10 @@ pub returns-in-Ok-clause-known : goal.returns-in-Ok-clause-known
 returns-in-Ok-clause-known c = λ stream bytes is.
     known-taken c.args.self.now c.take_chunk.new.self stream c.args.chunk.now c.at_most.result.now _ c.final_stop.result is bytes
     (c.at_most.ensures ∙ ap (λ n. take (file_limit - n) c.args.chunk.now) c.len-room.ensures)
-    (ap (λ n. nat_lt (file_limit - n) (length c.args.chunk.now)) c.len-room.ensures) c.take_chunk.ensures.reads_debug c.in-Ok.ensures.taken
+    (ap (λ n. nat_lt (file_limit - n) (length c.args.chunk.now)) c.len-room.ensures) c.take_chunk.ensures.options c.in-Ok.ensures.taken
     c.final_stop.ensures
 
 pub returns-in-Err-clause-known : goal.returns-in-Err-clause-known
 returns-in-Err-clause-known c = λ stream bytes is.
     known-stopped c.args.self.now c.take_chunk.new.self stream c.args.chunk.now c.at_most.result.now c.in-Err.stop is bytes
-    (c.at_most.ensures ∙ ap (λ n. take (file_limit - n) c.args.chunk.now) c.len-room.ensures) c.take_chunk.ensures.reads_debug c.in-Err.ensures.taken
+    (c.at_most.ensures ∙ ap (λ n. take (file_limit - n) c.args.chunk.now) c.len-room.ensures) c.take_chunk.ensures.options c.in-Err.ensures.taken

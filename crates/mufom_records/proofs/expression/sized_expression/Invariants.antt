@@ -1,0 +1,17 @@
+use Rattle.std.proofs.Common.{◌≡◌, ◌+◌, ◌≤◌, length}
+use Rattle.mufom_records.specs.Reading.{tokens_from, sizes_from, no_tokens}
+use Rattle.mufom_records.proofs.expression.sized_expression.Given as goal
+
+-- the tokens from here on, and what they say of a size, are what is left of all of them
+abbrev pub invariant-loop-b : goal.invariant-loop-b
+invariant-loop-b l = record {
+  begun : l.start ≤ l.so_far.last;
+  order : l.so_far.last ≤ l.at;
+  within : l.at ≤ length l.input;
+  few : l.room + l.so_far.terms ≤ 255;
+  same : tokens_from l.room l.so_far.terms l.input l.at ≡ tokens_from 255 0 l.input l.start;
+  says : sizes_from l.room l.so_far l.input l.at ≡ sizes_from 255 (no_tokens l.start) l.input l.start;
+}
+
+abbrev pub decreases-loop-b : goal.decreases-loop-b
+decreases-loop-b l = l.room
