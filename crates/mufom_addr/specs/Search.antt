@@ -1,5 +1,5 @@
 -- The state of a search for a function and a line, and the items that it has seen.
-use Rattle.std.specs.Prelude.{◌≡◌, ℕ, List, [], ◌∷◌, ◌++◌, Option, Some, None, option_map, slice_index_or, reverse, nat_lt, nat_le, if◌then◌else◌}
+use Rattle.std.specs.Prelude.{◌≡◌, ℕ, List, ◌++◌, Option, Some, None, option_map, slice_index_or, reverse, nat_lt, nat_le, if◌then◌else◌}
 use Rattle.mufom_addr.specs.declared.hit.LineHit.{LineHit}
 use Rattle.mufom_addr.specs.declared.search.FoundFunction.{FoundFunction}
 use Rattle.mufom_addr.specs.declared.search.FoundLine.{FoundLine}

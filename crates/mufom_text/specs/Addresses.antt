@@ -1,5 +1,5 @@
 -- Debug addresses, from the values that the code has for them.
-use Rattle.std.specs.Prelude.{ℕ, List, [], ◌∷◌, map}
+use Rattle.std.specs.Prelude.{List, map}
 use Rattle.mufom_text.specs.declared.addresses.Role.{Role as HeldRole}
 use Rattle.mufom_text.specs.declared.addresses.Role.TheVariants as roles
 use Rattle.mufom_text.specs.declared.addresses.DebugAddress.{DebugAddress}
