@@ -5,7 +5,7 @@ ghost use Rattle.mufom_expr.specs.Spelled.{list_of};
 ghost use Rattle.mufom_module.specs.SpelledRecords as records;
 ghost use Rattle.mufom_read.specs.Kept.{indexes_by};
 
-use crate::tables::Tables;
+use crate::tables::{Tables, entries};
 use mufom_expr::{Letter, Postfix, VarMap};
 use mufom_sections::IndexTable;
 
@@ -14,20 +14,6 @@ pub(crate) fn position_in(table: &IndexTable, index: u32) -> u32
     ensures { result ≡ records.position_in table.now index }
 {
     table.position(index).unwrap_or(0)
-}
-
-// The table of the entries that a variable with this letter refers to.
-fn entries(tables: &Tables, letter: Letter) -> &IndexTable
-    ensures { result.now ≡ list_of (indexes_by tables.now) letter }
-{
-    match letter {
-        Letter::I => &tables.publics,
-        Letter::X => &tables.references,
-        Letter::L => &tables.sections,
-        Letter::P => &tables.sections,
-        Letter::R => &tables.sections,
-        Letter::S => &tables.sections,
-    }
 }
 
 /// Replaces each index in an expression by the position of its entry.

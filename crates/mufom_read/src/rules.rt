@@ -16,28 +16,13 @@ ghost use Rattle.mufom_read.specs.Kept.{names_unknown_entry_in, names_unknown_in
 ghost use Rattle.mufom_read.specs.Kept.{rule_broken_in};
 
 use crate::debug::{OpenBlock, ends_badly, is_too_deep};
-use crate::tables::{Tables, has};
+use crate::tables::{Tables, entries, has};
 use mufom_expr::{Letter, Postfix, Token};
 use mufom_numbers::Reason;
 use mufom_numbers::limits::MOST_ALIGNMENT;
 use mufom_records::{BlockTail, Record};
-use mufom_sections::IndexTable;
 
 // ---- indexes
-
-// The table of the entries that a variable with this letter refers to.
-fn entries(tables: &Tables, letter: Letter) -> &IndexTable
-    ensures { result.now ≡ entries_in tables.now (records.kind_of_letter letter) }
-{
-    match letter {
-        Letter::I => &tables.publics,
-        Letter::X => &tables.references,
-        Letter::L => &tables.sections,
-        Letter::P => &tables.sections,
-        Letter::R => &tables.sections,
-        Letter::S => &tables.sections,
-    }
-}
 
 // Whether the record declares an index that is already declared for its kind of entry.
 fn declares_again(tables: &Tables, record: &Record) -> bool

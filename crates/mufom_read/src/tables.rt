@@ -2,8 +2,11 @@
 
 ghost use Rattle.std.specs.Prelude.{◌≡◌, ◌++◌, ◌∷◌, [], ◌<◌, ◌^◌, ◌-◌, ◌==◌, false, true, length, OnOk};
 ghost use Rattle.std.specs.List.{list_any};
-ghost use Rattle.mufom_read.specs.Kept.{tables_of, with_row, is_new, HasRoom};
+ghost use Rattle.mufom_expr.specs.Spelled.{list_of};
+ghost use Rattle.mufom_module.specs.SpelledRecords as records;
+ghost use Rattle.mufom_read.specs.Kept.{entries_in, indexes_by, tables_of, with_row, is_new, HasRoom};
 
+use mufom_expr::Letter;
 use mufom_numbers::NoMemory;
 use mufom_records::Record;
 use mufom_sections::IndexTable;
@@ -92,5 +95,20 @@ impl Tables {
             }
             _ => Ok(()),
         }
+    }
+}
+
+/// The table of the entries that a variable with this letter refers to.
+pub(crate) fn entries(tables: &Tables, letter: Letter) -> &IndexTable
+    ensures kind { result.now ≡ entries_in tables.now (records.kind_of_letter letter) }
+    ensures list { result.now ≡ list_of (indexes_by tables.now) letter }
+{
+    match letter {
+        Letter::I => &tables.publics,
+        Letter::X => &tables.references,
+        Letter::L => &tables.sections,
+        Letter::P => &tables.sections,
+        Letter::R => &tables.sections,
+        Letter::S => &tables.sections,
     }
 }

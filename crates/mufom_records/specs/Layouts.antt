@@ -1,6 +1,7 @@
 -- The table of records: the fields that follow the code of each record, in order (IEEE Std 695, MUFOM commands; the codes are
 -- those of the public `ieee.h`, the fields are this project's profile).
-use Rattle.std.specs.Prelude.{◌≡◌, ℕ, ◌+◌, ◌^◌, Bool, true, false, List, [], ◌∷◌, ◌++◌, length, Option, Some, None, ◌==◌, nat_lt, ◌&&◌, if◌then◌else◌}
+use Rattle.std.specs.Prelude.{◌≡◌, ℕ, ◌+◌, ◌^◌, Bool, true, false, List, [], ◌∷◌, ◌++◌, length, Option, Some, None, ◌==◌, nat_le, nat_lt, ◌&&◌, if◌then◌else◌}
+use Rattle.mufom_numbers.specs.declared.limits.TheConstants.{MOST_STRING_BYTES}
 use Rattle.mufom_numbers.specs.declared.codes.TheConstants.{ASSIGNMENT, BLOCK_BEGIN, BLOCK_END, COMMA, CONSTANT, DEBUG_NAME, DESCRIPTOR, LETTER_A}
 use Rattle.mufom_numbers.specs.declared.codes.TheConstants.{LETTER_B, LETTER_C, LETTER_D, LETTER_F, LETTER_G, LETTER_I, LETTER_L, LETTER_M, LETTER_N}
 use Rattle.mufom_numbers.specs.declared.codes.TheConstants.{LETTER_P, LETTER_R, LETTER_S, LETTER_W, LETTER_X, MODULE_BEGIN, MODULE_END, NOTE}
@@ -61,7 +62,7 @@ index = number (λ n. nat_lt n (2 ^ 32)) here BadNumber
 
 -- the count of literal bytes: at most 65,535
 abbrev pub count : Field
-count = number (λ n. nat_lt n 65536) here LongRun
+count = number (λ n. nat_le n MOST_STRING_BYTES) here LongRun
 
 -- the supported kinds of blocks
 abbrev pub block_kinds : List ℕ

@@ -2,6 +2,7 @@
 //! offset after it.
 
 ghost use Rattle.std.specs.Prelude.{◌≡◌, ◌<◌, ◌≤◌, length, IfOk};
+ghost use Rattle.mufom_numbers.specs.declared.limits.TheConstants.{MOST_STRING_BYTES};
 ghost use Rattle.mufom_records.specs.Fields.{is_one_of, letter as letters, optional_number as an_optional_number, numbers as some_numbers};
 ghost use Rattle.mufom_records.specs.Fields.{string as a_string, run as a_run, byte as a_byte};
 ghost use Rattle.mufom_records.specs.Layouts.{any_number, index as an_index, count as a_count, block_kind as a_block_kind};
@@ -11,6 +12,7 @@ ghost use Rattle.mufom_records.specs.Reading.{field_at, plain_number_at};
 
 use crate::stop::Stop;
 use arrayvec::ArrayVec;
+use mufom_numbers::limits::MOST_STRING_BYTES;
 use mufom_numbers::{Reason, Span, Taken, codes, read_number, read_string};
 
 // The smallest lead byte of a number. All smaller bytes are numbers by themselves.
@@ -89,10 +91,10 @@ pub(crate) fn index(input: &[u8], at: usize) -> Result<(u32, usize), Stop>
 pub(crate) fn count(input: &[u8], at: usize) -> Result<(usize, usize), Stop>
     requires { at ≤ length input.now }
     ensures exact { result ≡ field_at a_count input.now at }
-    ensures within { IfOk result (λ r. (r.0 < 65536) × (r.1 ≤ length input.now)) }
+    ensures within { IfOk result (λ r. (r.0 ≤ MOST_STRING_BYTES) × (r.1 ≤ length input.now)) }
 {
     let (value, after) = plain_number(input, at)?;
-    if value < 65536 {
+    if value <= MOST_STRING_BYTES as u64 {
         Ok((value as usize, after))
     } else {
         Err(bad(at, Reason::LongRun))

@@ -2,7 +2,7 @@
 use Rattle.std.proofs.Common.{◌≡◌, ℕ, ◌+◌, ◌^◌, ◌<◌, true, false, nat_lt, nat_le, ◌&&◌, ◌||◌, ◌==◌, List, [], ◌∷◌, ◌++◌, length, Option, Some, None}
 use Rattle.std.proofs.Common.{refl, sym, ap, ◌∙◌, arith}
 use Rattle.std.proofs.lemmas.List.{append-nil}
-use Rattle.std.proofs.lemmas.Bool.{lt-ltb, ltb-false}
+use Rattle.std.proofs.lemmas.Bool.{le-leb, ltb-false}
 use Rattle.mufom_numbers.specs.declared.limits.TheConstants.{MOST_STRING_BYTES}
 use Rattle.mufom_numbers.specs.Spelling.{AreBytes, SpellsNumber}
 use Rattle.mufom_numbers.specs.declared.taken.Span.{Span}
@@ -27,8 +27,8 @@ pub set_section-whole : (i : ℕ) → i < 2 ^ 32 → IsWhole (r.SetSection i) (0
 set_section-whole i hi next code =
     (0xE5, 0xE5 ∷ [], w.number shortest i, refl, (i, w.number shortest i, [], spells_index i hi, (refl, refl), sym (append-nil (w.number shortest i))), refl)
 
-count-fits : (n : ℕ) → nat_lt MOST_STRING_BYTES n ≡ false → (n < 2 ^ 64) × (nat_lt n 65536 ≡ true)
-count-fits n short = let few = ltb-false MOST_STRING_BYTES n short in (omega (arith, few), lt-ltb n 65536 (omega (arith, few)))
+count-fits : (n : ℕ) → nat_lt MOST_STRING_BYTES n ≡ false → (n < 2 ^ 64) × (nat_le n MOST_STRING_BYTES ≡ true)
+count-fits n short = let few = ltb-false MOST_STRING_BYTES n short in (omega (arith, few), le-leb n MOST_STRING_BYTES (omega (arith, few)))
 
 -- the place of the bytes of a run after their count, which begins at a place
 abbrev pub run_at : ℕ → List ℕ → Span

@@ -1,7 +1,8 @@
 -- What the records of the header are, and that strings and runs of literal bytes are short.
-use Rattle.std.proofs.Common.{◌≡◌, ◌⊎◌, inl, inr, ℕ, ◌+◌, ◌<◌, ◌≤◌, Bool, true, false, cond, ◌==◌, ◌&&◌, ◌||◌, nat_lt, nat_le, List, [], ◌∷◌, ◌++◌}
-use Rattle.std.proofs.Common.{length, Option, Some, None, refl, sym, ap, subst, ◌∙◌, arith, eqb-true, eq-eqb, ne_eqb, ltb-true, leb-true}
+use Rattle.std.proofs.Common.{◌≡◌, ◌⊎◌, inl, inr, ℕ, ◌+◌, ◌<◌, ◌≤◌, Bool, true, false, cond, ◌==◌, ◌&&◌, ◌||◌, nat_le, List, [], ◌∷◌, ◌++◌}
+use Rattle.std.proofs.Common.{length, Option, Some, None, refl, sym, ap, subst, ◌∙◌, arith, eqb-true, eq-eqb, ne_eqb, leb-true}
 use Rattle.std.proofs.lemmas.Bool.{and_parts, both_ways, cases_eq}
+use Rattle.mufom_numbers.specs.declared.limits.TheConstants.{MOST_STRING_BYTES}
 use Rattle.mufom_numbers.specs.declared.taken.Span.{Span}
 use Rattle.mufom_numbers.specs.Spelling.{IsStringLead}
 use Rattle.mufom_records.specs.declared.record.Mode.TheVariants as mode
@@ -131,8 +132,8 @@ IsShort (r.DebugNote i type_index attribute ns) = is_one_of Layouts.debug_attrib
 IsShort r.ModuleEnd = ⊥
 IsShort _ = Unit {0}
 
-run_short : (n : ℕ) (span : Span) → nat_lt n 65536 ≡ true → span.len ≡ n → span.len < 65536
-run_short n span h e = let below = ltb-true n 65536 h in omega arith
+run_short : (n : ℕ) (span : Span) → nat_le n MOST_STRING_BYTES ≡ true → span.len ≡ n → span.len < 65536
+run_short n span h e = let below = leb-true n MOST_STRING_BYTES h in omega arith
 
 named_short : (i : ℕ) (absolute : Bool) → Promises IsShort (Layouts.named_section i absolute)
 named_short i absolute = λ (p : Option ℕ) _ (name : Span) x (a : Option ℕ) _ (b : Option ℕ) _ (c : Option ℕ) _. x
