@@ -6,4 +6,3 @@ pub mod Help
 pub mod Explain
 pub mod Answer
 pub mod Sound
-pub mod Alike
