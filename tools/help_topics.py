@@ -2,7 +2,7 @@
 
     python3 tools/help_topics.py
 
-The names come from the definition of the error lines, crates/mufom_command/specs/Complaint.antt, and
+The names come from the definition of the error lines, crates/mufom_outcome/specs/Complaint.antt, and
 from the enums of errors; the commands come from crates/mufom_words/specs/Options.antt. Each name must
 have a topic in crates/mufom_help whose text shows its line, and a row in docs/REFUSALS.md (or a
 paragraph that begins with the name); each command must have a topic, and a line in the list of
@@ -34,7 +34,7 @@ def read(path):
 def lines_of_errors():
     """Returns pairs of the text before a name (None if it is not known) and the name."""
     found = set()
-    for line in read("crates/mufom_command/specs/Complaint.antt").splitlines():
+    for line in read("crates/mufom_outcome/specs/Complaint.antt").splitlines():
         words = re.match(r"(\w+) ", line)
         if words and line.startswith(words[1]) and "=" in line:
             definition = words[1]
@@ -49,7 +49,7 @@ def lines_of_errors():
 def variants():
     """Returns the variants of those enums of errors from which error lines are made."""
     found = set()
-    printed = read("crates/mufom_command/specs/Complaint.antt")
+    printed = read("crates/mufom_outcome/specs/Complaint.antt")
     for path in glob.glob(os.path.join(TOP, "crates/*/src/*.rt")):
         for enum, body in re.findall(rf"pub enum ({'|'.join(ENUMS)}) \{{\n(.*?)^\}}", read(path), re.M | re.S):
             if f".{{{enum}}}" in printed:

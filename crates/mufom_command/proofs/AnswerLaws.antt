@@ -1,4 +1,4 @@
--- The error line after the work of a command: the answer keeps its cause. And the answer is complete, since a run comes to one end.
+-- The error line after the work of a task: the outcome keeps its cause.
 use Rattle.std.proofs.Common.{◌≡◌, ◌≢◌, ◌⊎◌, ℕ, ◌≤◌, Bool, true, false, List, Option, Some, None}
 use Rattle.std.proofs.Common.{Result, Ok, Err, OnSome, take, refl, sym, ap, subst, ◌∙◌, inl, inr, arith}
 use Rattle.std.proofs.lemmas.List.{append-nil}
@@ -8,19 +8,24 @@ use Rattle.mufom_words.specs.declared.stop.WordsStop.{WordsStop}
 use Rattle.mufom_words.specs.declared.stop.WordsStop.TheVariants as words_stop
 use Rattle.mufom_words.specs.Answer.{answer_of}
 use Rattle.mufom_words.specs.Explain.{explained}
-use Rattle.mufom_words.specs.Options.{explains}
-use Rattle.mufom_command.specs.declared.outcome.Outcome.{Outcome}
-use Rattle.mufom_command.specs.declared.outcome.Outcome.TheVariants as outcome
-use Rattle.mufom_groups.specs.Work.{Work}
-use Rattle.mufom_command.specs.Stop.{Stop}
-use Rattle.mufom_command.specs.Commands.{Output, printed, made, work_of}
-use Rattle.mufom_command.specs.Complaint.{complaint}
-use Rattle.mufom_command.specs.Contract.{AnswersBy, AnswersWith, OpensFor, OpensWith}
-use Rattle.mufom_command.specs.Explain.{EndsBy, EndsFor, ExplainsTo, IsExplanation}
-use Rattle.mufom_command.specs.Run.{AddsErrorLine, AnswersFor, BeginsText, IsOpenedCount, NoneFalls, OpensBy, PrintsText}
+use Rattle.mufom_outcome.specs.declared.outcome.Outcome.{Outcome}
+use Rattle.mufom_outcome.specs.declared.outcome.Outcome.TheVariants as outcome
+use Rattle.mufom_task.specs.declared.task.Inputs.{Inputs}
+use Rattle.mufom_task.specs.declared.task.Request.{Request}
+use Rattle.mufom_task.specs.declared.task.Request.TheVariants as request
+use Rattle.mufom_task.specs.declared.task.Task.{Task}
+use Rattle.mufom_command.specs.Works.{Output, printed, made}
+use Rattle.mufom_outcome.specs.Complaint.{complaint}
+use Rattle.mufom_command.specs.Contract.{AnswersBy, AnswersWith, OpensOf, OpensWith}
+use Rattle.mufom_command.specs.Explain.{EndsBy, EndsFor, EndsWith, ExplainsTo, IsExplanation}
+use Rattle.mufom_command.specs.Run.{AddsErrorLine, AnswersFor, BeginsText, OpensFor, OpensBy, PrintsText}
+use Rattle.mufom_task.specs.Calls.{IsOpenedCount, NoneFalls}
 use Rattle.mufom_command.specs.RunParts.{DoesBy, DoesWith, IsPrintedAs, MayLackMemory}
-use Rattle.mufom_command.specs.Run.{OpensInputs, PrintsErrorLine, PutsOut, PutsOutNothing, PutsOutPrefix, inputs_of, stop_answer}
-use Rattle.mufom_command.proofs.InputLaws.{call_between}
+use Rattle.mufom_task.specs.Calls.{OpensInputs}
+use Rattle.mufom_command.specs.Run.{PrintsErrorLine, PutsOut, PutsOutNothing, PutsOutPrefix}
+use Rattle.mufom_task.specs.Tasks.{input_names, inputs_of, request_of}
+use Rattle.mufom_outcome.specs.Outcomes.{stop_answer}
+use Rattle.mufom_task.proofs.InputLaws.{call_between}
 
 module _ (old mid : Meaning) (before between : Faults) (err : Option (List ℕ)) (complaints : ℕ) where
   -- the world after the error line
@@ -47,8 +52,8 @@ module _ (old mid : Meaning) (before between : Faults) (err : Option (List ℕ))
   prefix-kept (printed text) is = record { added = is.added; stays = ap (λ (m : Meaning). record m { err = err }) is.stays }
   prefix-kept (made name bytes) is = record { begun = is.begun; created = is.created; stays = ap (λ (m : Meaning). record m { err = err }) is.stays }
 
-  module _ (c : Command) (work : List NamedFile → Work Stop Output) where
-    answers-kept : (o : Outcome) → AnswersFor c work (call_between old mid before between) o → AnswersFor c work (call_between old new before now) o
+  module _ (t : Task) where
+    answers-kept : (o : Outcome) → AnswersFor t (call_between old mid before between) o → AnswersFor t (call_between old new before now) o
     answers-kept outcome.Done (output, is, puts) = (output, is, output-kept output puts)
     answers-kept (outcome.Refused r) (is, nothing) = (is, nothing-kept nothing)
     answers-kept (outcome.Usage f) is = absurd is
@@ -56,7 +61,7 @@ module _ (old mid : Meaning) (before between : Faults) (err : Option (List ℕ))
     answers-kept outcome.WriteFault (rose, (output, is, puts)) = (rose, (output, is, prefix-kept output puts))
     answers-kept outcome.NoMemory nothing = nothing-kept nothing
 
-    nothing-lacked : (o : Outcome) → MayLackMemory o → AnswersFor c work (call_between old mid before between) o
+    nothing-lacked : (o : Outcome) → MayLackMemory o → AnswersFor t (call_between old mid before between) o
         → PutsOutNothing (call_between old new before now)
     nothing-lacked outcome.Done may is = absurd may
     nothing-lacked (outcome.Refused r) may (is, nothing) = nothing-kept nothing
@@ -65,17 +70,17 @@ module _ (old mid : Meaning) (before between : Faults) (err : Option (List ℕ))
     nothing-lacked outcome.WriteFault may is = absurd may
     nothing-lacked outcome.NoMemory may is = absurd may
 
-    answers-after : (o result : Outcome) → IsPrintedAs o result → AnswersFor c work (call_between old mid before between) o
-        → AnswersFor c work (call_between old new before now) result
-    answers-after o result (inl same) is = subst (λ (x : Outcome). AnswersFor c work (call_between old new before now) x) (sym same) (answers-kept o is)
-    answers-after o result (inr (same, may)) is = subst (λ (x : Outcome). AnswersFor c work (call_between old new before now) x) (sym same)
+    answers-after : (o result : Outcome) → IsPrintedAs o result → AnswersFor t (call_between old mid before between) o
+        → AnswersFor t (call_between old new before now) result
+    answers-after o result (inl same) is = subst (λ (x : Outcome). AnswersFor t (call_between old new before now) x) (sym same) (answers-kept o is)
+    answers-after o result (inr (same, may)) is = subst (λ (x : Outcome). AnswersFor t (call_between old new before now) x) (sym same)
         (nothing-lacked o may is)
 
-  count-after : (c : Command) (o result : Outcome) → IsPrintedAs o result → (count : ℕ) → IsOpenedCount c o count → IsOpenedCount c result count
+  count-after : (c : Inputs) (o result : Outcome) → IsPrintedAs o result → (count : ℕ) → IsOpenedCount c o count → IsOpenedCount c result count
   count-after c o result (inl same) count exact = subst (λ (x : Outcome). IsOpenedCount c x count) (sym same) exact
   count-after c o result (inr (same, may)) count exact = subst (λ (x : Outcome). IsOpenedCount c x count) (sym same) tt
 
-  opens-after : (c : Command) (o result : Outcome) → IsPrintedAs o result → OpensInputs c (call_between old mid before between) o
+  opens-after : (c : Inputs) (o result : Outcome) → IsPrintedAs o result → OpensInputs c (call_between old mid before between) o
       → OpensInputs c (call_between old new before now) result
   opens-after c o result shown is = record { count = is.count; exact = count-after c o result shown is.count is.exact; within = is.within; opened = is.opened }
 
@@ -87,6 +92,10 @@ module _ (old mid : Meaning) (before between : Faults) (err : Option (List ℕ))
 
   -- ---- a text on other arguments
 
+  request-kept : (q : Request) (o : Outcome) → OpensFor q (call_between old mid before between) o → OpensFor q (call_between old new before now) o
+  request-kept (request.Run t) o is = record { count = is.count; exact = is.exact; within = is.within; opened = is.opened }
+  request-kept request.Explain o is = is
+
   explanation-kept : (words : List (List ℕ)) (text : List ℕ) → IsExplanation words (call_between old mid before between) text
       → IsExplanation words (call_between old new before now) text
   explanation-kept words text is = record {
@@ -96,23 +105,28 @@ module _ (old mid : Meaning) (before between : Faults) (err : Option (List ℕ))
     opens = opens-kept (answer_of words) is.answer is.opens;
     are = is.are;
   } where
-    for-kept : (c : Command) (work : List NamedFile → Work Stop Output) (o : Outcome) (details : List ℕ)
-        → EndsFor c work (call_between old mid before between) o details → EndsFor c work (call_between old new before now) o details
-    for-kept c work outcome.Done details is = is
-    for-kept c work (outcome.Refused r) details is = is
-    for-kept c work (outcome.Usage f) details is = absurd is
-    for-kept c work (outcome.ReadFault at) details is = is
-    for-kept c work outcome.WriteFault details is = absurd is
-    for-kept c work outcome.NoMemory details is = absurd is
+    for-kept : (t : Task) (o : Outcome) (details : List ℕ)
+        → EndsFor t (call_between old mid before between) o details → EndsFor t (call_between old new before now) o details
+    for-kept t outcome.Done details is = is
+    for-kept t (outcome.Refused r) details is = is
+    for-kept t (outcome.Usage f) details is = absurd is
+    for-kept t (outcome.ReadFault at) details is = is
+    for-kept t outcome.WriteFault details is = absurd is
+    for-kept t outcome.NoMemory details is = absurd is
+
+    with-kept : (q : Request) (o : Outcome) (details : List ℕ) → EndsWith q (call_between old mid before between) o details
+        → EndsWith q (call_between old new before now) o details
+    with-kept (request.Run t) o details is = for-kept t o details is
+    with-kept request.Explain o details is = is
 
     ends-kept : (r : Result Command WordsStop) (o : Outcome) (details : List ℕ) → EndsBy r (call_between old mid before between) o details
         → EndsBy r (call_between old new before now) o details
-    ends-kept (Ok c) o details is = for-kept c (λ files. work_of c.verb files c) o details is
+    ends-kept (Ok c) o details is = with-kept (request_of c) o details is
     ends-kept (Err s) o details is = is
 
     opens-kept : (r : Result Command WordsStop) (o : Outcome) → OpensBy r (call_between old mid before between) o
         → OpensBy r (call_between old new before now) o
-    opens-kept (Ok c) o is = record { count = is.count; exact = is.exact; within = is.within; opened = is.opened }
+    opens-kept (Ok c) o is = request-kept (request_of c) o is
     opens-kept (Err s) o is = is
 
   text-kept : (text : List ℕ) → PrintsText text (call_between old mid before between) → PrintsText text (call_between old new before now)
@@ -147,33 +161,33 @@ module _ (old mid : Meaning) (before between : Faults) (err : Option (List ℕ))
 
     some-kept : (r : Result Command WordsStop) → OpensBy r (call_between old mid before between) outcome.NoMemory
         → OpensBy r (call_between old new before now) outcome.NoMemory
-    some-kept (Ok c) is = record { count = is.count; exact = is.exact; within = is.within; opened = is.opened }
+    some-kept (Ok c) is = request-kept (request_of c) outcome.NoMemory is
     some-kept (Err s) is = is
 
   module _ (words : List (List ℕ)) where
     later-counts : between.complaints ≤ complaints → NoneFalls (call_between old mid before between) → NoneFalls (call_between old new before now)
     later-counts later is = record { reads = is.reads; writes = is.writes; complaints = let first = is.complaints in omega (arith, first, later) }
 
-    with-after : (b : Bool) (c : Command) (o result : Outcome) → IsPrintedAs o result → between.complaints ≤ complaints
-        → DoesWith b words c (call_between old mid before between) o
-        → AnswersWith b words c (call_between old new before now) result × OpensWith b words c (call_between old new before now) result
+    with-after : (q : Request) (o result : Outcome) → IsPrintedAs o result → between.complaints ≤ complaints
+        → DoesWith words q (call_between old mid before between) o
+        → AnswersWith words q (call_between old new before now) result × OpensWith words q (call_between old new before now) result
         × NoneFalls (call_between old new before now)
-    with-after true c o result shown later does = (
+    with-after request.Explain o result shown later does = (
       explains-after (explained words) o result shown does.answers,
       some-kept (explained words) (answer_of (explained words)) does.opens,
       later-counts later does.counts,
     )
-    with-after false c o result shown later does = (
-      answers-after c (λ files. work_of c.verb files c) o result shown does.answers,
-      opens-after c o result shown does.opens,
+    with-after (request.Run t) o result shown later does = (
+      answers-after t o result shown does.answers,
+      opens-after (inputs_of t) o result shown does.opens,
       later-counts later does.counts,
     )
 
     all-after : (r : Result Command WordsStop) (o result : Outcome) → IsPrintedAs o result → between.complaints ≤ complaints
         → DoesBy words r (call_between old mid before between) o
-        → AnswersBy words r (call_between old new before now) result × OpensFor words r (call_between old new before now) result
+        → AnswersBy words r (call_between old new before now) result × OpensOf words r (call_between old new before now) result
         × NoneFalls (call_between old new before now)
-    all-after (Ok c) o result shown later does = with-after (explains c.verb) c o result shown later does
+    all-after (Ok c) o result shown later does = with-after (request_of c) o result shown later does
     all-after (Err s) o result shown later (is, stays, counts) = (
       record { is = stop-after s o result shown is; stays = ap (λ (m : Meaning). record m { err = err }) stays },
       ap (λ (m : Meaning). m.opened) stays,
@@ -187,7 +201,7 @@ module _ (old mid : Meaning) (before between : Faults) (err : Option (List ℕ))
 -- the answer after its error line, and what stands before it was printed
 pub record IsAnswered (words : List (List ℕ)) (r : Result Command WordsStop) (old new : Meaning) (before now : Faults) (result : Outcome) : Type 0 where
   pub answers : AnswersBy words r (call_between old new before now) result
-  pub opens : OpensFor words r (call_between old new before now) result
+  pub opens : OpensOf words r (call_between old new before now) result
   pub counts : NoneFalls (call_between old new before now)
 
 pub answered : (words : List (List ℕ)) (r : Result Command WordsStop) (old mid new : Meaning) (before between now : Faults) (o result : Outcome)
@@ -201,14 +215,14 @@ answered words r old mid new before between now o result shown (stays, counts, l
 
 -- ---- the error output before the error line
 
-err-with : (words : List (List ℕ)) (b : Bool) (c : Command) (old mid : Meaning) (before between : Faults) (o : Outcome)
-    → DoesWith b words c (call_between old mid before between) o → (mid.err ≡ old.err) × (before.complaints ≤ between.complaints)
-err-with words true c old mid before between o does = (does.err, does.counts.complaints)
-err-with words false c old mid before between o does = (does.err, does.counts.complaints)
+err-with : (words : List (List ℕ)) (q : Request) (old mid : Meaning) (before between : Faults) (o : Outcome)
+    → DoesWith words q (call_between old mid before between) o → (mid.err ≡ old.err) × (before.complaints ≤ between.complaints)
+err-with words (request.Run t) old mid before between o does = (does.err, does.counts.complaints)
+err-with words request.Explain old mid before between o does = (does.err, does.counts.complaints)
 
 pub err-before : (words : List (List ℕ)) (r : Result Command WordsStop) (old mid : Meaning) (before between : Faults) (o : Outcome)
     → DoesBy words r (call_between old mid before between) o → (mid.err ≡ old.err) × (before.complaints ≤ between.complaints)
-err-before words (Ok c) old mid before between o does = err-with words (explains c.verb) c old mid before between o does
+err-before words (Ok c) old mid before between o does = err-with words (request_of c) old mid before between o does
 err-before words (Err s) old mid before between o (is, stays, counts) =
     (ap (λ (m : Meaning). m.err) stays, let same = ap (λ (f : Faults). f.complaints) counts in omega (arith, same))
 
@@ -242,20 +256,25 @@ opens-none names None = tt
 opens-none names (Some l) = ap (λ (x : List (List ℕ)). Some x) (sym (append-nil l))
 
 -- nothing was opened
+request-nothing : (q : Request) (m : Meaning) (f : Faults) → OpensFor q (call_between m m f f) outcome.NoMemory
+request-nothing (request.Run t) m f = record { count = 0; exact = tt; within = omega arith; opened = opens-none (input_names (inputs_of t)) m.opened }
+request-nothing request.Explain m f = refl
+
 pub opens-nothing : (r : Result Command WordsStop) (m : Meaning) (f : Faults) → OpensBy r (call_between m m f f) outcome.NoMemory
-opens-nothing (Ok c) m f = record { count = 0; exact = tt; within = omega arith; opened = opens-none (inputs_of c) m.opened }
+opens-nothing (Ok c) m f = request-nothing (request_of c) m f
 opens-nothing (Err s) m f = refl
 
 same-counts : (m : Meaning) (f : Faults) → NoneFalls (call_between m m f f)
 same-counts m f = record { reads = omega arith; writes = omega arith; complaints = omega arith }
 
-does-nothing-with : (words : List (List ℕ)) (b : Bool) (c : Command) (m : Meaning) (f : Faults) → DoesWith b words c (call_between m m f f) outcome.NoMemory
-does-nothing-with words true c m f =
+does-nothing-with : (words : List (List ℕ)) (q : Request) (m : Meaning) (f : Faults) → DoesWith words q (call_between m m f f) outcome.NoMemory
+does-nothing-with words request.Explain m f =
     record { answers = refl; opens = opens-nothing (answer_of (explained words)) m f; err = refl; counts = same-counts m f }
-does-nothing-with words false c m f = record { answers = refl; opens = opens-nothing (Ok c) m f; err = refl; counts = same-counts m f }
+does-nothing-with words (request.Run t) m f =
+    record { answers = refl; opens = request-nothing (request.Run t) m f; err = refl; counts = same-counts m f }
 
-does-nothing : (words : List (List ℕ)) (r : Result Command WordsStop) (m : Meaning) (f : Faults) → DoesBy words r (call_between m m f f) outcome.NoMemory
-does-nothing words (Ok c) m f = does-nothing-with words (explains c.verb) c m f
+pub does-nothing : (words : List (List ℕ)) (r : Result Command WordsStop) (m : Meaning) (f : Faults) → DoesBy words r (call_between m m f f) outcome.NoMemory
+does-nothing words (Ok c) m f = does-nothing-with words (request_of c) m f
 does-nothing words (Err s) m f = (inr refl, refl, refl)
 
 -- the words were refused, or not read

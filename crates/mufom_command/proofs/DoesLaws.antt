@@ -1,26 +1,38 @@
--- What a command has done that read its inputs: it was stopped, its work came to an end, or something was put out.
-use Rattle.std.proofs.Common.{◌≡◌, ◌⊎◌, ℕ, ◌≤◌, true, List, [], ◌∷◌, ◌++◌, length, take, Option, Some, None, IfSome, IsSome, OnSome, refl, sym, ap}
+-- What a task has done whose inputs were read: it was stopped, or its output was put out.
+use Rattle.std.proofs.Common.{◌≡◌, ◌⊎◌, ℕ, Ok, Err, ◌≤◌, List, [], ◌∷◌, ◌++◌, length, take, Option, Some, None, IfSome, OnSome, refl, sym, ap}
 use Rattle.std.proofs.Common.{subst, ◌∙◌, arith}
 use Rattle.std.proofs.lemmas.List.{take_all}
 use Rattle.mufom_host.specs.World.{Faults, Meaning, NamedFile, GrowsBy, GrowsByPrefix, KeepsAllButFile, KeepsAllButOut, KeepsAllButWrites, OnlyOpens, Rose}
-use Rattle.mufom_words.specs.declared.command.Command.{Command}
-use Rattle.mufom_words.specs.Options.{reads_files}
-use Rattle.mufom_command.specs.declared.outcome.Outcome.{Outcome}
-use Rattle.mufom_command.specs.declared.outcome.Outcome.TheVariants as outcome
-use Rattle.mufom_groups.specs.Work.{Work, gives, stops}
-use Rattle.mufom_command.specs.Stop.{Stop, words_refused, plan_refused, file_refused, past_limit, link_fact, keep_unknown, locate_fact, raw_too_long}
-use Rattle.mufom_command.specs.Stop.{text_refused, listing_refused}
-use Rattle.mufom_command.specs.Commands.{Output, printed, made}
-use Rattle.mufom_command.specs.InputsRead.{ReadingStops}
-use Rattle.mufom_command.specs.Making.{IsMade, IsMadeAlone, IsPrinted}
-use Rattle.mufom_command.specs.Run.{AnswersFor, BeginsFile, IsOpenedCount, MakesFile, NoneFalls, OpensInputs, OverFiles, PutsOutNothing}
-use Rattle.mufom_command.specs.RunParts.{Does}
-use Rattle.mufom_command.specs.Run.{inputs_of, stop_outcome}
-use Rattle.mufom_command.specs.WorkEnds.{IsOfModules}
-use Rattle.mufom_command.proofs.InputLaws.{call_between}
-use Rattle.mufom_command.proofs.InputsLaws.{over-map}
+use Rattle.mufom_outcome.specs.declared.outcome.Outcome.{Outcome}
+use Rattle.mufom_outcome.specs.declared.outcome.Outcome.TheVariants as outcome
+use Rattle.mufom_task.specs.declared.task.Inputs.{Inputs}
+use Rattle.mufom_task.specs.declared.task.Task.{Task}
+use Rattle.mufom_task.specs.declared.task.Task.TheVariants as task
+use Rattle.mufom_task.specs.Calls.{IsOpenedCount, NoneFalls, OpensInputs}
+use Rattle.mufom_task.specs.Tasks.{input_names, inputs_of}
+use Rattle.mufom_task.proofs.InputLaws.{call_between}
+use Rattle.mufom_command.specs.Making.{IsMade, IsPrinted}
+use Rattle.mufom_command.specs.declared.ready.Ready.{Ready}
+use Rattle.mufom_command.specs.Ready.{IsHelp, IsPutOut}
+use Rattle.mufom_command.specs.Run.{AnswersFor, BeginsFile, IsOutput, MakesFile, PutsOutNothing}
+use Rattle.mufom_command.specs.RunParts.{Does, IsHelpTask, IsUnprepared, PrintsHelpText, StopsFor}
+use Rattle.mufom_command.specs.Works.{Output, printed, made}
 
-module _ (c : Command) (work : List NamedFile → Work Stop Output) (old mid : Meaning) (before between : Faults) (only : OnlyOpens old mid before between) where
+opens-all : (names : List (List ℕ)) (a b : Option (List (List ℕ))) → GrowsBy a b names → OnSome b (GrowsBy a b (take (length names) names))
+opens-all names a None grows = tt
+opens-all names a (Some l) grows = subst (λ (all : List (List ℕ)). GrowsBy a (Some l) all) (sym (take_all (length names) names (omega arith))) grows
+
+-- all inputs were opened
+pub opens-read : (c : Inputs) (old mid new : Meaning) (before now : Faults) → GrowsBy old.opened mid.opened (input_names c) → (result : Outcome)
+    → new.opened ≡ mid.opened → IsOpenedCount c result (length (input_names c)) → OpensInputs c (call_between old new before now) result
+opens-read c old mid new before now opened result same exact = record {
+  count = length (input_names c);
+  exact = exact;
+  within = omega arith;
+  opened = opens-all (input_names c) old.opened new.opened (subst (λ (o : Option (List (List ℕ))). GrowsBy old.opened o (input_names c)) (sym same) opened);
+}
+
+module _ (t : Task) (old mid : Meaning) (before between : Faults) (only : OnlyOpens old mid before between) where
   read-err : mid.err ≡ old.err
   read-err = ap (λ (m : Meaning). m.err) only.0
 
@@ -34,90 +46,22 @@ module _ (c : Command) (work : List NamedFile → Work Stop Output) (old mid : M
     complaints = let same = ap (λ (f : Faults). f.complaints) only.1 in omega (arith, same);
   }
 
-  -- ---- the inputs were not all read
+  -- ---- the task has no output
 
-  module _ (of_files : reads_files c.verb ≡ true) {A : Type 0} (reading : List NamedFile → Work Stop A) (begins : (files : List NamedFile) (s : Stop)
-      → reading files (stops s) → work files (stops s)) where
-    stopped-answers : (stop : Outcome) → ReadingStops reading c (call_between old mid before between) stop
-        → AnswersFor c work (call_between old mid before between) stop
-    stopped-answers (outcome.Refused r) why = (
-      record {
-        stop = why.stop;
-        is = why.is;
-        of_inputs = why.of_inputs;
-        cause = over-map of_files (λ fs. reading fs (stops why.stop)) (λ fs. work fs (stops why.stop)) old.files
-            (λ fs comes. begins fs why.stop comes) why.cause;
-      },
-      read-nothing,
-    )
-    stopped-answers (outcome.ReadFault at) (rose, reached) = (rose, reached, read-nothing)
-    stopped-answers outcome.NoMemory why = read-nothing
-    stopped-answers outcome.Done why = absurd why
-    stopped-answers (outcome.Usage f) why = absurd why
-    stopped-answers outcome.WriteFault why = absurd why
+  stopped-answers : (stop : Outcome) → StopsFor t (call_between old mid before between) stop → AnswersFor t (call_between old mid before between) stop
+  stopped-answers (outcome.Refused r) why = (why, read-nothing)
+  stopped-answers (outcome.ReadFault at) (rose, reached) = (rose, reached, read-nothing)
+  stopped-answers outcome.NoMemory why = read-nothing
+  stopped-answers outcome.Done why = absurd why
+  stopped-answers (outcome.Usage f) why = absurd why
+  stopped-answers outcome.WriteFault why = absurd why
 
-    pub stopped-does : (stop : Outcome) → ReadingStops reading c (call_between old mid before between) stop
-        → OpensInputs c (call_between old mid before between) stop
-        → Does c work (call_between old mid before between) stop
-    stopped-does stop why opens = record { answers = stopped-answers stop why; opens = opens; err = read-err; counts = read-counts }
+  pub stopped-does : (stop : Outcome) → IsUnprepared t (call_between old mid before between) stop → Does t (call_between old mid before between) stop
+  stopped-does stop is = record { answers = stopped-answers stop is.why; opens = is.opens; err = read-err; counts = read-counts }
 
-  -- ---- all inputs were read
+  -- ---- its output was put out
 
-  opens-all : (names : List (List ℕ)) (a b : Option (List (List ℕ))) → GrowsBy a b names → OnSome b (GrowsBy a b (take (length names) names))
-  opens-all names a None grows = tt
-  opens-all names a (Some l) grows = subst (λ (all : List (List ℕ)). GrowsBy a (Some l) all) (sym (take_all (length names) names (omega arith))) grows
-
-  module _ (opened : GrowsBy old.opened mid.opened (inputs_of c)) where
-    pub opens-read : (new : Meaning) (now : Faults) (result : Outcome) → new.opened ≡ mid.opened → IsOpenedCount c result (length (inputs_of c))
-        → OpensInputs c (call_between old new before now) result
-    opens-read new now result same exact = record {
-      count = length (inputs_of c);
-      exact = exact;
-      within = omega arith;
-      opened = opens-all (inputs_of c) old.opened new.opened (subst (λ (o : Option (List (List ℕ))). GrowsBy old.opened o (inputs_of c)) (sym same) opened);
-    }
-
-    -- ---- no memory, or a fact about the modules
-
-    pub lacking-does : Does c work (call_between old mid before between) outcome.NoMemory
-    lacking-does = record { answers = read-nothing; opens = opens-read mid between outcome.NoMemory refl tt; err = read-err; counts = read-counts }
-
-    ended-answers : (s : Stop) → IsOfModules s → OverFiles (reads_files c.verb) old.files (λ fs. work fs (stops s))
-        → AnswersFor c work (call_between old mid before between) (stop_outcome s)
-    ended-answers (link_fact f) is cause = (record { stop = link_fact f; is = refl; of_inputs = tt; cause = cause }, read-nothing)
-    ended-answers (keep_unknown name) is cause = (record { stop = keep_unknown name; is = refl; of_inputs = tt; cause = cause }, read-nothing)
-    ended-answers (locate_fact maus f) is cause = (record { stop = locate_fact maus f; is = refl; of_inputs = is; cause = cause }, read-nothing)
-    ended-answers (raw_too_long count) is cause = (record { stop = raw_too_long count; is = refl; of_inputs = tt; cause = cause }, read-nothing)
-    ended-answers (text_refused r) is cause = (record { stop = text_refused r; is = refl; of_inputs = tt; cause = cause }, read-nothing)
-    ended-answers (listing_refused r) is cause = (record { stop = listing_refused r; is = refl; of_inputs = tt; cause = cause }, read-nothing)
-    ended-answers (words_refused s) is cause = absurd is
-    ended-answers (plan_refused r) is cause = absurd is
-    ended-answers (file_refused n r) is cause = absurd is
-    ended-answers (past_limit n) is cause = absurd is
-
-    ended-count : (s : Stop) → IsOfModules s → IsOpenedCount c (stop_outcome s) (length (inputs_of c))
-    ended-count (link_fact f) is = refl
-    ended-count (keep_unknown name) is = refl
-    ended-count (locate_fact maus f) is = refl
-    ended-count (raw_too_long count) is = refl
-    ended-count (text_refused r) is = refl
-    ended-count (listing_refused r) is = refl
-    ended-count (words_refused s) is = absurd is
-    ended-count (plan_refused r) is = absurd is
-    ended-count (file_refused n r) is = absurd is
-    ended-count (past_limit n) is = absurd is
-
-    pub ended-does : (s : Stop) → IsOfModules s → OverFiles (reads_files c.verb) old.files (λ fs. work fs (stops s))
-        → Does c work (call_between old mid before between) (stop_outcome s)
-    ended-does s is cause = record {
-      answers = ended-answers s is cause;
-      opens = opens-read mid between (stop_outcome s) refl (ended-count s is);
-      err = read-err;
-      counts = read-counts;
-    }
-
-    -- ---- something was put out
-
+  module _ (opened : GrowsBy old.opened mid.opened (input_names (inputs_of t))) where
     module _ (new : Meaning) (now : Faults) (writes_counts : KeepsAllButWrites between now) (writes_later : between.writes ≤ now.writes) where
       written-counts : NoneFalls (call_between old new before now)
       written-counts = record {
@@ -132,8 +76,7 @@ module _ (c : Command) (work : List NamedFile → Work Stop Output) (old mid : M
 
       -- ---- a text was printed
 
-      module _ (text : List ℕ) (cause : OverFiles (reads_files c.verb) old.files (λ fs. work fs (gives (printed text)))) (no_file : c.out
-          ≡ None) (prints : KeepsAllButOut mid new) where
+      module _ (text : List ℕ) (is_output : IsOutput t old.files (printed text)) (prints : KeepsAllButOut mid new) where
         out-same : mid.out ≡ old.out
         out-same = ap (λ (m : Meaning). m.out) only.0
 
@@ -142,17 +85,17 @@ module _ (c : Command) (work : List NamedFile → Work Stop Output) (old mid : M
         text-stays stays = stays ∙ ap (λ (m : Meaning). record m { left = new.left; err = new.err; opened = new.opened; out = new.out }) only.0
 
         printed-answers : (result : Outcome) → IsPrinted text (call_between mid new between now) result
-            → AnswersFor c work (call_between old new before now) result
+            → AnswersFor t (call_between old new before now) result
         printed-answers outcome.Done is = (
           printed text,
-          record { place = sym no_file; cause = cause },
+          is_output,
           record { added = subst (λ (o : Option (List ℕ)). GrowsBy o new.out text) out-same is.added; stays = text-stays is.stays },
         )
         printed-answers outcome.WriteFault (rose, is) = (
           rose-since rose,
           (
             printed text,
-            record { place = sym no_file; cause = cause },
+            is_output,
             record { added = subst (λ (o : Option (List ℕ)). GrowsByPrefix o new.out text) out-same is.added; stays = text-stays is.stays },
           ),
         )
@@ -161,7 +104,7 @@ module _ (c : Command) (work : List NamedFile → Work Stop Output) (old mid : M
         printed-answers (outcome.Usage f) is = absurd is
         printed-answers (outcome.ReadFault i) is = absurd is
 
-        printed-count : (result : Outcome) → IsPrinted text (call_between mid new between now) result → IsOpenedCount c result (length (inputs_of c))
+        printed-count : (result : Outcome) → IsPrinted text (call_between mid new between now) result → IsOpenedCount (inputs_of t) result (length (input_names (inputs_of t)))
         printed-count outcome.Done is = refl
         printed-count outcome.WriteFault is = refl
         printed-count outcome.NoMemory is = tt
@@ -169,18 +112,17 @@ module _ (c : Command) (work : List NamedFile → Work Stop Output) (old mid : M
         printed-count (outcome.Usage f) is = absurd is
         printed-count (outcome.ReadFault i) is = absurd is
 
-        pub printed-does : (result : Outcome) → IsPrinted text (call_between mid new between now) result → Does c work (call_between old new before now) result
+        pub printed-does : (result : Outcome) → IsPrinted text (call_between mid new between now) result → Does t (call_between old new before now) result
         printed-does result is = record {
           answers = printed-answers result is;
-          opens = opens-read new now result (ap (λ (m : Meaning). m.opened) prints) (printed-count result is);
+          opens = opens-read (inputs_of t) old mid new before now opened result (ap (λ (m : Meaning). m.opened) prints) (printed-count result is);
           err = ap (λ (m : Meaning). m.err) prints ∙ read-err;
           counts = written-counts;
         }
 
       -- ---- a file was made
 
-      module _ (name bytes : List ℕ) (cause : OverFiles (reads_files c.verb) old.files (λ fs. work fs (gives (made name bytes)))) (named : c.out
-          ≡ Some name) (makes : KeepsAllButFile mid new) where
+      module _ (name bytes : List ℕ) (is_output : IsOutput t old.files (made name bytes)) (makes : KeepsAllButFile mid new) where
         made-same : mid.made ≡ old.made
         made-same = ap (λ (m : Meaning). m.made) only.0
 
@@ -223,15 +165,15 @@ module _ (c : Command) (work : List NamedFile → Work Stop Output) (old mid : M
         }
 
         made-answers : (result : Outcome) → IsMade name bytes (call_between mid new between now) result
-            → AnswersFor c work (call_between old new before now) result
-        made-answers outcome.Done is = (made name bytes, record { place = sym named; cause = cause }, whole is)
-        made-answers outcome.WriteFault (rose, is) = (rose-since rose, (made name bytes, record { place = sym named; cause = cause }, part is))
+            → AnswersFor t (call_between old new before now) result
+        made-answers outcome.Done is = (made name bytes, is_output, whole is)
+        made-answers outcome.WriteFault (rose, is) = (rose-since rose, (made name bytes, is_output, part is))
         made-answers outcome.NoMemory is = absurd is
         made-answers (outcome.Refused r) is = absurd is
         made-answers (outcome.Usage f) is = absurd is
         made-answers (outcome.ReadFault i) is = absurd is
 
-        made-count : (result : Outcome) → IsMade name bytes (call_between mid new between now) result → IsOpenedCount c result (length (inputs_of c))
+        made-count : (result : Outcome) → IsMade name bytes (call_between mid new between now) result → IsOpenedCount (inputs_of t) result (length (input_names (inputs_of t)))
         made-count outcome.Done is = refl
         made-count outcome.WriteFault is = refl
         made-count outcome.NoMemory is = tt
@@ -239,22 +181,41 @@ module _ (c : Command) (work : List NamedFile → Work Stop Output) (old mid : M
         made-count (outcome.Usage f) is = absurd is
         made-count (outcome.ReadFault i) is = absurd is
 
-        named-does : (result : Outcome) → IsMade name bytes (call_between mid new between now) result → Does c work (call_between old new before now) result
+        named-does : (result : Outcome) → IsMade name bytes (call_between mid new between now) result → Does t (call_between old new before now) result
         named-does result is = record {
           answers = made-answers result is;
-          opens = opens-read new now result (ap (λ (m : Meaning). m.opened) makes) (made-count result is);
+          opens = opens-read (inputs_of t) old mid new before now opened result (ap (λ (m : Meaning). m.opened) makes) (made-count result is);
           err = ap (λ (m : Meaning). m.err) makes ∙ read-err;
           counts = written-counts;
         }
 
-    -- ---- a file was made, of the name that the words give
+-- A task has been done whose output was ready.
+pub put-does : (t : Task) (old mid new : Meaning) (before between now : Faults) → OnlyOpens old mid before between
+    → GrowsBy old.opened mid.opened (input_names (inputs_of t)) → (output : Output) → IsOutput t old.files output → (result : Outcome)
+    → IsPutOut output (call_between mid new between now) result → Does t (call_between old new before now) result
+put-does t old mid new before between now only opened (printed text) is result (put, prints) =
+    printed-does t old mid before between only opened new now prints.1 prints.2 text is prints.0 result put
+put-does t old mid new before between now only opened (made name bytes) is result put =
+    named-does t old mid before between only opened new now put.counts put.later name bytes is put.only result put.made
 
-    pub made-does : (new : Meaning) (now : Faults) (bytes : List ℕ)
-        → ((name : List ℕ) → c.out ≡ Some name → OverFiles (reads_files c.verb) old.files (λ fs. work fs (gives (made name bytes)))) → IsSome c.out
-        → (result : Outcome)
-        → ((name : List ℕ) → c.out ≡ Some name → IsMadeAlone name bytes (call_between mid new between now) result)
-        → Does c work (call_between old new before now) result
-    made-does new now bytes cause some result makes = by c.out refl some where
-      by : (o : Option (List ℕ)) → c.out ≡ o → IsSome o → Does c work (call_between old new before now) result
-      by None same none = absurd cc
-      by (Some name) same is_some = let is = makes name same in named-does new now is.counts is.later name bytes (cause name same) same is.only result is.made
+-- ---- a task that prints a text of the program
+
+pub help-ready : (t : Task) (ready : Ready) → PrintsHelpText t (Ok ready) → IsHelpTask t → IsHelp ready
+help-ready (task.Help text) ready prints help = prints
+help-ready (task.Show inputs full) ready prints never = absurd never
+help-ready (task.Check inputs) ready prints never = absurd never
+help-ready (task.Link inputs name out) ready prints never = absurd never
+help-ready (task.Locate inputs keep p) ready prints never = absurd never
+help-ready (task.FromTxt inputs maus out) ready prints never = absurd never
+help-ready (task.Build inputs out) ready prints never = absurd never
+help-ready (task.Make count) ready prints never = absurd never
+
+pub help-stop : (t : Task) (stop : Outcome) → PrintsHelpText t (Err stop) → IsHelpTask t → ⊥
+help-stop (task.Help text) stop never help = never
+help-stop (task.Show inputs full) stop prints never = never
+help-stop (task.Check inputs) stop prints never = never
+help-stop (task.Link inputs name out) stop prints never = never
+help-stop (task.Locate inputs keep p) stop prints never = never
+help-stop (task.FromTxt inputs maus out) stop prints never = never
+help-stop (task.Build inputs out) stop prints never = never
+help-stop (task.Make count) stop prints never = never

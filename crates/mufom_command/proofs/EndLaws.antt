@@ -1,5 +1,5 @@
--- The answer where modules are not linked or not located.
-use Rattle.std.proofs.Common.{◌≡◌, ◌≢◌, ◌∙◌, ℕ, Bool, cond, true, false, List, Option, Some, None, option_map, Result, Ok, Err, IfSome, IfOk, IfErr}
+-- The outcome where modules are not linked or not located, and the end of a task whose work on what was read ends.
+use Rattle.std.proofs.Common.{◌≡◌, ◌≢◌, ◌∙◌, ℕ, Bool, cond, length, true, false, List, Option, Some, None, option_map, Result, Ok, Err, IfSome, IfOk, IfErr}
 use Rattle.std.proofs.Common.{nat_lt, slice_get, refl, sym, ap, subst, inl, inr}
 use Rattle.mufom_host.specs.World.{Faults, Meaning, NamedFile, GrowsBy, OnlyOpens}
 use Rattle.mufom_module.specs.declared.module.Parts.{Parts}
@@ -28,22 +28,25 @@ use Rattle.mufom_image.specs.declared.refusal.LocateRefusal.TheVariants as locat
 use Rattle.mufom_image.specs.Refusals.{IsMet}
 use Rattle.mufom_link.specs.declared.refusal.LinkRefusal.{LinkRefusal}
 use Rattle.mufom_link.specs.declared.refusal.LinkRefusal.TheVariants as link
-use Rattle.mufom_words.specs.declared.command.Command.{Command}
-use Rattle.mufom_words.specs.Options.{reads_files}
 use Rattle.mufom_groups.specs.Groups.{StopsWork}
 use Rattle.mufom_groups.specs.Work.{Work, gives, stops, with_stops}
-use Rattle.mufom_command.specs.declared.outcome.Outcome.{Outcome}
-use Rattle.mufom_command.specs.declared.outcome.Outcome.TheVariants as outcome
-use Rattle.mufom_command.specs.declared.outcome.Refusal.TheVariants as refusal
-use Rattle.mufom_command.specs.Stop.{Stop, link_fact, locate_fact}
-use Rattle.mufom_command.specs.Commands.{Output, located, located_unless, maus_of}
-use Rattle.mufom_command.specs.InputsRead.{inputs_in}
-use Rattle.mufom_command.specs.Run.{inputs_of}
-use Rattle.mufom_command.specs.RunParts.{Does}
-use Rattle.mufom_command.specs.WorkEnds.{EndsAt, outcome_of_link, outcome_of_locate}
-use Rattle.mufom_command.proofs.DoesLaws.{ended-does, lacking-does}
-use Rattle.mufom_command.proofs.InputLaws.{call_between}
-use Rattle.mufom_command.proofs.InputsLaws.{over-map}
+use Rattle.mufom_outcome.specs.declared.outcome.Outcome.{Outcome}
+use Rattle.mufom_outcome.specs.declared.outcome.Outcome.TheVariants as outcome
+use Rattle.mufom_outcome.specs.declared.outcome.Refusal.TheVariants as refusal
+use Rattle.mufom_outcome.specs.Stop.{Stop, words_refused, plan_refused, file_refused, past_limit, link_fact, keep_unknown, locate_fact, raw_too_long}
+use Rattle.mufom_outcome.specs.Stop.{text_refused, listing_refused}
+use Rattle.mufom_command.specs.Works.{located, located_unless, maus_of, work_of}
+use Rattle.mufom_task.specs.declared.task.Inputs.{Inputs}
+use Rattle.mufom_task.specs.declared.task.Task.{Task}
+use Rattle.mufom_task.specs.Calls.{IsOpenedCount}
+use Rattle.mufom_task.specs.Ends.{OverFiles, stop_outcome}
+use Rattle.mufom_task.specs.InputsRead.{NamesPlan, ReadingStops}
+use Rattle.mufom_task.specs.Tasks.{input_names, inputs_of, reads_files}
+use Rattle.mufom_command.specs.RunParts.{StopsFor}
+use Rattle.mufom_command.specs.WorkEnds.{EndsAt, IsOfModules}
+use Rattle.mufom_outcome.specs.Outcomes.{outcome_of_link, outcome_of_locate}
+use Rattle.mufom_task.proofs.InputLaws.{call_between}
+use Rattle.mufom_task.proofs.InputsLaws.{over-map}
 
 -- ---- a link fact
 
@@ -54,6 +57,12 @@ link-ends work (link.Duplicate name) (f, is, ends) = inr (link_fact f, tt, ap (�
 link-ends work link.DuplicateStart (f, is, ends) = inr (link_fact f, tt, ap (λ l. outcome.Refused (refusal.Link l)) is, (f, ends, refl))
 
 -- ---- a locate fact
+
+pub location-of : (plan : Plan) (ms : List Parts) (r : LocatedParts) → located plan ms (gives r) → IsLocation ms plan r
+location-of plan ms r is = by (locate_answer ms plan) is where
+  by : (o : Option LocateFact) → located_unless o plan ms (gives r) → IsLocation ms plan r
+  by None is = is
+  by (Some f) is = absurd is
 
 -- the answer in place of a placement that was not made for lack of memory
 abbrev lacking : LocateFact
@@ -148,16 +157,93 @@ pub ends-along : {A B : Type 0} (first : Work Stop A) (second : Work Stop B) →
 ends-along first second along o (inl is) = inl is
 ends-along first second along o (inr (s, of_modules, is, ends)) = inr (s, of_modules, is, along s ends)
 
--- ---- the end of a command
+-- an error in the modules or in the text ends the task
+ended-stop : (t : Task) (s : Stop) (old mid : Meaning) (before between : Faults) → IsOfModules s
+    → OverFiles (reads_files t) old.files (λ fs. work_of t fs (stops s)) → StopsFor t (call_between old mid before between) (stop_outcome s)
+ended-stop t (link_fact f) old mid before between is cause = record { stop = link_fact f; is = refl; of_inputs = tt; cause = cause }
+ended-stop t (keep_unknown name) old mid before between is cause = record { stop = keep_unknown name; is = refl; of_inputs = tt; cause = cause }
+ended-stop t (locate_fact maus f) old mid before between is cause = record { stop = locate_fact maus f; is = refl; of_inputs = is; cause = cause }
+ended-stop t (raw_too_long count) old mid before between is cause = record { stop = raw_too_long count; is = refl; of_inputs = tt; cause = cause }
+ended-stop t (text_refused r) old mid before between is cause = record { stop = text_refused r; is = refl; of_inputs = tt; cause = cause }
+ended-stop t (listing_refused r) old mid before between is cause = record { stop = listing_refused r; is = refl; of_inputs = tt; cause = cause }
+ended-stop t (words_refused w) old mid before between is cause = absurd is
+ended-stop t (plan_refused r) old mid before between is cause = absurd is
+ended-stop t (file_refused n r) old mid before between is cause = absurd is
+ended-stop t (past_limit n) old mid before between is cause = absurd is
 
-pub ends-does : {A : Type 0} (c : Command) → reads_files c.verb ≡ true
-    → (plan : Plan) (ms : List Parts) (work : List NamedFile → Work Stop Output) (part : Work Stop A) (old mid : Meaning) (before between : Faults)
-    → OnlyOpens old mid before between → GrowsBy old.opened mid.opened (inputs_of c) → IfSome old.files (λ fs. inputs_in fs c (gives (plan, ms)))
-    → ((fs : List NamedFile) → inputs_in fs c (gives (plan, ms)) → (s : Stop) → part (stops s) → work fs (stops s)) → (o : Outcome) → EndsAt part o
-    → Does c work (call_between old mid before between) o
-ends-does c of_files plan ms work part old mid before between only opened read along o (inl is) =
-    subst (λ (x : Outcome). Does c work (call_between old mid before between) x) (sym is) (lacking-does c work old mid before between only opened)
-ends-does c of_files plan ms work part old mid before between only opened read along o (inr (s, of_modules, is, ends)) =
-    subst (λ (x : Outcome). Does c work (call_between old mid before between) x) (sym is)
-    (ended-does c work old mid before between only opened s of_modules
-    (over-map of_files (λ fs. inputs_in fs c (gives (plan, ms))) (λ fs. work fs (stops s)) old.files (λ fs there. along fs there s ends) read))
+-- ---- the end of a task
+
+-- the inputs were not all read
+pub reading-stop : {A : Type 0} (t : Task) (reading : List NamedFile → Work Stop A) → reads_files t ≡ true
+    → ((fs : List NamedFile) (s : Stop) → reading fs (stops s) → work_of t fs (stops s)) → (old mid : Meaning) (before between : Faults) (stop : Outcome)
+    → ReadingStops reading (inputs_of t) (call_between old mid before between) stop → StopsFor t (call_between old mid before between) stop
+reading-stop t reading of_files begins old mid before between (outcome.Refused r) why = record {
+  stop = why.stop;
+  is = why.is;
+  of_inputs = why.of_inputs;
+  cause = over-map of_files (λ fs. reading fs (stops why.stop)) (λ fs. work_of t fs (stops why.stop)) old.files
+      (λ fs comes. begins fs why.stop comes) why.cause;
+}
+reading-stop t reading of_files begins old mid before between (outcome.ReadFault at) why = why
+reading-stop t reading of_files begins old mid before between outcome.NoMemory why = tt
+reading-stop t reading of_files begins old mid before between outcome.Done why = absurd why
+reading-stop t reading of_files begins old mid before between (outcome.Usage f) why = absurd why
+reading-stop t reading of_files begins old mid before between outcome.WriteFault why = absurd why
+
+-- the work on what was read ends the task
+pub ends-stop : {A B : Type 0} (t : Task) (reading : List NamedFile → Work Stop B) (read : B) (part : Work Stop A) → reads_files t ≡ true
+    → (old mid : Meaning) (before between : Faults) → IfSome old.files (λ fs. reading fs (gives read))
+    → ((fs : List NamedFile) → reading fs (gives read) → (s : Stop) → part (stops s) → work_of t fs (stops s)) → (o : Outcome) → EndsAt part o
+    → StopsFor t (call_between old mid before between) o
+ends-stop t reading read part of_files old mid before between there along o (inl is) =
+    subst (λ (x : Outcome). StopsFor t (call_between old mid before between) x) (sym is) tt
+ends-stop t reading read part of_files old mid before between there along o (inr (s, of_modules, is, ends)) =
+    subst (λ (x : Outcome). StopsFor t (call_between old mid before between) x) (sym is)
+    (ended-stop t s old mid before between of_modules
+    (over-map of_files (λ fs. reading fs (gives read)) (λ fs. work_of t fs (stops s)) old.files (λ fs is_read. along fs is_read s ends) there))
+
+-- the same of a task that reads no files
+pub all-stop : {A : Type 0} (t : Task) (part : Work Stop A) (old mid : Meaning) (before between : Faults)
+    → ((fs : List NamedFile) (s : Stop) → part (stops s) → work_of t fs (stops s)) → reads_files t ≡ false → (o : Outcome) → EndsAt part o
+    → StopsFor t (call_between old mid before between) o
+all-stop t part old mid before between along none o (inl is) =
+    subst (λ (x : Outcome). StopsFor t (call_between old mid before between) x) (sym is) tt
+all-stop t part old mid before between along none o (inr (s, of_modules, is, ends)) =
+    subst (λ (x : Outcome). StopsFor t (call_between old mid before between) x) (sym is)
+    (ended-stop t s old mid before between of_modules
+    (subst (λ (b : Bool). OverFiles b old.files (λ fs. work_of t fs (stops s))) (sym none) (λ fs. along fs s ends)))
+
+-- it is known how many inputs were opened then: all of them
+pub ended-count : (c : Inputs) (s : Stop) → IsOfModules s → IsOpenedCount c (stop_outcome s) (length (input_names c))
+ended-count c (link_fact f) is = refl
+ended-count c (keep_unknown name) is = refl
+ended-count c (locate_fact maus f) is = refl
+ended-count c (raw_too_long count) is = refl
+ended-count c (text_refused r) is = refl
+ended-count c (listing_refused r) is = refl
+ended-count c (words_refused s) is = absurd is
+ended-count c (plan_refused r) is = absurd is
+ended-count c (file_refused n r) is = absurd is
+ended-count c (past_limit n) is = absurd is
+
+pub ends-count : {A : Type 0} (c : Inputs) (part : Work Stop A) (o : Outcome) → EndsAt part o → IsOpenedCount c o (length (input_names c))
+ends-count c part o (inl is) = subst (λ (x : Outcome). IsOpenedCount c x (length (input_names c))) (sym is) tt
+ends-count c part o (inr (s, of_modules, is, ends)) =
+    subst (λ (x : Outcome). IsOpenedCount c x (length (input_names c))) (sym is) (ended-count c s of_modules)
+
+-- and no plan is named
+ended-names : (plan : Option (List ℕ)) (s : Stop) → IsOfModules s → NamesPlan plan (stop_outcome s)
+ended-names plan (link_fact f) is = tt
+ended-names plan (keep_unknown name) is = tt
+ended-names plan (locate_fact maus f) is = tt
+ended-names plan (raw_too_long count) is = tt
+ended-names plan (text_refused r) is = tt
+ended-names plan (listing_refused r) is = tt
+ended-names plan (words_refused s) is = absurd is
+ended-names plan (plan_refused r) is = absurd is
+ended-names plan (file_refused n r) is = absurd is
+ended-names plan (past_limit n) is = absurd is
+
+pub ends-names : {A : Type 0} (plan : Option (List ℕ)) (part : Work Stop A) (o : Outcome) → EndsAt part o → NamesPlan plan o
+ends-names plan part o (inl is) = subst (λ (x : Outcome). NamesPlan plan x) (sym is) tt
+ends-names plan part o (inr (s, of_modules, is, ends)) = subst (λ (x : Outcome). NamesPlan plan x) (sym is) (ended-names plan s of_modules)

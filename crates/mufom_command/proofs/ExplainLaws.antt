@@ -4,19 +4,28 @@ use Rattle.mufom_host.specs.World.{Faults, Meaning, GrowsBy, GrowsByPrefix, Only
 use Rattle.mufom_words.specs.declared.command.Command.{Command}
 use Rattle.mufom_words.specs.declared.stop.WordsStop.{WordsStop}
 use Rattle.mufom_words.specs.Answer.{answer_of}
-use Rattle.mufom_command.specs.declared.outcome.Outcome.{Outcome}
-use Rattle.mufom_command.specs.declared.outcome.Outcome.TheVariants as outcome
+use Rattle.mufom_outcome.specs.declared.outcome.Outcome.{Outcome}
+use Rattle.mufom_outcome.specs.declared.outcome.Outcome.TheVariants as outcome
 use Rattle.mufom_command.specs.Explain.{EndsBy, ExplainsTo, IsExplanation, OpensSome}
 use Rattle.mufom_command.specs.ExplainText.{explain_text}
 use Rattle.mufom_command.specs.Making.{IsPrinted}
-use Rattle.mufom_command.specs.Run.{NoneFalls, OpensBy, PutsOutNothing, inputs_of}
+use Rattle.mufom_task.specs.Calls.{NoneFalls}
+use Rattle.mufom_task.specs.declared.task.Request.{Request}
+use Rattle.mufom_task.specs.declared.task.Request.TheVariants as request
+use Rattle.mufom_command.specs.Run.{OpensBy, OpensFor, PutsOutNothing}
+use Rattle.mufom_task.specs.Tasks.{input_names, inputs_of, request_of}
 use Rattle.mufom_command.specs.RunParts.{Explains}
-use Rattle.mufom_command.proofs.InputLaws.{call_between}
+use Rattle.mufom_task.proofs.InputLaws.{call_between}
 
 -- the names that were opened are the first of all
+some-of : (q : Request) (old new : Meaning) (before now : Faults) (answer : Outcome) → OpensFor q (call_between old new before now) answer
+    → OpensFor q (call_between old new before now) outcome.NoMemory
+some-of (request.Run t) old new before now answer is = record { count = is.count; exact = tt; within = is.within; opened = is.opened }
+some-of request.Explain old new before now answer is = is
+
 pub some-opened : (r : Result Command WordsStop) (old new : Meaning) (before now : Faults) (answer : Outcome)
     → OpensBy r (call_between old new before now) answer → OpensBy r (call_between old new before now) outcome.NoMemory
-some-opened (Ok c) old new before now answer is = record { count = is.count; exact = tt; within = is.within; opened = is.opened }
+some-opened (Ok c) old new before now answer is = some-of (request_of c) old new before now answer is
 some-opened (Err s) old new before now answer is = is
 
 module _ (words : List (List ℕ)) (old mid : Meaning) (before between : Faults) (only : OnlyOpens old mid before between) where
@@ -54,12 +63,15 @@ module _ (words : List (List ℕ)) (old mid : Meaning) (before between : Faults)
 
     pub opens-later : (r : Result Command WordsStop) (answer : Outcome) → OpensBy r (call_between old mid before between) answer
         → OpensBy r (call_between old new before now) answer
-    opens-later (Ok c) answer is = record {
-      count = is.count;
-      exact = is.exact;
-      within = is.within;
-      opened = subst (λ (o : Option (List (List ℕ))). OnSome o (GrowsBy old.opened o (take is.count (inputs_of c)))) (sym opened-same) is.opened;
-    }
+    opens-later (Ok c) answer is = of-request (request_of c) is where
+      of-request : (q : Request) → OpensFor q (call_between old mid before between) answer → OpensFor q (call_between old new before now) answer
+      of-request (request.Run t) is = record {
+        count = is.count;
+        exact = is.exact;
+        within = is.within;
+        opened = subst (λ (o : Option (List (List ℕ))). OnSome o (GrowsBy old.opened o (take is.count (input_names (inputs_of t))))) (sym opened-same) is.opened;
+      }
+      of-request request.Explain is = opened-same ∙ is
     opens-later (Err s) answer is = opened-same ∙ is
 
     text-stays : new ≡ record mid { left = new.left; err = new.err; opened = new.opened; out = new.out } → new

@@ -1,4 +1,4 @@
--- Explaining a command that was stopped while its inputs were read: the line of the input that its outcome names. And the end of what was
+-- Explaining a task that was stopped while its inputs were read: the line of the input that its outcome names. And the end of what was
 -- explained is told, unless memory ran out.
 use Rattle.std.proofs.Common.{◌≡◌, ◌≢◌, ℕ, ◌+◌, ◌<◌, ◌≤◌, Bool, true, false, List, [], ◌∷◌, length, nat_lt, Option, Some, None, Result, Ok, Err, IfSome, IsSome}
 use Rattle.std.proofs.Common.{option_to_list, refl, sym, ap, subst, ◌∙◌, inl, inr, arith}
@@ -10,36 +10,48 @@ use Rattle.mufom_plan.specs.declared.refusal.PlanRefusal.{PlanRefusal}
 use Rattle.mufom_plan.specs.PlanText.{plan_of_text}
 use Rattle.mufom_words.specs.declared.command.Command.{Command}
 use Rattle.mufom_words.specs.declared.stop.WordsStop.{WordsStop}
+use Rattle.mufom_words.specs.declared.stop.WordsStop.TheVariants as words_stop
 use Rattle.mufom_words.specs.Answer.{answer_of}
-use Rattle.mufom_words.specs.Options.{reads_files}
 use Rattle.mufom_explain.specs.Lines.{plan_line}
 use Rattle.mufom_groups.specs.Work.{Work, gives, stops}
-use Rattle.mufom_command.specs.declared.outcome.Input.{Input}
-use Rattle.mufom_command.specs.declared.outcome.Input.TheVariants as input
-use Rattle.mufom_command.specs.declared.outcome.Outcome.{Outcome}
-use Rattle.mufom_command.specs.declared.outcome.Outcome.TheVariants as outcome
-use Rattle.mufom_command.specs.declared.outcome.Refusal.TheVariants as refusal
-use Rattle.mufom_command.specs.Stop.{Stop, words_refused, plan_refused, file_refused, past_limit, link_fact, keep_unknown, locate_fact, raw_too_long}
-use Rattle.mufom_command.specs.Stop.{text_refused, listing_refused}
-use Rattle.mufom_command.specs.Commands.{Output, modules_in, plan_by, plan_in, text_in, unless_past_limit, work_of}
-use Rattle.mufom_command.specs.Explain.{EndsBy, EndsFor}
+use Rattle.mufom_outcome.specs.declared.outcome.Input.{Input}
+use Rattle.mufom_outcome.specs.declared.outcome.Input.TheVariants as input
+use Rattle.mufom_outcome.specs.declared.outcome.Outcome.{Outcome}
+use Rattle.mufom_outcome.specs.declared.outcome.Outcome.TheVariants as outcome
+use Rattle.mufom_outcome.specs.declared.outcome.Refusal.TheVariants as refusal
+use Rattle.mufom_outcome.specs.Outcomes.{stop_answer}
+use Rattle.mufom_outcome.specs.Stop.{Stop, words_refused, plan_refused, file_refused, past_limit, link_fact, keep_unknown, locate_fact, raw_too_long}
+use Rattle.mufom_outcome.specs.Stop.{text_refused, listing_refused}
+use Rattle.mufom_task.specs.declared.task.Inputs.{Inputs}
+use Rattle.mufom_task.specs.declared.task.Request.{Request}
+use Rattle.mufom_task.specs.declared.task.Request.TheVariants as request
+use Rattle.mufom_task.specs.declared.task.Task.{Task}
+use Rattle.mufom_task.specs.Calls.{Call, OpensInputs}
+use Rattle.mufom_task.specs.Ends.{IsInputReached, IsOfInputs, stop_outcome}
+use Rattle.mufom_task.specs.InputsRead.{NamesPlan, ReadingStops, inputs_in}
+use Rattle.mufom_task.specs.Reading.{modules_in, plan_by, plan_in, text_in, unless_past_limit}
+use Rattle.mufom_task.specs.Tasks.{input_names, inputs_of, keep_of, reads_files, request_of}
+use Rattle.mufom_task.proofs.InputLaws.{call_between}
+use Rattle.mufom_task.proofs.InputsLaws.{over-map}
+use Rattle.mufom_command.specs.Explain.{EndsBy, EndsFor, EndsWith}
 use Rattle.mufom_command.specs.ExplainText.{explain_text}
 use Rattle.mufom_command.specs.HasDetails.{HasDetails, HasInputLine, HasPlanLine, IsInputDetail, lines_of_link, lines_of_locate, lines_of_name}
-use Rattle.mufom_command.specs.InputsRead.{NamesPlan, ReadingStops, TextStops, inputs_in}
 use Rattle.mufom_command.specs.Making.{IsPrinted}
-use Rattle.mufom_command.specs.Run.{IsInputReached, IsOfInputs, OpensBy, OpensInputs, PutsOutNothing, inputs_of, stop_outcome}
-use Rattle.mufom_command.specs.RunParts.{Explains}
-use Rattle.mufom_command.proofs.ExplainLaws.{opens-later, some-opened, told-counts, told-explains}
-use Rattle.mufom_command.proofs.InputLaws.{call_between}
-use Rattle.mufom_command.proofs.InputsLaws.{over-map}
+use Rattle.mufom_command.specs.Run.{IsOutput, OpensBy, OpensFor, PutsOutNothing}
+use Rattle.mufom_command.specs.RunParts.{AskFor, Explains}
+use Rattle.mufom_command.specs.Works.{Output, not_explained, work_of}
+use Rattle.mufom_command.proofs.AnswerLaws.{opens-nothing}
+use Rattle.mufom_command.proofs.ExplainLaws.{lacking-explains, opens-later, some-opened, told-counts, told-explains}
 
 -- ---- how reading ends
 
--- an input was refused
+-- an input was refused, or a text is wrong
 abbrev pub IsOfReading : Stop → Type 0
 IsOfReading (plan_refused r) = Unit {0}
 IsOfReading (file_refused n r) = Unit {0}
 IsOfReading (past_limit n) = Unit {0}
+IsOfReading (text_refused r) = Unit {0}
+IsOfReading (listing_refused r) = Unit {0}
 IsOfReading _ = ⊥
 
 plan_by-ends : (r : Result Plan PlanRefusal) (s : Stop) → plan_by r (stops s) → IsOfReading s
@@ -51,7 +63,7 @@ plan-ends files None s ends = absurd ends
 plan-ends files (Some name) s (inl ends) = absurd ends
 plan-ends files (Some name) s (inr (bytes, there, ends)) = plan_by-ends (plan_of_text bytes) s ends
 
-modules-end : (files : List NamedFile) (c : Command) (s : Stop) → modules_in files c (stops s) → IsOfReading s
+pub modules-end : (files : List NamedFile) (c : Inputs) (s : Stop) → modules_in files c (stops s) → IsOfReading s
 modules-end files c (file_refused n r) ends = tt
 modules-end files c (past_limit n) ends = tt
 modules-end files c (words_refused s) ends = absurd ends
@@ -63,7 +75,7 @@ modules-end files c (raw_too_long count) ends = absurd ends
 modules-end files c (text_refused r) ends = absurd ends
 modules-end files c (listing_refused r) ends = absurd ends
 
-pub inputs-end : (c : Command) (files : List NamedFile) (s : Stop) → inputs_in files c (stops s) → IsOfReading s
+pub inputs-end : (c : Inputs) (files : List NamedFile) (s : Stop) → inputs_in files c (stops s) → IsOfReading s
 inputs-end c files s (inl ends) = plan-ends files c.plan s ends
 inputs-end c files s (inr (plan, planned, inl ends)) = modules-end files c s ends
 inputs-end c files s (inr (plan, planned, inr (ms, read, never))) = absurd never
@@ -79,37 +91,22 @@ text-end (name ∷ names) files s (inr (bytes, there, ends)) = unless-ends (nat_
 
 -- ---- the line of the input
 
-plan-line : (c : Command) (plan : Option (List ℕ)) → c.plan ≡ plan → IsSome plan → (details : List ℕ)
+plan-line : (c : Inputs) (plan : Option (List ℕ)) → c.plan ≡ plan → IsSome plan → (details : List ℕ)
     → ((name : List ℕ) → c.plan ≡ Some name → details ≡ plan_line name) → HasPlanLine c details
 plan-line c None same some details is = absurd cc
 plan-line c (Some name) same some details is = record { name = name; named = same; are = is name same }
 
-file-there : (c : Command) (n count : ℕ) → count ≡ length (option_to_list c.plan) + n + 1 → count ≤ length (inputs_of c) → n < length c.files
+file-there : (c : Inputs) (n count : ℕ) → count ≡ length (option_to_list c.plan) + n + 1 → count ≤ length (input_names c) → n < length c.files
 file-there c n count exact within = let sum = length-append (option_to_list c.plan) c.files in omega (arith, exact, within, sum)
 
--- a text that was not read names no plan
-pub text-names : (plan : Option (List ℕ)) (name : List ℕ) (old new : Meaning) (before now : Faults) (stop : Outcome)
-    → TextStops name (call_between old new before now) stop → NamesPlan plan stop
-text-names plan name old new before now (outcome.Refused (refusal.Plan r)) why = absurd why
-text-names plan name old new before now (outcome.Refused (refusal.Read n r)) why = tt
-text-names plan name old new before now (outcome.Refused (refusal.InputLimit n)) why = tt
-text-names plan name old new before now (outcome.Refused (refusal.TooManyFiles n)) why = tt
-text-names plan name old new before now (outcome.Refused (refusal.TooDeep n)) why = tt
-text-names plan name old new before now (outcome.Refused (refusal.Link l)) why = tt
-text-names plan name old new before now (outcome.Refused (refusal.Locate l maus)) why = tt
-text-names plan name old new before now (outcome.Refused (refusal.Keep kept)) why = tt
-text-names plan name old new before now (outcome.Refused (refusal.Bin count)) why = tt
-text-names plan name old new before now (outcome.Refused (refusal.Text r)) why = tt
-text-names plan name old new before now (outcome.Refused (refusal.Build r)) why = tt
-text-names plan name old new before now (outcome.ReadFault input.Plan) why = absurd why
-text-names plan name old new before now (outcome.ReadFault (input.File n)) why = tt
-text-names plan name old new before now outcome.Done why = tt
-text-names plan name old new before now (outcome.Usage f) why = tt
-text-names plan name old new before now outcome.WriteFault why = tt
-text-names plan name old new before now outcome.NoMemory why = tt
+module _ {A : Type 0} (t : Task) (reading : List NamedFile → Work Stop A) (ends : (files : List NamedFile) (s : Stop) → reading files (stops s)
+    → IsOfReading s) (some : 0 < length (inputs_of t).files) where
+  abbrev c : Inputs
+  c = inputs_of t
 
-module _ {A : Type 0} (reading : List NamedFile → Work Stop A) (ends : (files : List NamedFile) (s : Stop) → reading files (stops s)
-    → IsOfReading s) (c : Command) (some : 0 < length c.files) where
+  abbrev keep : Option (List ℕ)
+  keep = keep_of t
+
   -- an end of another kind is that of no files that are known
   never-known : (files : Option (List NamedFile)) (s : Stop) (P : List NamedFile → Type 0) → (IsOfReading s → ⊥)
       → IfSome files (λ fs. reading fs (stops s)) → IfSome files P
@@ -119,7 +116,7 @@ module _ {A : Type 0} (reading : List NamedFile → Work Stop A) (ends : (files 
   module _ (old mid : Meaning) (before between : Faults) where
     stop-details : (s : Stop) → OpensInputs c (call_between old mid before between) (stop_outcome s) → NamesPlan c.plan (stop_outcome s) → IsOfInputs s
         → IfSome old.files (λ fs. reading fs (stops s)) → (details : List ℕ) → IsInputDetail c (stop_outcome s) details
-        → HasDetails old.files c s details
+        → HasDetails old.files c keep s details
     stop-details (plan_refused r) opens named of_inputs cause details is = plan-line c c.plan refl named details is
     stop-details (file_refused n r) opens named of_inputs cause details is =
         record { there = file-there c n opens.count opens.exact opens.within; are = is }
@@ -132,7 +129,7 @@ module _ {A : Type 0} (reading : List NamedFile → Work Stop A) (ends : (files 
     stop-details (keep_unknown name) opens named of_inputs cause details is =
         never-known old.files (keep_unknown name) (λ fs. lines_of_name fs c name (gives details)) (λ never. never) cause
     stop-details (locate_fact maus f) opens named of_inputs cause details is =
-        never-known old.files (locate_fact maus f) (λ fs. lines_of_locate fs c maus f (gives details)) (λ never. never) cause
+        never-known old.files (locate_fact maus f) (λ fs. lines_of_locate fs c keep maus f (gives details)) (λ never. never) cause
     stop-details (raw_too_long count) opens named of_inputs cause details is = is
     stop-details (words_refused s) opens named of_inputs cause details is = absurd of_inputs
 
@@ -141,18 +138,18 @@ module _ {A : Type 0} (reading : List NamedFile → Work Stop A) (ends : (files 
     input-line input.Plan reached details is = plan-line c c.plan refl reached details is
     input-line (input.File n) reached details is = record { there = reached.0; are = is }
 
-    -- The inputs were not all read, so this is how the command ended, and the line of the input that its outcome names.
-    module _ (work : List NamedFile → Work Stop Output) (begins : (files : List NamedFile) (s : Stop) → reading files (stops s)
-        → work files (stops s)) (of_files : reads_files c.verb ≡ true) (new : Meaning) (now : Faults) (prints : OnlyPrints mid new between now) where
+    -- The inputs were not all read, so this is how the task ended, and the line of the input that its outcome names.
+    module _ (begins : (files : List NamedFile) (s : Stop) → reading files (stops s)
+        → work_of t files (stops s)) (of_files : reads_files t ≡ true) (new : Meaning) (now : Faults) (prints : OnlyPrints mid new between now) where
       pub reading-ends : (stop : Outcome) → ReadingStops reading c (call_between old mid before between) stop
           → OpensInputs c (call_between old mid before between) stop → NamesPlan c.plan stop → stop ≢ outcome.NoMemory → (details : List ℕ)
-          → IsInputDetail c stop details → EndsFor c work (call_between old new before now) stop details
+          → IsInputDetail c stop details → EndsFor t (call_between old new before now) stop details
       reading-ends (outcome.Refused r) why opens named memory details is = (
         record {
           stop = why.stop;
           is = why.is;
           of_inputs = why.of_inputs;
-          cause = over-map of_files (λ fs. reading fs (stops why.stop)) (λ fs. work fs (stops why.stop)) old.files
+          cause = over-map of_files (λ fs. reading fs (stops why.stop)) (λ fs. work_of t fs (stops why.stop)) old.files
               (λ fs comes. begins fs why.stop comes) why.cause;
         },
         stop-details why.stop (subst (λ (o : Outcome). OpensInputs c (call_between old mid before between) o) why.is opens)
@@ -197,34 +194,88 @@ module _ (words : List (List ℕ)) (old mid : Meaning) (before between : Faults)
   printed-explains details ends (outcome.Usage f) is told = absurd is
   printed-explains details ends (outcome.ReadFault at) is told = absurd is
 
--- ---- arguments that are a command
+-- ---- arguments that ask for a task
 
-module _ (words : List (List ℕ)) (c : Command) (given : answer_of words ≡ Ok c) (old mid : Meaning) (before between : Faults)
+module _ (words : List (List ℕ)) (t : Task) (asks : AskFor words (request.Run t)) (old mid : Meaning) (before between : Faults)
     (only : OnlyOpens old mid before between) (new : Meaning) (now : Faults) (prints : OnlyPrints mid new between now) where
-  command-opens : (answer : Outcome) → OpensInputs c (call_between old mid before between) answer
+  pub task-opens : (answer : Outcome) → OpensInputs (inputs_of t) (call_between old mid before between) answer
       → OpensBy (answer_of words) (call_between old mid before between) answer
-  command-opens answer opens =
-      subst (λ (r : Result Command WordsStop). OpensBy r (call_between old mid before between) answer) (sym given) opens
+  task-opens answer opens =
+      subst (λ (r : Result Command WordsStop). OpensBy r (call_between old mid before between) answer) (sym asks.given)
+      (subst (λ (q : Request). OpensFor q (call_between old mid before between) answer) (sym asks.is) opens)
 
-  pub command-explains : (answer : Outcome) → OpensInputs c (call_between old mid before between) answer → (details : List ℕ)
-      → (answer ≢ outcome.NoMemory → EndsFor c (λ files. work_of c.verb files c) (call_between old new before now) answer details) → (result : Outcome)
+  pub task-ends : (call : Call) (answer : Outcome) (details : List ℕ) → EndsFor t call answer details → EndsBy (answer_of words) call answer details
+  task-ends call answer details ends =
+      subst (λ (r : Result Command WordsStop). EndsBy r call answer details) (sym asks.given)
+      (subst (λ (q : Request). EndsWith q call answer details) (sym asks.is) ends)
+
+  pub task-explains : (answer : Outcome) → OpensInputs (inputs_of t) (call_between old mid before between) answer → (details : List ℕ)
+      → (answer ≢ outcome.NoMemory → EndsFor t (call_between old new before now) answer details) → (result : Outcome)
       → IsPrinted (explain_text words answer details) (call_between mid new between now) result
       → (result ≢ outcome.NoMemory → (answer ≢ outcome.WriteFault) × (answer ≢ outcome.NoMemory))
       → Explains words (call_between old new before now) result
-  command-explains answer opens details ends result is told =
-      printed-explains words old mid before between only new now prints answer (command-opens answer opens) details
-      (λ memory. subst (λ (r : Result Command WordsStop). EndsBy r (call_between old new before now) answer details) (sym given) (ends memory)) result is told
+  task-explains answer opens details ends result is told =
+      printed-explains words old mid before between only new now prints answer (task-opens answer opens) details
+      (λ memory. task-ends (call_between old new before now) answer details (ends memory)) result is told
+
+  -- The task would put this out.
+  pub done-explains : OpensInputs (inputs_of t) (call_between old mid before between) outcome.Done → (output : Output) → IsOutput t old.files output
+      → (result : Outcome) → IsPrinted (explain_text words outcome.Done []) (call_between mid new between now) result
+      → Explains words (call_between old new before now) result
+  done-explains opens output is result put =
+      task-explains outcome.Done opens [] (λ memory. ((output, is), refl)) result put (λ memory. ((λ same. cc), (λ same. cc)))
 
   -- The inputs were not all read.
   pub unread-explains : {A : Type 0} (reading : List NamedFile → Work Stop A)
       → ((files : List NamedFile) (s : Stop) → reading files (stops s) → IsOfReading s)
-      → ((files : List NamedFile) (s : Stop) → reading files (stops s) → work_of c.verb files c (stops s)) → reads_files c.verb ≡ true
-      → 0 < length c.files → (stop : Outcome) → ReadingStops reading c (call_between old mid before between) stop
-      → OpensInputs c (call_between old mid before between) stop → NamesPlan c.plan stop → (details : List ℕ) → IsInputDetail c stop details
+      → ((files : List NamedFile) (s : Stop) → reading files (stops s) → work_of t files (stops s)) → reads_files t ≡ true
+      → 0 < length (inputs_of t).files → (stop : Outcome) → ReadingStops reading (inputs_of t) (call_between old mid before between) stop
+      → OpensInputs (inputs_of t) (call_between old mid before between) stop → NamesPlan (inputs_of t).plan stop → (details : List ℕ)
+      → IsInputDetail (inputs_of t) stop details
       → (result : Outcome) → IsPrinted (explain_text words stop details) (call_between mid new between now) result
       → (result ≢ outcome.NoMemory → (stop ≢ outcome.WriteFault) × (stop ≢ outcome.NoMemory))
       → Explains words (call_between old new before now) result
   unread-explains reading ends begins of_files some stop why opens named details is result printed told =
-      command-explains stop opens details
-      (λ memory. reading-ends reading ends c some old mid before between (λ files. work_of c.verb files c) begins of_files new now prints stop why opens
-      named memory details is) result printed told
+      task-explains stop opens details
+      (λ memory. reading-ends t reading ends some old mid before between begins of_files new now prints stop why opens named memory details is) result
+      printed told
+
+-- ---- arguments that ask for none
+
+module _ (words : List (List ℕ)) (old : Meaning) (before : Faults) where
+  no_input : OnlyOpens old old before before
+  no_input = (refl, refl, omega arith)
+
+  -- memory ran out
+  pub lacking-all : Explains words (call_between old old before before) outcome.NoMemory
+  lacking-all = lacking-explains words old old before before no_input outcome.NoMemory (opens-nothing (answer_of words) old before)
+
+  module _ (new : Meaning) (now : Faults) (prints : OnlyPrints old new before now) (answer result : Outcome)
+      (put : IsPrinted (explain_text words answer []) (call_between old new before now) result)
+      (told : result ≢ outcome.NoMemory → (answer ≢ outcome.WriteFault) × (answer ≢ outcome.NoMemory)) where
+    wrong-words : (stop : WordsStop) → answer ≡ stop_answer stop → answer_of words ≡ Err stop → Explains words (call_between old new before now) result
+    wrong-words stop is refused =
+        printed-explains words old old before before no_input new now prints answer
+        (subst (λ (r : Result Command WordsStop). OpensBy r (call_between old old before before) answer) (sym refused) refl) []
+        (λ memory. subst (λ (r : Result Command WordsStop). EndsBy r (call_between old new before now) answer []) (sym refused) (is, memory, refl))
+        result put told
+
+    pub words-explain : (stop : WordsStop) → answer ≡ stop_answer stop → (stop ≢ words_stop.NoMemory → answer_of words ≡ Err stop)
+        → Explains words (call_between old new before now) result
+    words-explain words_stop.NoMemory is refused =
+        printed-explains words old old before before no_input new now prints answer
+        (subst (λ (o : Outcome). OpensBy (answer_of words) (call_between old old before before) o) (sym is) (opens-nothing (answer_of words) old before)) []
+        (λ memory. absurd (memory is)) result put told
+    words-explain (words_stop.Usage f) is refused = wrong-words (words_stop.Usage f) is (refused (λ same. cc))
+    words-explain (words_stop.TooManyFiles n) is refused = wrong-words (words_stop.TooManyFiles n) is (refused (λ same. cc))
+    words-explain (words_stop.TooDeep n) is refused = wrong-words (words_stop.TooDeep n) is (refused (λ same. cc))
+
+    -- they ask for an explanation
+    pub again-explains : AskFor words request.Explain → answer ≡ stop_answer not_explained → Explains words (call_between old new before now) result
+    again-explains asks is =
+        printed-explains words old old before before no_input new now prints answer
+        (subst (λ (r : Result Command WordsStop). OpensBy r (call_between old old before before) answer) (sym asks.given)
+        (subst (λ (q : Request). OpensFor q (call_between old old before before) answer) (sym asks.is) refl)) []
+        (λ memory. subst (λ (r : Result Command WordsStop). EndsBy r (call_between old new before now) answer []) (sym asks.given)
+        (subst (λ (q : Request). EndsWith q (call_between old new before now) answer []) (sym asks.is) (is, refl)))
+        result put told

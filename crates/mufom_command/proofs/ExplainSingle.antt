@@ -6,13 +6,11 @@ use Rattle.mufom_meaning.specs.Facts.{LinkFact, LocateFact}
 use Rattle.mufom_meaning.proofs.locations.SelectionSingle.{selection_is_single}
 use Rattle.mufom_words.specs.declared.command.Command.{Command}
 use Rattle.mufom_words.specs.declared.stop.WordsStop.{WordsStop}
-use Rattle.mufom_words.specs.Alike.{flat_list, linked_lists}
 use Rattle.mufom_words.specs.Answer.{answer_of}
 use Rattle.mufom_words.specs.Explain.{explained}
-use Rattle.mufom_words.specs.Options.{explains}
-use Rattle.mufom_words.specs.Tree.{tree_of}
+use Rattle.mufom_words.specs.Tree.{Forest, tree_of}
 use Rattle.mufom_groups.specs.Linked.{members, roots}
-use Rattle.mufom_groups.specs.Refused.{IsRefusedFlatList, IsRefusedList, refused_among}
+use Rattle.mufom_groups.specs.Refused.{IsRefusedFlatList, IsRefusedList, flat_list, linked_lists, refused_among}
 use Rattle.mufom_groups.specs.Refusals.{link_refusal}
 use Rattle.mufom_groups.specs.Work.{IsSingle, Reached, Work, ◌>>=◌, gives, one_with, stops, sure}
 use Rattle.mufom_groups.proofs.Works.{one_with-single, stop_at-single, sure-single, then-single, value-same}
@@ -20,16 +18,21 @@ use Rattle.mufom_origins.specs.Origins.{FileModule, modules_of}
 use Rattle.mufom_explain.specs.Details.{link_details, locate_details, name_details}
 use Rattle.mufom_explain.specs.Lines.{file_line, plan_line}
 use Rattle.mufom_text.specs.Words.{Text}
-use Rattle.mufom_command.specs.Stop.{Stop, words_refused, plan_refused, file_refused, past_limit, link_fact, keep_unknown, locate_fact, raw_too_long}
-use Rattle.mufom_command.specs.Stop.{text_refused, listing_refused}
-use Rattle.mufom_command.specs.Commands.{Output, kept_of, modules_in, plan_in, printed, work_by}
+use Rattle.mufom_outcome.specs.Stop.{Stop, words_refused, plan_refused, file_refused, past_limit, link_fact, keep_unknown, locate_fact, raw_too_long}
+use Rattle.mufom_outcome.specs.Stop.{text_refused, listing_refused}
+use Rattle.mufom_command.specs.Works.{Output, kept_of, printed, work_by}
+use Rattle.mufom_task.specs.Reading.{modules_in, plan_in}
 use Rattle.mufom_command.specs.Contract.{run_by, run_of, work_with}
-use Rattle.mufom_command.specs.Explain.{HasLines, IsTextOn, explaining}
+use Rattle.mufom_task.specs.declared.task.Inputs.{Inputs}
+use Rattle.mufom_task.specs.declared.task.Request.{Request}
+use Rattle.mufom_task.specs.declared.task.Request.TheVariants as request
+use Rattle.mufom_task.specs.Tasks.{inputs_of, keep_of, request_of}
+use Rattle.mufom_command.specs.Explain.{HasLines, HasLinesFor, IsTextOn, explaining}
 use Rattle.mufom_command.specs.ExplainText.{explain_text}
 use Rattle.mufom_command.specs.FlatFiles.{AreFlatFiles}
 use Rattle.mufom_command.specs.HasDetails.{HasDetails, HasFileLine, HasPlanLine, IsRefusedFlat}
 use Rattle.mufom_command.specs.HasDetails.{explained_by, files_at, lines_of_link, lines_of_locate, lines_of_name}
-use Rattle.mufom_command.specs.LocateRefusals.{locate_refusal}
+use Rattle.mufom_outcome.specs.LocateRefusals.{locate_refusal}
 use Rattle.mufom_command.specs.Run.{outcome_of}
 use Rattle.mufom_command.proofs.MapLaws.{flat-files-single}
 use Rattle.mufom_command.proofs.Runs.{kept_of-single, modules_in-single, plan_in-single, work_by-single, work_of-single}
@@ -41,14 +44,17 @@ abbrev files-or : List ℕ → Option (List ℕ × LinkFact) → List ℕ
 files-or files None = files
 files-or files (Some p) = p.0
 
-module _ (c : Command) (ms : List Parts) (f : LinkFact) where
-  flat-list-single : (a b : List ℕ) → IsRefusedFlatList c ms a f → IsRefusedFlatList c ms b f → a ≡ b
+module _ (c : Inputs) (ms : List Parts) (f : LinkFact) where
+  abbrev tree : Forest
+  tree = tree_of c.marks
+
+  flat-list-single : (a b : List ℕ) → IsRefusedFlatList tree ms a f → IsRefusedFlatList tree ms b f → a ≡ b
   flat-list-single a b one other =
       let same : one.chosen ≡ other.chosen
-      = selection_is_single (roots (tree_of c.marks) ms) (members (tree_of c.marks) ms) one.chosen other.chosen one.selected other.selected in
-      one.are ∙ (ap (flat_list c) same ∙ sym other.are)
+      = selection_is_single (roots tree ms) (members tree ms) one.chosen other.chosen one.selected other.selected in
+      one.are ∙ (ap (flat_list tree) same ∙ sym other.are)
 
-  list-single : (a b : List ℕ) → IsRefusedList c ms a f → IsRefusedList c ms b f → a ≡ b
+  list-single : (a b : List ℕ) → IsRefusedList tree ms a f → IsRefusedList tree ms b f → a ≡ b
   list-single a b (inl one) (inl other) = ap (files-or a) (sym one ∙ other)
   list-single a b (inl one) (inr (none, other)) = let same : Some (a, f) ≡ None = sym one ∙ none in absurd cc
   list-single a b (inr (none, one)) (inl other) = let same : Some (b, f) ≡ None = sym other ∙ none in absurd cc
@@ -59,7 +65,7 @@ module _ (c : Command) (ms : List Parts) (f : LinkFact) where
 
 -- ---- lines
 
-module _ (files : List NamedFile) (bytes : HoldBytes files) (c : Command) where
+module _ (files : List NamedFile) (bytes : HoldBytes files) (c : Inputs) (keep : Option (List ℕ)) where
   link-single : (f : LinkFact) → IsSingle (lines_of_link files c f)
   link-single f =
       then-single (modules_in files c) (λ ms. one_with (IsRefusedFlat c ms f) >>= λ flat. sure (link_details c.files flat (link_refusal f)))
@@ -74,19 +80,19 @@ module _ (files : List NamedFile) (bytes : HoldBytes files) (c : Command) where
       then-single (one_with (AreFlatFiles (tree_of c.marks) ms)) (λ flat. sure (name_details c.files flat name))
       (flat-files-single (tree_of c.marks) ms) λ flat. sure-single (name_details c.files flat name)
 
-  locate-single : (maus : ℕ) (f : LocateFact) → IsSingle (lines_of_locate files c maus f)
+  locate-single : (maus : ℕ) (f : LocateFact) → IsSingle (lines_of_locate files c keep maus f)
   locate-single maus f =
       then-single (plan_in files c.plan) (λ plan. modules_in files c >>= λ ms. one_with (AreFlatFiles (tree_of c.marks) ms) >>= λ flat.
-      kept_of c.keep (modules_of flat) >>= λ kept. sure (locate_details (explained_by c plan flat kept maus) (locate_refusal f)))
+      kept_of keep (modules_of flat) >>= λ kept. sure (locate_details (explained_by c plan flat kept maus) (locate_refusal f)))
       (plan_in-single files c.plan) λ plan.
       then-single (modules_in files c) (λ ms. one_with (AreFlatFiles (tree_of c.marks) ms) >>= λ flat.
-      kept_of c.keep (modules_of flat) >>= λ kept. sure (locate_details (explained_by c plan flat kept maus) (locate_refusal f)))
+      kept_of keep (modules_of flat) >>= λ kept. sure (locate_details (explained_by c plan flat kept maus) (locate_refusal f)))
       (modules_in-single files bytes c) λ ms.
       then-single (one_with (AreFlatFiles (tree_of c.marks) ms)) (λ flat.
-      kept_of c.keep (modules_of flat) >>= λ kept. sure (locate_details (explained_by c plan flat kept maus) (locate_refusal f)))
+      kept_of keep (modules_of flat) >>= λ kept. sure (locate_details (explained_by c plan flat kept maus) (locate_refusal f)))
       (flat-files-single (tree_of c.marks) ms) λ flat.
-      then-single (kept_of c.keep (modules_of flat)) (λ kept. sure (locate_details (explained_by c plan flat kept maus) (locate_refusal f)))
-      (kept_of-single c.keep (modules_of flat)) λ kept. sure-single (locate_details (explained_by c plan flat kept maus) (locate_refusal f))
+      then-single (kept_of keep (modules_of flat)) (λ kept. sure (locate_details (explained_by c plan flat kept maus) (locate_refusal f)))
+      (kept_of-single keep (modules_of flat)) λ kept. sure-single (locate_details (explained_by c plan flat kept maus) (locate_refusal f))
 
   plan-line-single : (a b : Text) → HasPlanLine c a → HasPlanLine c b → a ≡ b
   plan-line-single a b one other =
@@ -97,7 +103,7 @@ module _ (files : List NamedFile) (bytes : HoldBytes files) (c : Command) where
   file-line-single : (n : ℕ) (a b : Text) → HasFileLine c n a → HasFileLine c n b → a ≡ b
   file-line-single n a b one other = one.are ∙ sym other.are
 
-  details-single : (s : Stop) (a b : Text) → HasDetails (Some files) c s a → HasDetails (Some files) c s b → a ≡ b
+  details-single : (s : Stop) (a b : Text) → HasDetails (Some files) c keep s a → HasDetails (Some files) c keep s b → a ≡ b
   details-single (plan_refused r) a b one other = plan-line-single a b one other
   details-single (file_refused n r) a b one other = file-line-single n a b one other
   details-single (past_limit n) a b one other = file-line-single n a b one other
@@ -109,10 +115,15 @@ module _ (files : List NamedFile) (bytes : HoldBytes files) (c : Command) where
   details-single (raw_too_long count) a b one other = one ∙ sym other
   details-single (words_refused s) a b one other = one ∙ sym other
 
+request-single : (files : List NamedFile) → HoldBytes files → (q : Request) (reached : Reached Stop Output) (a b : Text)
+    → HasLinesFor files q reached a → HasLinesFor files q reached b → a ≡ b
+request-single files bytes (request.Run t) (gives output) a b one other = one ∙ sym other
+request-single files bytes (request.Run t) (stops s) a b one other = details-single files bytes (inputs_of t) (keep_of t) s a b one other
+request-single files bytes request.Explain reached a b one other = one ∙ sym other
+
 lines-single : (files : List NamedFile) → HoldBytes files → (r : Result Command WordsStop) (reached : Reached Stop Output) (a b : Text)
     → HasLines files r reached a → HasLines files r reached b → a ≡ b
-lines-single files bytes (Ok c) (gives output) a b one other = one ∙ sym other
-lines-single files bytes (Ok c) (stops s) a b one other = details-single files bytes c s a b one other
+lines-single files bytes (Ok c) reached a b one other = request-single files bytes (request_of c) reached a b one other
 lines-single files bytes (Err stop) reached a b one other = one ∙ sym other
 
 -- ---- the text
@@ -136,10 +147,10 @@ module _ (words : List (List ℕ)) (files : List NamedFile) (bytes : HoldBytes f
 -- A run comes to one end at most.
 pub run_of-single : (words : List (List ℕ)) (files : List NamedFile) → HoldBytes files → IsSingle (run_of words files)
 run_of-single words files bytes = by (answer_of words) where
-  with_verb : (c : Command) (b : Bool) → IsSingle (work_with b words c files)
-  with_verb c true = explaining-single (explained words) files bytes
-  with_verb c false = work_of-single files bytes c c.verb
+  with_request : (q : Request) → IsSingle (work_with words q files)
+  with_request (request.Run t) = work_of-single files bytes t
+  with_request request.Explain = explaining-single (explained words) files bytes
 
   by : (r : Result Command WordsStop) → IsSingle (run_by words r files)
-  by (Ok c) = with_verb c (explains c.verb)
+  by (Ok c) = with_request (request_of c)
   by (Err s) = stop_at-single (words_refused s)

@@ -1,4 +1,4 @@
--- The flat list of a command with its files, and what is kept of it, in place of the link of the list.
+-- The flat list of a tree with its files, and what is kept of it, in place of the link of the list.
 use Rattle.std.proofs.Common.{◌≡◌, ◌++◌, ◌+◌, ℕ, zero, suc, List, [], ◌∷◌, Option, None, length}
 use Rattle.std.proofs.Common.{drop, map, option_to_list, slice_get, refl, sym, ap, subst, ◌∙◌, inl, inr, arith}
 use Rattle.std.proofs.lemmas.Grind.{flat_map-append}
@@ -12,10 +12,9 @@ use Rattle.mufom_meaning.specs.Staging.{AreValid}
 use Rattle.mufom_meaning.specs.StagingLaws.{MeansTheSame}
 use Rattle.mufom_meaning.proofs.facts.AllAnswers.{answers_are_facts}
 use Rattle.mufom_meaning.proofs.facts.LinkFacts.{link_facts_grow}
-use Rattle.mufom_words.specs.declared.command.Command.{Command}
-use Rattle.mufom_words.specs.Sound.{IsSound, numbers_from}
+use Rattle.mufom_words.specs.Sound.{numbers_from}
 use Rattle.mufom_words.specs.Tree.{Forest, leaves, tree_of}
-use Rattle.mufom_groups.specs.Linked.{linked, linked_module, members, roots}
+use Rattle.mufom_groups.specs.Linked.{linked, members, roots}
 use Rattle.mufom_groups.specs.Work.{gives}
 use Rattle.mufom_groups.proofs.GroupsAlike.{linked-flat}
 use Rattle.mufom_groups.proofs.RefusedLaws.{numbers-count}
@@ -24,16 +23,18 @@ use Rattle.mufom_origins.specs.declared.origins.Origin.{Origin}
 use Rattle.mufom_origins.specs.Origins.{FileModule, modules_of, numbered, origins_of}
 use Rattle.mufom_origins.specs.Places.{at_positions, with_chosen}
 use Rattle.mufom_origins.proofs.FlatLaws.{chosen-map, members-chosen, modules-numbered}
-use Rattle.mufom_command.specs.declared.maps.TracedModule.{TracedModule}
-use Rattle.mufom_command.specs.Commands.{Kept, kept_of, kept_origins}
-use Rattle.mufom_command.specs.FlatFiles.{files_with}
-use Rattle.mufom_command.specs.MapInputs.{IsKeptPart}
-use Rattle.mufom_command.specs.RunLaws.{IsLocating}
+use Rattle.mufom_command.specs.declared.locating.TracedModule.{TracedModule}
+use Rattle.mufom_command.specs.Works.{Kept, kept_of, kept_origins}
+use Rattle.mufom_meaning.specs.Absolute.{no_regions}
+use Rattle.mufom_task.specs.declared.task.Inputs.{Inputs}
+use Rattle.mufom_command.specs.declared.locating.Places.{Places}
+use Rattle.mufom_command.specs.FlatFiles.{AreFlatFiles, files_with}
+use Rattle.mufom_command.specs.Locations.{HasPlaces, IsKeptPart, IsTracedLink}
 use Rattle.mufom_command.specs.RunParts.{AreLinkedFlat, AreReadFrom, IsKeptFlat}
 use Rattle.mufom_command.specs.WorkEnds.{EndsAt, own_kept}
-use Rattle.mufom_command.specs.declared.outcome.Outcome.{Outcome}
+use Rattle.mufom_outcome.specs.declared.outcome.Outcome.{Outcome}
 use Rattle.mufom_command.proofs.EndLaws.{ends-along}
-use Rattle.mufom_command.proofs.LocatingLaws.{AreAlike, IsKeptAlike, named-first, own-ends, own-is}
+use Rattle.mufom_command.proofs.LocatingLaws.{AreAlike, IsKeptAlike, own-ends, own-is}
 use Rattle.mufom_command.proofs.MapLaws.{origins-with}
 
 -- ---- the modules of the flat list
@@ -82,32 +83,23 @@ flat-positions tree ms chosen count first =
     ∙ ap (λ (l : List FileModule). at_positions (numbered ms) (numbers_from 0 count) ++ l) (positions-after count (numbered ms) chosen)
     ∙ (λ i. at_positions (numbered ms) (sym first i) ++ at_positions (drop (counted i) (numbered ms)) chosen)
 
-module _ (c : Command) (ms : List Parts) (chosen : List ℕ) (selected : IsSelected (roots (tree_of c.marks) ms) (members (tree_of c.marks) ms) chosen)
-    (flat : List FileModule) (are : flat ≡ files_with (tree_of c.marks) ms chosen) (list : List Parts)
-    (is_linked : linked (tree_of c.marks) ms (gives list)) where
+module _ (tree : Forest) (ms : List Parts) (places : Places) (has : HasPlaces tree ms places) (flat : List FileModule)
+    (are : flat ≡ files_with tree ms places.chosen) (list : List Parts) (is_linked : linked tree ms (gives list)) where
   -- they are those that are linked
-  flat-same : modules_of flat ≡ list
+  pub flat-same : modules_of flat ≡ list
   flat-same =
-      flat_list-single (tree_of c.marks) ms (modules_of flat) list
-      (chosen, selected, ap modules_of are ∙ flat-modules (tree_of c.marks) ms chosen)
-      ((linked-flat answers_are_facts link_facts_grow (tree_of c.marks) ms list).0 is_linked).0
+      flat_list-single tree ms (modules_of flat) list
+      (places.chosen, has.selected, ap modules_of are ∙ flat-modules tree ms places.chosen)
+      ((linked-flat answers_are_facts link_facts_grow tree ms list).0 is_linked).0
 
-  linked-with : (files : Option (List NamedFile)) (plan : Plan) → IsSound c → IsLocating c.verb → AreReadFrom files c plan ms
-      → AreLinkedFlat files c plan ms flat
-  linked-with files plan sound locating read = record {
-    sound = sound;
-    locating = locating;
+  linked-with : (files : Option (List NamedFile)) (inputs : Inputs) → tree_of inputs.marks ≡ tree → (plan : Plan) → AreReadFrom files inputs plan ms
+      → AreLinkedFlat files inputs plan ms flat
+  linked-with files inputs same plan read = record {
     read = read;
-    are = (chosen, selected, are);
-    links = subst (λ (l : List Parts). linked (tree_of c.marks) ms (gives l)) (sym flat-same) is_linked;
+    are = subst (λ (t : Forest). AreFlatFiles t ms flat) (sym same) (places.chosen, has.selected, are);
+    links = subst (λ (t : Forest). linked t ms (gives (modules_of flat))) (sym same)
+        (subst (λ (l : List Parts). linked tree ms (gives l)) (sym flat-same) is_linked);
   }
-
-  -- their origins are those of the modules that are linked
-  origins-flat : IsSound c → (count : ℕ) → count ≡ length (leaves (tree_of c.marks)) → (origins : List Origin)
-      → origins ≡ with_chosen count chosen (origins_of (numbered ms)) → origins ≡ origins_of flat
-  origins-flat sound count counted origins same =
-      same ∙ ap (λ (n : ℕ). with_chosen n chosen (origins_of (numbered ms))) counted
-      ∙ origins-with c sound.tree ms chosen ∙ ap origins_of (sym are)
 
 -- ---- what is kept
 
@@ -124,15 +116,27 @@ means-itself ms = record {
   same_members = λ members chosen. ((λ is. is), (λ is. is));
 }
 
-module _ (c : Command) (ms : List Parts) (valid : AreValid ms) (unnamed : c.name ≡ None) (plan : Plan) (whole : TracedModule) (sound : IsValid whole.object)
-    (links : linked_module c ms (gives whole.object)) (flat : List FileModule) (same : modules_of flat ≡ links.0) where
+module _ (tree : Forest) (first : leaves tree ≡ numbers_from 0 (length (leaves tree))) (ms : List Parts) (valid : AreValid ms) (keep : Option (List ℕ))
+    (places : Places) (whole : TracedModule) (link : IsTracedLink tree ms places whole) (flat : List FileModule)
+    (are : flat ≡ files_with tree ms places.chosen) where
+  own-same : modules_of flat ≡ link.links.0
+  own-same = flat-same tree ms places link.has flat are link.links.0 link.links.1
+
+  -- their origins are those of the modules that are linked
+  origins-flat : whole.origins ≡ origins_of flat
+  origins-flat =
+      link.from ∙ ap (λ (n : ℕ). with_chosen n places.chosen (origins_of (numbered ms))) link.has.counted
+      ∙ origins-with tree first ms places.chosen ∙ ap origins_of (sym are)
+
+  pub told-flat : (files : Option (List NamedFile)) (inputs : Inputs) → tree_of inputs.marks ≡ tree → (plan : Plan) → AreReadFrom files inputs plan ms
+      → AreLinkedFlat files inputs plan ms flat
+  told-flat files inputs same plan read = linked-with tree ms places link.has flat are link.links.0 link.links.1 files inputs same plan read
+
   -- what is kept of the link is kept of the flat list, or means the same
-  kept-flat : (part : TracedModule) → IsKeptPart c.keep whole part → whole.origins ≡ origins_of flat
-      → (kept : Kept) × IsKeptFlat c flat part.object part.origins kept
-  kept-flat part is from =
-      let (list, is_linked, joined) = links in
-      let like : IsKeptAlike c.keep list is.kept = own-is c ms valid unnamed whole.object sound plan c.keep list is_linked
-      (named-first c ms valid unnamed whole.object sound plan list joined) is.kept is.keeps in
+  pub told-kept : (plan : Plan) (part : TracedModule) → IsKeptPart keep whole part → (kept : Kept) × IsKeptFlat keep flat part.object part.origins kept
+  told-kept plan part is =
+      let (list, is_linked, joined) = link.links in
+      let like : IsKeptAlike keep list is.kept = own-is tree ms valid whole.object link.valid plan keep list is_linked joined is.kept is.keeps in
       by like where
         means : (kept : Kept) → AreAlike is.kept kept → MeansTheSame (part.object ∷ []) kept.modules
         means kept (inl alike) =
@@ -144,48 +148,20 @@ module _ (c : Command) (ms : List Parts) (valid : AreValid ms) (unnamed : c.name
         rests kept (inl alike) = ap (λ (k : Kept). k.rest) alike
         rests kept (inr (none, no_rest, alike)) = none ∙ sym no_rest
 
-        by : IsKeptAlike c.keep links.0 is.kept → (kept : Kept) × IsKeptFlat c flat part.object part.origins kept
+        by : IsKeptAlike keep link.links.0 is.kept → (kept : Kept) × IsKeptFlat keep flat part.object part.origins kept
         by like = (
           like.kept,
           record {
-            keeps = subst (λ (l : List Parts). kept_of c.keep l (gives like.kept)) (sym same) like.keeps;
+            keeps = subst (λ (l : List Parts). kept_of keep l (gives like.kept)) (sym own-same) like.keeps;
             same = means like.kept like.alike;
-            from = is.origins ∙ (λ i. kept_origins (rests like.kept like.alike i) (from i));
+            from = is.origins ∙ (λ i. kept_origins (rests like.kept like.alike i) (origins-flat i));
           },
         )
 
   -- a name that no public has ends both
-  kept-ends : (answer : Outcome) → EndsAt (own_kept c.keep whole.object) answer → EndsAt (kept_of c.keep (modules_of flat)) answer
-  kept-ends answer ends =
-      let (list, is_linked, joined) = links in
-      subst (λ (l : List Parts). EndsAt (kept_of c.keep l) answer) (sym same)
-      (ends-along (own_kept c.keep whole.object) (kept_of c.keep list)
-      (λ s is. own-ends c ms valid unnamed whole.object sound plan c.keep list is_linked
-      (named-first c ms valid unnamed whole.object sound plan list joined) s is) answer ends)
-
--- ---- all of it
-
--- The flat list of a command that locates, with its link, the origins of its entries, and what is kept of that.
-module _ (c : Command) (ms : List Parts) (valid : AreValid ms) (sound : IsSound c) (unnamed : c.name ≡ None) (plan : Plan) (M : Parts)
-    (links : linked_module c ms (gives M)) (chosen : List ℕ) (selected : IsSelected (roots (tree_of c.marks) ms) (members (tree_of c.marks) ms) chosen)
-    (flat : List FileModule) (are : flat ≡ files_with (tree_of c.marks) ms chosen) where
-  pub told-flat : (files : Option (List NamedFile)) → IsLocating c.verb → AreReadFrom files c plan ms → AreLinkedFlat files c plan ms flat
-  told-flat files locating read = linked-with c ms chosen selected flat are links.0 links.1 files plan sound locating read
-
-  module _ (is_valid : IsValid M) (count : ℕ) (counted : count ≡ length (leaves (tree_of c.marks))) (whole : TracedModule) (object : whole.object ≡ M)
-      (from : whole.origins ≡ with_chosen count chosen (origins_of (numbered ms))) where
-    own-valid : IsValid whole.object
-    own-valid = subst IsValid (sym object) is_valid
-
-    abbrev own-links : linked_module c ms (gives whole.object)
-    own-links = subst (λ (m : Parts). linked_module c ms (gives m)) (sym object) links
-
-    own-same : modules_of flat ≡ own-links.0
-    own-same = flat-same c ms chosen selected flat are own-links.0 own-links.1
-
-    pub told-kept : (part : TracedModule) → IsKeptPart c.keep whole part → (kept : Kept) × IsKeptFlat c flat part.object part.origins kept
-    told-kept part is = kept-flat c ms valid unnamed plan whole own-valid own-links flat own-same part is
-        (origins-flat c ms chosen selected flat are links.0 links.1 sound count counted whole.origins from)
-
-    pub told-ends : (answer : Outcome) → EndsAt (own_kept c.keep whole.object) answer → EndsAt (kept_of c.keep (modules_of flat)) answer
-    told-ends answer ends = kept-ends c ms valid unnamed plan whole own-valid own-links flat own-same answer ends
+  pub told-ends : (answer : Outcome) → EndsAt (own_kept keep whole.object) answer → EndsAt (kept_of keep (modules_of flat)) answer
+  told-ends answer ends =
+      let (list, is_linked, joined) = link.links in
+      subst (λ (l : List Parts). EndsAt (kept_of keep l) answer) (sym own-same)
+      (ends-along (own_kept keep whole.object) (kept_of keep list)
+      (λ s is. own-ends tree ms valid whole.object link.valid no_regions keep list is_linked joined s is) answer ends)

@@ -6,9 +6,7 @@ use Rattle.mufom_names.specs.declared.name.Public.{Public}
 use Rattle.mufom_names.specs.Names.{AreDistinct, names_of}
 use Rattle.mufom_module.specs.declared.module.Parts.{Parts}
 use Rattle.mufom_module.specs.Defects.{IsValid}
-use Rattle.mufom_plan.specs.declared.plan.Plan.{Plan}
 use Rattle.mufom_plan.specs.Names.{has_name}
-use Rattle.mufom_meaning.specs.declared.located.LocatedParts.{LocatedParts}
 use Rattle.mufom_meaning.specs.Flat.{public_names}
 use Rattle.mufom_meaning.specs.Joined.{IsJoined}
 use Rattle.mufom_meaning.specs.LinkAnswer.{link_answer}
@@ -23,9 +21,10 @@ use Rattle.mufom_prune.specs.Refusals.{IsRefusalOf}
 use Rattle.mufom_prune.proofs.PrunedValid.{pruned_valid}
 use Rattle.mufom_groups.specs.Linked.{first_name}
 use Rattle.mufom_groups.specs.Work.{Reached, gives, stops}
-use Rattle.mufom_command.specs.Stop.{Stop, keep_unknown}
-use Rattle.mufom_command.specs.Commands.{Kept, all_of, kept_of, kept_unless, located, rest_of}
-use Rattle.mufom_command.specs.WorkEnds.{EndsAt, outcome_of_prune, own_kept, own_location, own_rest}
+use Rattle.mufom_outcome.specs.Stop.{Stop, keep_unknown}
+use Rattle.mufom_command.specs.Works.{Kept, all_of, kept_of, kept_unless, rest_of}
+use Rattle.mufom_command.specs.WorkEnds.{EndsAt, own_kept, own_rest}
+use Rattle.mufom_outcome.specs.Outcomes.{outcome_of_prune}
 
 -- ---- the names of what remains
 
@@ -146,20 +145,6 @@ module _ (name : List ℕ) (rest M : Parts) (pruned : IsPruned rest M name) (kno
 
   pub rest-own : own_kept (Some name) M (gives (rest_of M (remains M pruned.marks)))
   rest-own = subst (λ (b : Bool). own_rest b name M (gives kept_rest)) (sym known) (pruned.marks, pruned.kept, refl)
-
-  -- what the location of what remains comes to is what the module comes to for the name
-  pub rest-gives : (plan : Plan) (r : LocatedParts) → located plan (rest ∷ []) (gives r) → own_location (Some name) plan M (gives r)
-  rest-gives plan r there = (kept_rest, rest-own, subst (λ (m : Parts). located plan (m ∷ []) (gives r)) pruned.is there)
-
-  pub rest-stops : (plan : Plan) (s : Stop) → located plan (rest ∷ []) (stops s) → own_location (Some name) plan M (stops s)
-  rest-stops plan s there = inr (kept_rest, rest-own, subst (λ (m : Parts). located plan (m ∷ []) (stops s)) pruned.is there)
-
--- without a name it is what the module comes to
-pub whole-gives : (plan : Plan) (M : Parts) (r : LocatedParts) → located plan (M ∷ []) (gives r) → own_location None plan M (gives r)
-whole-gives plan M r there = (all_of (M ∷ []), refl, there)
-
-pub whole-stops : (plan : Plan) (M : Parts) (s : Stop) → located plan (M ∷ []) (stops s) → own_location None plan M (stops s)
-whole-stops plan M s there = inr (all_of (M ∷ []), refl, there)
 
 -- a name that no public has ends it
 pub prune-ends : (name : List ℕ) (M : Parts) (e : PruneRefusal) → IsRefusalOf M name e → EndsAt (own_kept (Some name) M) (outcome_of_prune e)

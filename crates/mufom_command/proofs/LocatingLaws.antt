@@ -19,15 +19,14 @@ use Rattle.mufom_meaning.proofs.facts.Linkable.{no_link_answer_is_linkable}
 use Rattle.mufom_meaning.proofs.facts.LinkFacts.{link_facts_grow}
 use Rattle.mufom_meaning.proofs.staging.Staging.{joined_stands_for}
 use Rattle.mufom_meaning.proofs.staging.Stages.{staged_means_the_same}
-use Rattle.mufom_words.specs.declared.command.Command.{Command}
-use Rattle.mufom_words.specs.Tree.{leaves, tree_of}
+use Rattle.mufom_words.specs.Tree.{Forest, leaves}
 use Rattle.mufom_groups.specs.Linked.{first_name, linked, linked_module, members, roots}
 use Rattle.mufom_groups.specs.Work.{Reached, gives, stops, with_stops}
 use Rattle.mufom_groups.proofs.GroupsAlike.{linked-flat}
 use Rattle.mufom_groups.proofs.LinkWalk.{valid-append, valid-drop, valid-members}
-use Rattle.mufom_command.specs.Stop.{Stop, link_fact, locate_fact}
-use Rattle.mufom_command.specs.Commands.{Kept, all_of, kept_of, located, located_unless, maus_of}
-use Rattle.mufom_command.specs.WorkEnds.{location_of, own_kept, own_location}
+use Rattle.mufom_outcome.specs.Stop.{Stop, link_fact, locate_fact}
+use Rattle.mufom_command.specs.Works.{Kept, all_of, kept_of, located, located_unless, maus_of}
+use Rattle.mufom_command.specs.WorkEnds.{location_of, own_kept}
 use Rattle.mufom_command.proofs.KeptLaws.{rest-kept}
 
 -- ---- two lists with the same location
@@ -92,32 +91,29 @@ link-means M (m ∷ ms) sound valid joined is = staged_means_the_same m (M ∷ [
   staged = linked_stage (m ∷ ms) [] (m ∷ ms) [] M m.name (subst (λ (l : List Parts). IsStaged l (m ∷ ms)) (sym (append-nil (m ∷ ms)))
       (unlinked (m ∷ ms))) sound joined joined.named
 
--- ---- the modules of a command
+-- ---- the modules of a tree
 
-module _ (c : Command) (ms : List Parts) (valid : AreValid ms) where
+module _ (tree : Forest) (ms : List Parts) (valid : AreValid ms) where
   -- the flat list is of modules without a defect
-  pub flat-valid : (flat : List Parts) → linked (tree_of c.marks) ms (gives flat) → AreValid flat
+  pub flat-valid : (flat : List Parts) → linked tree ms (gives flat) → AreValid flat
   flat-valid flat is =
-      let is_flat = ((linked-flat answers_are_facts link_facts_grow (tree_of c.marks) ms flat).0 is).0 in
+      let is_flat = ((linked-flat answers_are_facts link_facts_grow tree ms flat).0 is).0 in
       subst AreValid (sym is_flat.2) (
-      valid-append (roots (tree_of c.marks) ms) (members_at (members (tree_of c.marks) ms) is_flat.0) (valid-members ms (leaves (tree_of c.marks)) valid)
-      (valid-members (members (tree_of c.marks) ms) is_flat.0 (valid-drop (length (leaves (tree_of c.marks))) ms valid)))
+      valid-append (roots tree ms) (members_at (members tree ms) is_flat.0) (valid-members ms (leaves tree) valid)
+      (valid-members (members tree ms) is_flat.0 (valid-drop (length (leaves tree)) ms valid)))
 
-  pub flat-linkable : (flat : List Parts) → linked (tree_of c.marks) ms (gives flat) → IsLinkable flat
-  flat-linkable flat is = (no_link_answer_is_linkable flat).0 ((linked-flat answers_are_facts link_facts_grow (tree_of c.marks) ms flat).0 is).1
+  pub flat-linkable : (flat : List Parts) → linked tree ms (gives flat) → IsLinkable flat
+  flat-linkable flat is = (no_link_answer_is_linkable flat).0 ((linked-flat answers_are_facts link_facts_grow tree ms flat).0 is).1
 
   -- no public name stands twice in the module into which they are linked
-  pub link-names : (M : Parts) → linked_module c ms (gives M) → AreDistinct (names_of M.names.publics)
+  pub link-names : (M : Parts) → linked_module tree None ms (gives M) → AreDistinct (names_of M.names.publics)
   link-names M (flat, is, joined) =
-      let stands = joined_stands_for M flat (unwrap_or c.name (first_name flat)) joined (flat-valid flat is) in
+      let stands = joined_stands_for M flat (first_name flat) joined (flat-valid flat is) in
       subst AreDistinct (append-nil (names_of M.names.publics)) (subst AreDistinct (sym stands.2) (flat-linkable flat is).names)
 
-  module _ (unnamed : c.name ≡ None) (M : Parts) (sound : IsValid M) (plan : Plan) where
-    pub named-first : (flat : List Parts) → IsJoined M flat (unwrap_or c.name (first_name flat)) → IsJoined M flat (first_name flat)
-    named-first flat joined = subst (λ (name : Option (List ℕ)). IsJoined M flat (unwrap_or name (first_name flat))) unnamed joined
-
+  module _ (M : Parts) (sound : IsValid M) (plan : Plan) where
     -- what is kept of it is kept of the flat list, or means the same
-    pub own-is : (keep : Option (List ℕ)) (flat : List Parts) → linked (tree_of c.marks) ms (gives flat) → IsJoined M flat (first_name flat) → (own : Kept)
+    pub own-is : (keep : Option (List ℕ)) (flat : List Parts) → linked tree ms (gives flat) → IsJoined M flat (first_name flat) → (own : Kept)
         → own_kept keep M (gives own) → IsKeptAlike keep flat own
     own-is None flat is joined own keeps =
         let means = link-means M flat sound (flat-valid flat is) joined (flat-linkable flat is) in
@@ -133,25 +129,25 @@ module _ (c : Command) (ms : List Parts) (valid : AreValid ms) where
     own-is (Some name) flat is joined own keeps =
         record { kept = own; keeps = rest-kept name M flat sound joined (flat-valid flat is) (gives own) keeps; alike = inl refl }
 
-    pub own-ends : (keep : Option (List ℕ)) (flat : List Parts) → linked (tree_of c.marks) ms (gives flat) → IsJoined M flat (first_name flat) → (s : Stop)
+    pub own-ends : (keep : Option (List ℕ)) (flat : List Parts) → linked tree ms (gives flat) → IsJoined M flat (first_name flat) → (s : Stop)
         → own_kept keep M (stops s) → kept_of keep flat (stops s)
     own-ends None flat is joined s never = absurd never
     own-ends (Some name) flat is joined s ends = rest-kept name M flat sound joined (flat-valid flat is) (stops s) ends
 
-    -- the location of what is kept of it is that of what is kept of the flat list
-    pub link-located : linked_module c ms (gives M) → (r : LocatedParts) → own_location c.keep plan M (gives r) → location_of c plan ms (gives r)
-    link-located (flat, is, joined) r (own, keeps, there) =
-        let alike = own-is c.keep flat is (named-first flat joined) own keeps in
-        (flat, is, (alike.kept, alike.keeps, alike-located plan own alike.kept alike.alike (gives r) there))
+    -- a name that no public has ends the location of the flat list
+    pub link-unkept : (keep : Option (List ℕ)) → linked_module tree None ms (gives M) → (s : Stop) → own_kept keep M (stops s)
+        → location_of tree keep plan ms (stops s)
+    link-unkept keep (flat, is, joined) s ends = inr (flat, is, inl (own-ends keep flat is joined s ends))
 
-    -- or the fact is that ends it
-    pub link-unlocated : linked_module c ms (gives M) → (s : Stop) → own_location c.keep plan M (stops s) → location_of c plan ms (stops s)
-    link-unlocated (flat, is, joined) s (inl ends) = inr (flat, is, inl (own-ends c.keep flat is (named-first flat joined) s ends))
-    link-unlocated (flat, is, joined) s (inr (own, keeps, ends)) =
-        let alike = own-is c.keep flat is (named-first flat joined) own keeps in
+    -- and so does the fact that ends the location of what is kept of the link
+    pub link-unlocated : (keep : Option (List ℕ)) → linked_module tree None ms (gives M) → (own : Kept) → own_kept keep M (gives own) → (s : Stop)
+        → located plan own.modules (stops s) → location_of tree keep plan ms (stops s)
+    link-unlocated keep (flat, is, joined) own keeps s ends =
+        let alike = own-is keep flat is joined own keeps in
         inr (flat, is, inr (alike.kept, alike.keeps, alike-located plan own alike.kept alike.alike (stops s) ends))
 
   -- or it is not linked
-  pub unlinked-stops : (plan : Plan) (s : Stop) → with_stops link_fact (linked_module c ms) (stops s) → location_of c plan ms (stops s)
-  unlinked-stops plan s (f, inl ends, same) = inl (f, ends, same)
-  unlinked-stops plan s (f, inr (flat, is, never), same) = absurd never
+  pub unlinked-stops : (keep : Option (List ℕ)) (plan : Plan) (s : Stop) → with_stops link_fact (linked_module tree None ms) (stops s)
+      → location_of tree keep plan ms (stops s)
+  unlinked-stops keep plan s (f, inl ends, same) = inl (f, ends, same)
+  unlinked-stops keep plan s (f, inr (flat, is, never), same) = absurd never

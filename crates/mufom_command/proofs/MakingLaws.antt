@@ -4,9 +4,9 @@ use Rattle.std.proofs.Common.{◌∙◌, inl, inr, arith}
 use Rattle.std.proofs.lemmas.List.{take_all}
 use Rattle.mufom_host.specs.World.{Creates, Faults, GrowsBy, KeepsAllButCreated, KeepsAllButFile, KeepsAllButMade, KeepsAllButMaking}
 use Rattle.mufom_host.specs.World.{KeepsAllButWrites, MakingGrowsBy, Meaning, NamedFile, Rose, with_bytes}
-use Rattle.mufom_command.specs.declared.outcome.Outcome.TheVariants as outcome
+use Rattle.mufom_outcome.specs.declared.outcome.Outcome.TheVariants as outcome
 use Rattle.mufom_command.specs.Making.{IsMadeAlone}
-use Rattle.mufom_command.proofs.InputLaws.{call_between}
+use Rattle.mufom_task.proofs.InputLaws.{call_between}
 
 module _ (name bytes : List ℕ) (s0 s1 s2 s3 : Meaning) (f0 f1 f2 f3 : Faults) (creates : Creates s0 s1 (Ok tt) name)
     (created : KeepsAllButCreated s0 s1) (counts1 : KeepsAllButWrites f0 f1) (later1 : f0.writes ≤ f1.writes)

@@ -6,6 +6,9 @@ use Rattle.mufom_module.specs.declared.module.Parts.{Parts}
 use Rattle.mufom_module.specs.Defects.{IsValid}
 use Rattle.mufom_plan.specs.declared.plan.Plan.{Plan}
 use Rattle.mufom_image.specs.Placements.{IsSoundPlan}
+use Rattle.mufom_image.specs.Refusals.{IsMet}
+use Rattle.mufom_meaning.specs.LocateAnswer.{locate_answer}
+use Rattle.mufom_meaning.specs.Location.{IsLocation}
 use Rattle.mufom_meaning.specs.declared.located.LocatedParts.{LocatedParts}
 use Rattle.mufom_meaning.specs.Flat.{flat_sections, public_names}
 use Rattle.mufom_meaning.specs.Placed.{placed_commons, planned_bases}
@@ -15,11 +18,10 @@ use Rattle.mufom_meaning.specs.Staging.{AreValid}
 use Rattle.mufom_meaning.specs.StagingLaws.{MeansTheSame}
 use Rattle.mufom_meaning.proofs.Placed.{same_placed_commons}
 use Rattle.mufom_meaning.proofs.locations.SelectionSingle.{selection_is_single}
-use Rattle.mufom_words.specs.declared.command.Command.{Command}
-use Rattle.mufom_words.specs.Sound.{HasTree, numbers_from}
-use Rattle.mufom_words.specs.Tree.{Forest, leaves, tree_of}
+use Rattle.mufom_words.specs.Sound.{numbers_from}
+use Rattle.mufom_words.specs.Tree.{Forest, leaves}
 use Rattle.mufom_groups.specs.Linked.{linked_module, members, roots}
-use Rattle.mufom_groups.specs.Work.{gives, stops, IsSingle, one_with}
+use Rattle.mufom_groups.specs.Work.{gives, stops, IsSingle, one_with, with_stops}
 use Rattle.mufom_groups.proofs.Works.{one_with-single}
 use Rattle.mufom_origins.specs.declared.origins.Origin.{Origin}
 use Rattle.mufom_origins.specs.Origins.{numbered, origin_of, origins_left, origins_of}
@@ -30,15 +32,21 @@ use Rattle.mufom_plan.specs.Names.{has_name}
 use Rattle.mufom_prune.specs.declared.pruning.Pruned.{Pruned}
 use Rattle.mufom_prune.specs.Marked.{IsPrunedWithMarks}
 use Rattle.mufom_prune.specs.Pruned.{Remains, remains}
-use Rattle.mufom_command.specs.declared.maps.TracedModule.{TracedModule}
-use Rattle.mufom_command.specs.Commands.{Kept, all_of, kept_origins, located, mapped_kept, rest_of}
+use Rattle.mufom_command.specs.declared.locating.TracedModule.{TracedModule}
+use Rattle.mufom_command.specs.Works.{Kept, all_of, kept_origins, located, mapped_kept, rest_of}
 use Rattle.mufom_command.specs.FlatFiles.{AreFlatFiles, files_with}
-use Rattle.mufom_command.specs.MapInputs.{AreMapped, AreOriginsOf, IsKeptPart}
-use Rattle.mufom_command.specs.Stop.{Stop}
+use Rattle.mufom_command.specs.declared.locating.Location.{Location}
+use Rattle.mufom_command.specs.declared.locating.Obstacle.{Obstacle}
+use Rattle.mufom_command.specs.declared.locating.Obstacle.TheVariants as obstacle
+use Rattle.mufom_command.specs.declared.locating.Places.{Places}
+use Rattle.mufom_command.specs.Locations.{AreMapped, AreOriginsOf, HasPlaces, HasPlan, IsKeptPart, IsObstacle, IsTracedLink, LocatesPart, outcome_of_obstacle}
+use Rattle.mufom_command.specs.Locations.{IsUnlocated, IsUnlocatedPart, shown_of}
+use Rattle.mufom_outcome.specs.Outcomes.{outcome_of_link, outcome_of_locate, outcome_of_prune}
+use Rattle.mufom_outcome.specs.Stop.{Stop, link_fact}
 use Rattle.mufom_command.proofs.KeptLaws.{rest-own}
-use Rattle.mufom_command.specs.WorkEnds.{location_of}
-use Rattle.mufom_command.proofs.LocatingLaws.{AreAlike, alike-located, link-unlocated, named-first, own-is}
-use Rattle.mufom_command.proofs.MadeLaws.{location-of}
+use Rattle.mufom_command.specs.WorkEnds.{EndsAt, location_of, own_kept}
+use Rattle.mufom_command.proofs.EndLaws.{ends-along, is-located, link-ends, locate-ends}
+use Rattle.mufom_command.proofs.LocatingLaws.{AreAlike, alike-located, link-unkept, link-unlocated, own-is, unlinked-stops}
 
 -- there is one flat list with its files
 pub flat-files-single : (tree : Forest) (ms : List Parts) → IsSingle {S = Stop} (one_with (AreFlatFiles tree ms))
@@ -65,13 +73,13 @@ first-at k [] = none-at (numbers_from 0 k) ∙ sym (take-none k)
 first-at zero (x ∷ xs) = refl
 first-at (suc k) (x ∷ xs) = ap (λ more. x ∷ more) (later-at x xs 0 k ∙ first-at k xs)
 
-pub origins-with : (c : Command) → HasTree c → (ms : List Parts) (chosen : List ℕ)
-    → with_chosen (length (leaves (tree_of c.marks))) chosen (origins_of (numbered ms)) ≡ origins_of (files_with (tree_of c.marks) ms chosen)
-origins-with c tree ms chosen =
-    let ns = leaves (tree_of c.marks) in
+pub origins-with : (tree : Forest) → leaves tree ≡ numbers_from 0 (length (leaves tree)) → (ms : List Parts) (chosen : List ℕ)
+    → with_chosen (length (leaves tree)) chosen (origins_of (numbered ms)) ≡ origins_of (files_with tree ms chosen)
+origins-with tree first ms chosen =
+    let ns = leaves tree in
     sym (chosen-map origin_of (length ns) chosen (numbered ms))
     ∙ ap (λ first. origins_of (first ++ at_positions (drop (length ns) (numbered ms)) chosen))
-    (sym (ap (at_positions (numbered ms)) tree.numbered ∙ first-at (length ns) (numbered ms)))
+    (sym (ap (at_positions (numbered ms)) first ∙ first-at (length ns) (numbered ms)))
 
 -- ---- lists that mean the same
 
@@ -121,43 +129,79 @@ pub whole-kept : (whole : TracedModule) → IsKeptPart None whole whole
 whole-kept whole = record { kept = all_of (whole.object ∷ []); keeps = refl; modules = refl; origins = refl }
 
 -- the origins of the members and roots that are linked are those of the flat list
-pub flat-origins : (c : Command) → HasTree c → (ms : List Parts) (chosen : List ℕ) (count : ℕ) (all origins : List Origin)
-    → IsSelected (roots (tree_of c.marks) ms) (members (tree_of c.marks) ms) chosen → count ≡ length (leaves (tree_of c.marks))
-    → all ≡ origins_of (numbered ms) → origins ≡ with_chosen count chosen all → AreOriginsOf c ms origins
-flat-origins c tree ms chosen count all origins selected counted numbers same = record {
-  flat = files_with (tree_of c.marks) ms chosen;
-  files = (chosen, selected, refl);
-  are = same ∙ (λ i. with_chosen (counted i) chosen (numbers i)) ∙ origins-with c tree ms chosen;
+pub flat-origins : (tree : Forest) → leaves tree ≡ numbers_from 0 (length (leaves tree)) → (ms : List Parts) (places : Places) → HasPlaces tree ms places
+    → (origins : List Origin) → origins ≡ with_chosen places.roots places.chosen (origins_of (numbered ms)) → AreOriginsOf tree ms origins
+flat-origins tree first ms places has origins same = record {
+  flat = files_with tree ms places.chosen;
+  files = (places.chosen, has.selected, refl);
+  are = same ∙ ap (λ (n : ℕ). with_chosen n places.chosen (origins_of (numbered ms))) has.counted ∙ origins-with tree first ms places.chosen;
 }
 
--- ---- what is located of the modules of a command
+-- ---- what is located of the modules of a tree
 
-module _ (c : Command) (ms : List Parts) (valid : AreValid ms) (unnamed : c.name ≡ None) (plan : Plan) (whole part : TracedModule)
-    (sound : IsValid whole.object) (links : linked_module c ms (gives whole.object)) (is : IsKeptPart c.keep whole part) where
+module _ (tree : Forest) (first : leaves tree ≡ numbers_from 0 (length (leaves tree))) (ms : List Parts) (valid : AreValid ms) (keep : Option (List ℕ))
+    (plan : Plan) (places : Places) (whole part : TracedModule) (link : IsTracedLink tree ms places whole) (is : IsKeptPart keep whole part) where
   -- the map of what is kept of their link is that of what is kept of the flat list
-  pub part-mapped : AreOriginsOf c ms whole.origins → IsSoundPlan plan → (r : LocatedParts) → located plan (part.object ∷ []) (gives r)
-      → AreMapped c plan ms (record { origins = part.origins; object = part.object; plan = plan; located = r })
-  part-mapped own sound_plan r there =
-      let (list, is_linked, joined) = links in
-      let like = own-is c ms valid unnamed whole.object sound plan c.keep list is_linked
-      (named-first c ms valid unnamed whole.object sound plan list joined) is.kept is.keeps in
+  pub part-mapped : IsSoundPlan plan → (m : Location) → LocatesPart part plan m → AreMapped tree keep plan ms m
+  part-mapped sound_plan m at =
+      let (list, is_linked, joined) = link.links in
+      let own = flat-origins tree first ms places link.has whole.origins link.from in
+      let like = own-is tree ms valid whole.object link.valid plan keep list is_linked joined is.kept is.keeps in
+      let there : located plan (part.object ∷ []) (gives m.located) = is-located (part.object ∷ []) plan m.located at.located in
       record {
-        are_located = record { sound = sound_plan; located = location-of plan (part.object ∷ []) r there };
+        are_located = record {
+          sound = subst IsSoundPlan (sym (ap (λ (x : Location). x.plan) at.is)) sound_plan;
+          located = subst (λ (x : Location). IsLocation (x.object ∷ []) x.plan m.located) (sym at.is) at.located;
+        };
         list = list;
         links = is_linked;
         kept = like.kept;
         keeps = like.keeps;
-        location = alike-located plan is.kept like.kept like.alike (gives r)
-            (subst (λ (l : List Parts). located plan l (gives r)) (sym is.modules) there);
+        location = alike-located plan is.kept like.kept like.alike (gives m.located)
+            (subst (λ (l : List Parts). located plan l (gives m.located)) (sym is.modules) there);
         flat = own.flat;
         files = own.files;
-        shows = part-shown c.keep whole part is plan r
-            ∙ alike-shown whole.origins plan is.kept like.kept like.alike r
-            ∙ ap (λ (origins : List Origin). mapped_kept origins plan like.kept r) own.are;
+        shows = ap shown_of at.is ∙ part-shown keep whole part is plan m.located
+            ∙ alike-shown whole.origins plan is.kept like.kept like.alike m.located
+            ∙ ap (λ (origins : List Origin). mapped_kept origins plan like.kept m.located) own.are;
       }
 
   -- and so is the end of its location
-  pub part-unlocated : (s : Stop) → located plan (part.object ∷ []) (stops s) → location_of c plan ms (stops s)
+  pub part-unlocated : (s : Stop) → located plan (part.object ∷ []) (stops s) → location_of tree keep plan ms (stops s)
   part-unlocated s ends =
-      link-unlocated c ms valid unnamed whole.object sound plan links s
-      (inr (is.kept, is.keeps, subst (λ (l : List Parts). located plan l (stops s)) (sym is.modules) ends))
+      link-unlocated tree ms valid whole.object link.valid plan keep link.links is.kept is.keeps s
+      (subst (λ (l : List Parts). located plan l (stops s)) (sym is.modules) ends)
+
+-- ---- what keeps modules from being located
+
+-- ends the location of their flat list
+pub obstacle-ends : (tree : Forest) → leaves tree ≡ numbers_from 0 (length (leaves tree)) → (ms : List Parts) → AreValid ms → (keep : Option (List ℕ))
+    (plan : Plan) (o : Obstacle) → IsObstacle tree keep ms o → HasPlan plan o → EndsAt (location_of tree keep plan ms) (outcome_of_obstacle o)
+obstacle-ends tree first ms valid keep plan (obstacle.Unlinked r) is same =
+    ends-along (with_stops link_fact (linked_module tree None ms)) (location_of tree keep plan ms) (unlinked-stops tree ms valid keep plan)
+    (outcome_of_link r) (link-ends (linked_module tree None ms) r is)
+obstacle-ends tree first ms valid keep plan (obstacle.Unkept r places) is same =
+    ends-along (own_kept keep is.whole.object) (location_of tree keep plan ms)
+    (link-unkept tree ms valid is.whole.object is.link.valid plan keep is.link.links) (outcome_of_prune r) is.ends
+obstacle-ends tree first ms valid keep plan (obstacle.Unlocated r part own places) is same =
+    ends-along (located plan (part.object ∷ [])) (location_of tree keep plan ms)
+    (part-unlocated tree first ms valid keep plan places is.whole part is.link is.kept) (outcome_of_locate part.object.maus r)
+    (locate-ends (part.object ∷ []) plan r (subst (λ (p : Plan). IsMet (locate_answer (part.object ∷ []) p) r) same is.met))
+
+-- a part that cannot be located is what keeps the modules from having a location
+pub unlocated-is : (tree : Forest) (keep : Option (List ℕ)) (ms : List Parts) (places : Places) (whole part : TracedModule) (plan : Plan)
+    → IsTracedLink tree ms places whole → IsKeptPart keep whole part → IsSoundPlan plan → (o : Obstacle) → IsUnlocatedPart part plan places o
+    → IsObstacle tree keep ms o
+unlocated-is tree keep ms places whole part plan link kept sound (obstacle.Unlocated r own by at) (same, planned, placed, met) =
+    let is : IsUnlocated tree keep ms r part plan places = record { whole = whole; link = link; kept = kept; sound = sound; met = met } in
+    subst (λ (x : TracedModule). IsUnlocated tree keep ms r x by at) (sym same)
+    (subst (λ (x : Plan). IsUnlocated tree keep ms r part x at) (sym planned)
+    (subst (λ (x : Places). IsUnlocated tree keep ms r part plan x) (sym placed) is))
+unlocated-is tree keep ms places whole part plan link kept sound (obstacle.Unlinked r) never = absurd never
+unlocated-is tree keep ms places whole part plan link kept sound (obstacle.Unkept r at) never = absurd never
+
+-- by this plan
+pub unlocated-plan : (part : TracedModule) (plan : Plan) (places : Places) (o : Obstacle) → IsUnlocatedPart part plan places o → HasPlan plan o
+unlocated-plan part plan places (obstacle.Unlocated r own by at) is = is.1
+unlocated-plan part plan places (obstacle.Unlinked r) never = absurd never
+unlocated-plan part plan places (obstacle.Unkept r at) never = absurd never

@@ -3,8 +3,6 @@ use Rattle.std.proofs.Common.{◌≡◌, ◌⊎◌, ℕ, ◌*◌, List, ◌∷�
 use Rattle.std.proofs.Common.{unwrap_or, [], refl, sym, ap, subst, ◌∙◌, flat_map, inl, inr}
 use Rattle.mufom_host.specs.World.{HoldBytes, NamedFile, file_named}
 use Rattle.mufom_words.specs.declared.command.Command.{Command}
-use Rattle.mufom_words.specs.declared.command.Verb.{Verb}
-use Rattle.mufom_words.specs.declared.command.Verb.TheVariants as verb
 use Rattle.mufom_words.specs.declared.stop.WordsStop.{WordsStop}
 use Rattle.mufom_words.specs.Answer.{answer_of}
 use Rattle.mufom_module.specs.declared.module.Parts.{Parts}
@@ -23,9 +21,9 @@ use Rattle.mufom_meaning.specs.Facts.{LocateFact}
 use Rattle.mufom_meaning.specs.LocateAnswer.{locate_answer}
 use Rattle.mufom_meaning.specs.Location.{IsLocation}
 use Rattle.mufom_meaning.proofs.locations.Single.{location_is_single}
-use Rattle.mufom_words.specs.Tree.{tree_of}
-use Rattle.mufom_command.specs.declared.outcome.Outcome.{Outcome}
-use Rattle.mufom_command.specs.declared.outcome.Outcome.TheVariants as outcome
+use Rattle.mufom_words.specs.Tree.{Forest, tree_of}
+use Rattle.mufom_outcome.specs.declared.outcome.Outcome.{Outcome}
+use Rattle.mufom_outcome.specs.declared.outcome.Outcome.TheVariants as outcome
 use Rattle.mufom_groups.specs.Linked.{first_name, joined, linked}
 use Rattle.mufom_meaning.specs.Flat.{public_names}
 use Rattle.mufom_meaning.specs.Joined.{IsJoined}
@@ -35,13 +33,12 @@ use Rattle.mufom_plan.specs.Names.{has_name}
 use Rattle.mufom_prune.specs.Kept.{IsKept}
 use Rattle.mufom_prune.specs.Pruned.{remains}
 use Rattle.mufom_prune.proofs.Single.{kept_is_single}
-use Rattle.mufom_groups.specs.Work.{Reached, gives, stops, Work, ◌>>=◌, one_with, sure, with_stops, IsSingle}
+use Rattle.mufom_groups.specs.Work.{Reached, gives, stops, Work, ◌>>=◌, one_with, stop_at, sure, with_stops, IsSingle}
 use Rattle.mufom_groups.proofs.Singles.{joined-single, linked-single}
 use Rattle.mufom_groups.proofs.Works.{sure-single, stop_at-single, one_with-single, nowhere-single, stops-single, then-single}
 use Rattle.mufom_words.specs.Explain.{explained}
-use Rattle.mufom_words.specs.Options.{explains, reads_files}
-use Rattle.mufom_command.specs.Stop.{Stop, words_refused, plan_refused, file_refused, past_limit, link_fact, keep_unknown, locate_fact, raw_too_long}
-use Rattle.mufom_command.specs.Stop.{text_refused, listing_refused}
+use Rattle.mufom_outcome.specs.Stop.{Stop, words_refused, plan_refused, file_refused, past_limit, link_fact, keep_unknown, locate_fact, raw_too_long}
+use Rattle.mufom_outcome.specs.Stop.{text_refused, listing_refused}
 use Rattle.mufom_build.specs.declared.refusal.BuildRefusal.TheVariants as build
 use Rattle.mufom_build.proofs.Excluded.{built_not_refused, defect_not_built, defect_not_refused, one_defect}
 use Rattle.mufom_build.proofs.OneModule.{one_listing}
@@ -51,7 +48,7 @@ use Rattle.mufom_build.specs.Refusals.{HasDefect, IsRefusedAt}
 use Rattle.mufom_build_text.specs.declared.refusal.BuildReason.{BuildReason}
 use Rattle.mufom_module.specs.declared.module.Defect.{Defect}
 use Rattle.mufom_build.proofs.OneRefusal.{one_refusal}
-use Rattle.mufom_command.specs.Inputs.{HaveOneVerdict, Verdict, accepted, refused, past_limit as past, ComeTo}
+use Rattle.mufom_task.specs.Inputs.{HaveOneVerdict, Verdict, accepted, refused, past_limit as past, ComeTo}
 use Rattle.mufom_command.specs.Text.{Text, check_text, hit_text}
 use Rattle.mufom_numbers.specs.declared.limits.TheConstants.{MOST_FILE_BYTES}
 use Rattle.mufom_addr.specs.AddressHit.{hit_at}
@@ -62,20 +59,33 @@ use Rattle.mufom_titxt.specs.declared.refusal.TxtRefusal.{TxtRefusal}
 use Rattle.mufom_titxt.specs.TextModules.{text_parts}
 use Rattle.mufom_titxt.specs.Texts.{txt_cells, txt_refusal}
 use Rattle.mufom_titxt.specs.Written.{txt_text}
-use Rattle.mufom_command.specs.Commands.{Kept, Output, all_of, printed, made, form_of, prints, writes, writes_module, file_in, kept_of, kept_unless, plan_by}
-use Rattle.mufom_command.specs.Commands.{plan_in, modules_in, maus_of, located, located_unless, linked_file, locating, locating_kept, absolute_file}
-use Rattle.mufom_command.specs.Commands.{map_with, mapped_kept, printed_hit, printed_image, rest_of, rest_of_module}
-use Rattle.mufom_command.specs.Commands.{module_of_text, parts_of_listing, parts_of_txt, printed_map, raw_file}
-use Rattle.mufom_command.specs.Commands.{runs_of_text, runs_unless, text_in, txt_file, unless_past_limit}
-use Rattle.mufom_command.specs.Commands.{unless_too_long, listing, linking, linking_of, work_of, work_by}
+use Rattle.mufom_command.specs.Works.{Kept, Output, all_of, printed, made, form_of, prints, writes, writes_module, kept_of, kept_unless}
+use Rattle.mufom_command.specs.Works.{linked_file, listing, linking, located, located_unless, locating_kept, mapped_kept, maus_of, module_of_text}
+use Rattle.mufom_command.specs.Works.{not_explained, parts_of_listing, parts_of_txt, producing, product_of, product_with, raw_file, rest_of}
+use Rattle.mufom_command.specs.Works.{rest_of_module, runs_of_text, runs_unless, unless_too_long, work_by, work_for, work_of}
+use Rattle.mufom_task.specs.Reading.{file_in, plan_by}
+use Rattle.mufom_task.specs.Reading.{plan_in, modules_in}
+use Rattle.mufom_task.specs.Reading.{text_in, unless_past_limit}
+use Rattle.mufom_task.specs.declared.task.Inputs.{Inputs}
+use Rattle.mufom_task.specs.declared.task.Product.{Product}
+use Rattle.mufom_task.specs.declared.task.Product.TheVariants as product
+use Rattle.mufom_task.specs.declared.task.Request.{Request}
+use Rattle.mufom_task.specs.declared.task.Request.TheVariants as request
+use Rattle.mufom_task.specs.declared.task.Task.{Task}
+use Rattle.mufom_task.specs.declared.task.Task.TheVariants as task
+use Rattle.mufom_task.specs.Tasks.{reads_files, request_of}
+use Rattle.mufom_map.specs.Mapped.{Mapped}
 use Rattle.mufom_command.specs.Contract.{Answers, AnswersBy, AnswersWith, run_by, run_of, work_with}
 use Rattle.mufom_command.specs.Explain.{ExplainsTo, explaining}
-use Rattle.mufom_command.specs.Run.{AnswersFor, Call, IsForced, OverFiles, outcome_of, stop_outcome, stop_answer}
+use Rattle.mufom_command.specs.Run.{AnswersFor, IsForced, outcome_of}
+use Rattle.mufom_task.specs.Calls.{Call}
+use Rattle.mufom_task.specs.Ends.{OverFiles, stop_outcome}
+use Rattle.mufom_outcome.specs.Outcomes.{stop_answer}
 use Rattle.mufom_origins.specs.Origins.{origins_of}
 use Rattle.mufom_map.specs.MapText.{map_text}
 use Rattle.mufom_command.specs.FlatFiles.{AreFlatFiles}
 use Rattle.mufom_command.proofs.MapLaws.{flat-files-single}
-use Rattle.mufom_command.proofs.Verdicts.{one_verdict}
+use Rattle.mufom_task.proofs.Verdicts.{one_verdict}
 
 -- ---- the inputs
 
@@ -85,10 +95,10 @@ reached_by (accepted ms) = gives ms
 reached_by (refused n r) = stops (file_refused n r)
 reached_by (past n) = stops (past_limit n)
 
-abbrev ByVerdict : List NamedFile → Command → Reached Stop (List Parts) → Type 0
+abbrev ByVerdict : List NamedFile → Inputs → Reached Stop (List Parts) → Type 0
 ByVerdict files c x = (v : Verdict) × ComeTo (not c.no_debug) files c.files v × (reached_by v ≡ x)
 
-by_verdict : (files : List NamedFile) (c : Command) (x : Reached Stop (List Parts)) → modules_in files c x → ByVerdict files c x
+by_verdict : (files : List NamedFile) (c : Inputs) (x : Reached Stop (List Parts)) → modules_in files c x → ByVerdict files c x
 by_verdict files c (gives ms) is = (accepted ms, is, refl)
 by_verdict files c (stops (file_refused n r)) is = (refused n r, is, refl)
 by_verdict files c (stops (past_limit n)) is = (past n, is, refl)
@@ -105,7 +115,7 @@ by_verdict files c (stops (listing_refused r)) is = absurd is
 pub one-verdict : HaveOneVerdict
 one-verdict = one_verdict (has_one_judgment judgments_exclude_each_other)
 
-pub modules_in-single : (files : List NamedFile) → HoldBytes files → (c : Command) → IsSingle (modules_in files c)
+pub modules_in-single : (files : List NamedFile) → HoldBytes files → (c : Inputs) → IsSingle (modules_in files c)
 modules_in-single files bytes c x y is_x is_y =
     let (v, comes_v, is_v) = by_verdict files c x is_x in
     let (w, comes_w, is_w) = by_verdict files c y is_y in
@@ -114,11 +124,10 @@ modules_in-single files bytes c x y is_x is_y =
 
 -- ---- the outputs
 
-writes-single : (name : Option (List ℕ)) (bytes : List ℕ) → IsSingle (writes name bytes)
-writes-single None bytes = nowhere-single
-writes-single (Some name) bytes = sure-single (made name bytes)
+writes-single : (name bytes : List ℕ) → IsSingle (writes name bytes)
+writes-single name bytes = sure-single (made name bytes)
 
-writes_module-single : (name : Option (List ℕ)) (m : Parts) → IsSingle (writes_module name m)
+writes_module-single : (name : List ℕ) (m : Parts) → IsSingle (writes_module name m)
 writes_module-single name m x y (held, is_x) (again, is_y) = writes-single name (written m) x y is_x is_y
 
 -- ---- a file
@@ -162,29 +171,38 @@ kept_of-single (Some name) ms = by (has_name (public_names ms) name) where
       (one_with-single (λ M. IsValid M × IsJoined M ms (first_name ms))
       (λ M N is_one is_other. joined_is_single M N ms (first_name ms) is_one.1 is_other.1)) (rest_of_module-single name)
 
-module _ (c : Command) (plan : Plan) (flat : List Parts) where
-  pub linked_file-single : IsSingle (linked_file c plan flat)
-  linked_file-single =
-      then-single (with_stops link_fact (joined c.name flat)) (λ M. writes_module c.out M)
-      (stops-single link_fact (joined c.name flat) (joined-single c.name flat)) (writes_module-single c.out)
+pub linked_file-single : (name : Option (List ℕ)) (out : List ℕ) (flat : List Parts) → IsSingle (linked_file name out flat)
+linked_file-single name out flat =
+    then-single (with_stops link_fact (joined name flat)) (λ M. writes_module out M)
+    (stops-single link_fact (joined name flat) (joined-single name flat)) (writes_module-single out)
 
-  pub locating_kept-single : (output : Kept → Command → LocatedParts → Work Stop Output) → ((kept : Kept) (r : LocatedParts) → IsSingle (output kept c r))
-      → IsSingle (locating_kept output c plan flat)
-  locating_kept-single output single =
-      then-single (kept_of c.keep flat) (λ kept. located plan kept.modules >>= λ r. output kept c r) (kept_of-single c.keep flat) λ kept.
-      then-single (located plan kept.modules) (λ r. output kept c r) (located-single plan kept.modules) (single kept)
+pub locating_kept-single : (keep : Option (List ℕ)) (plan : Plan) (flat : List Parts) (output : Kept → LocatedParts → Work Stop Output)
+    → ((kept : Kept) (r : LocatedParts) → IsSingle (output kept r)) → IsSingle (locating_kept output keep plan flat)
+locating_kept-single keep plan flat output single =
+    then-single (kept_of keep flat) (λ kept. located plan kept.modules >>= λ r. output kept r) (kept_of-single keep flat) λ kept.
+    then-single (located plan kept.modules) (λ r. output kept r) (located-single plan kept.modules) (single kept)
 
-  pub locating-single : (output : Command → LocatedParts → Work Stop Output) → ((r : LocatedParts) → IsSingle (output c r))
-      → IsSingle (locating output c plan flat)
-  locating-single output single = locating_kept-single (λ kept. output) (λ kept. single)
+-- ---- what is made of a location
 
--- ---- what is put out of a location
+raw_file-single : (fill : ℕ) (out : List ℕ) (r : LocatedParts) → IsSingle (raw_file fill out r)
+raw_file-single fill out r = by (nat_lt MOST_FILE_BYTES (length (raw_image fill r.runs))) where
+  by : (b : Bool) → IsSingle (unless_too_long b out (raw_image fill r.runs))
+  by true = stop_at-single (raw_too_long (length (raw_image fill r.runs)))
+  by false = writes-single out (raw_image fill r.runs)
 
-raw_file-single : (c : Command) (r : LocatedParts) → IsSingle (raw_file c r)
-raw_file-single c r = by (nat_lt MOST_FILE_BYTES (length (raw_image c.fill r.runs))) where
-  by : (b : Bool) → IsSingle (unless_too_long b c.out (raw_image c.fill r.runs))
-  by true = stop_at-single (raw_too_long (length (raw_image c.fill r.runs)))
-  by false = writes-single c.out (raw_image c.fill r.runs)
+pub product-single : (p : Product) (shown : Mapped) (r : LocatedParts) → IsSingle (product_of p shown r)
+product-single (product.Absolute out) shown r = writes_module-single out (absolute_of r)
+product-single (product.Raw fill out) shown r = raw_file-single fill out r
+product-single (product.TiTxt out) shown r = writes-single out (txt_text r.runs)
+product-single product.Image shown r = sure-single (printed (image_text r))
+product-single product.Map shown r = sure-single (printed (map_text shown))
+product-single (product.Hit at) shown r = sure-single (printed (hit_text r.maus (hit_at r.debug at)))
+
+producing-single : (p : Product) (tree : Forest) (ms : List Parts) (plan : Plan) (kept : Kept) (r : LocatedParts)
+    → IsSingle (producing p tree ms plan kept r)
+producing-single p tree ms plan kept r =
+    then-single (one_with (AreFlatFiles tree ms)) (λ flat. product_with p (origins_of flat) plan kept r) (flat-files-single tree ms)
+    (λ flat. product-single p (mapped_kept (origins_of flat) plan kept r) r)
 
 -- ---- a text
 
@@ -250,64 +268,50 @@ parts_of_listing-single text x y is_x is_y = both (by_listing text x is_x) (by_l
   both (inr (inr (defect, e, p))) (inr (inr (other, f, q))) =
       sym e ∙ (ap (λ (d : Defect). stops (listing_refused (build.Module d))) (one_defect text defect other p q) ∙ f)
 
-module_of_text-single : (parts_of : List ℕ → Work Stop Parts) → ((text : List ℕ) → IsSingle (parts_of text)) → (files : List NamedFile) (c : Command)
-    → IsSingle (module_of_text parts_of files c)
-module_of_text-single parts_of single files c =
-    then-single (text_in files c.files) (λ text. parts_of text >>= λ parts. writes_module c.out parts) (text_in-single files c.files) λ text.
-    then-single (parts_of text) (λ parts. writes_module c.out parts) (single text) λ parts.
-    writes_module-single c.out parts
-
-printed_map-single : (c : Command) (ms : List Parts) (plan : Plan) (kept : Kept) (r : LocatedParts) → IsSingle (printed_map ms plan kept c r)
-printed_map-single c ms plan kept r =
-    then-single (one_with (AreFlatFiles (tree_of c.marks) ms)) (λ flat. map_with (origins_of flat) plan kept c r) (flat-files-single (tree_of c.marks) ms)
-    (λ flat. sure-single (printed (map_text (mapped_kept (origins_of flat) plan kept r))))
+module_of_text-single : (parts_of : List ℕ → Work Stop Parts) → ((text : List ℕ) → IsSingle (parts_of text)) → (out : List ℕ) (files : List NamedFile)
+    (c : Inputs) → IsSingle (module_of_text parts_of out files c)
+module_of_text-single parts_of single out files c =
+    then-single (text_in files c.files) (λ text. parts_of text >>= λ parts. writes_module out parts) (text_in-single files c.files) λ text.
+    then-single (parts_of text) (λ parts. writes_module out parts) (single text) λ parts.
+    writes_module-single out parts
 
 -- ---- the table
 
-module _ (files : List NamedFile) (bytes : HoldBytes files) (c : Command) where
-  listing-single : (text : List Parts → Text) → IsSingle (listing text files c)
-  listing-single text = then-single (modules_in files c) (λ ms. prints (text ms)) (modules_in-single files bytes c) (λ ms. sure-single (printed (text ms)))
+module _ (files : List NamedFile) (bytes : HoldBytes files) where
+  listing-single : (c : Inputs) (text : List Parts → Text) → IsSingle (listing text files c)
+  listing-single c text = then-single (modules_in files c) (λ ms. prints (text ms)) (modules_in-single files bytes c) (λ ms. sure-single (printed (text ms)))
 
-  linking_of-single : (output : List Parts → Command → Plan → List Parts → Work Stop Output)
-      → ((ms : List Parts) (plan : Plan) (flat : List Parts) → IsSingle (output ms c plan flat))
-      → IsSingle (linking_of output files c)
-  linking_of-single output single =
+  linking-single : (c : Inputs) (output : List Parts → Plan → List Parts → Work Stop Output)
+      → ((ms : List Parts) (plan : Plan) (flat : List Parts) → IsSingle (output ms plan flat)) → IsSingle (linking output files c)
+  linking-single c output single =
       then-single (plan_in files c.plan) (λ plan. modules_in files c >>= λ ms. with_stops link_fact (linked (tree_of c.marks) ms) >>= λ flat. output
-      ms c plan flat) (plan_in-single files c.plan) λ plan.
-      then-single (modules_in files c) (λ ms. with_stops link_fact (linked (tree_of c.marks) ms) >>= λ flat. output ms c plan flat)
+      ms plan flat) (plan_in-single files c.plan) λ plan.
+      then-single (modules_in files c) (λ ms. with_stops link_fact (linked (tree_of c.marks) ms) >>= λ flat. output ms plan flat)
       (modules_in-single files bytes c) λ ms.
-      then-single (with_stops link_fact (linked (tree_of c.marks) ms)) (λ flat. output ms c plan flat)
+      then-single (with_stops link_fact (linked (tree_of c.marks) ms)) (λ flat. output ms plan flat)
       (stops-single link_fact (linked (tree_of c.marks) ms) (linked-single (tree_of c.marks) ms)) λ flat. single ms plan flat
 
-  linking-single : (output : Command → Plan → List Parts → Work Stop Output) → ((plan : Plan) (flat : List Parts) → IsSingle (output c plan flat))
-      → IsSingle (linking output files c)
-  linking-single output single = linking_of-single (λ ms. output) (λ ms. single)
+  pub work_of-single : (t : Task) → IsSingle (work_of t files)
+  work_of-single (task.Show inputs full) = listing-single inputs (λ ms. flat_map (text_of (form_of full)) ms)
+  work_of-single (task.Check inputs) = listing-single inputs check_text
+  work_of-single (task.Link inputs name out) =
+      linking-single inputs (λ ms plan flat. linked_file name out flat) (λ ms plan flat. linked_file-single name out flat)
+  work_of-single (task.Locate inputs keep p) =
+      linking-single inputs (λ ms plan flat. locating_kept (producing p (tree_of inputs.marks) ms plan) keep plan flat)
+      (λ ms plan flat. locating_kept-single keep plan flat (producing p (tree_of inputs.marks) ms plan) (producing-single p (tree_of inputs.marks) ms plan))
+  work_of-single (task.FromTxt inputs maus out) = module_of_text-single (parts_of_txt maus) (parts_of_txt-single maus) out files inputs
+  work_of-single (task.Build inputs out) = module_of_text-single parts_of_listing parts_of_listing-single out files inputs
+  work_of-single (task.Make count) = then-single (located (made_plan count) (made_modules count)) (λ r. prints (summary count r))
+      (located-single (made_plan count) (made_modules count)) (λ r. sure-single (printed (summary count r)))
+  work_of-single (task.Help text) = sure-single (printed text)
 
-  pub work_of-single : (v : Verb) → IsSingle (work_of v files c)
-  work_of-single verb.Show = listing-single (λ ms. flat_map (text_of (form_of c)) ms)
-  work_of-single verb.Check = listing-single check_text
-  work_of-single verb.Link = linking-single linked_file (linked_file-single c)
-  work_of-single verb.Locate = linking-single (locating absolute_file)
-      (λ plan flat. locating-single c plan flat absolute_file (λ r. writes_module-single c.out (absolute_of r)))
-  work_of-single verb.Dump = linking-single (locating printed_image)
-      (λ plan flat. locating-single c plan flat printed_image (λ r. sure-single (printed (image_text r))))
-  work_of-single verb.Map = linking_of-single (λ ms c plan flat. locating_kept (printed_map ms plan) c plan flat)
-      (λ ms plan flat. locating_kept-single c plan flat (printed_map ms plan) (printed_map-single c ms plan))
-  work_of-single verb.Addr = linking-single (locating printed_hit)
-      (λ plan flat. locating-single c plan flat printed_hit (λ r. sure-single (printed (hit_text r.maus (hit_at r.debug c.at)))))
-  work_of-single verb.Bin = linking-single (locating raw_file) (λ plan flat. locating-single c plan flat raw_file (raw_file-single c))
-  work_of-single verb.Txt = linking-single (locating txt_file) (λ plan flat. locating-single c plan flat txt_file (λ r. writes-single c.out (txt_text r.runs)))
-  work_of-single verb.FromTxt = module_of_text-single (parts_of_txt c.maus) (parts_of_txt-single c.maus) files c
-  work_of-single verb.Build = module_of_text-single parts_of_listing parts_of_listing-single files c
-  work_of-single verb.Help = sure-single (printed (unwrap_or c.help []))
-  work_of-single verb.Version = sure-single (printed (unwrap_or c.help []))
-  work_of-single verb.Explain = nowhere-single
-  work_of-single verb.Make = then-single (located (made_plan c.count) (made_modules c.count)) (λ r. prints (summary c.count r))
-      (located-single (made_plan c.count) (made_modules c.count)) (λ r. sure-single (printed (summary c.count r)))
+  work_for-single : (q : Request) → IsSingle (work_for q files)
+  work_for-single (request.Run t) = work_of-single t
+  work_for-single request.Explain = stop_at-single (words_refused not_explained)
 
 -- The work in the table comes to one end at most.
 pub work_by-single : (r : Result Command WordsStop) (files : List NamedFile) → HoldBytes files → IsSingle (work_by r files)
-work_by-single (Ok c) files bytes = work_of-single files bytes c c.verb
+work_by-single (Ok c) files bytes = work_for-single files bytes (request_of c)
 work_by-single (Err s) files bytes = stop_at-single (words_refused s)
 
 -- ---- so an answer that has its cause is complete
@@ -320,19 +324,18 @@ module _ (call : Call) (files : List NamedFile) (known : call.old.files ≡ Some
   over-files true P holds = of-files P holds
   over-files false P holds = holds files
 
-  module _ (c : Command) (work : List NamedFile → Work Stop Output) (single : IsSingle (work files)) (reached : Reached Stop Output)
-      (comes : work files reached) where
-    complete-for : (result : Outcome) → AnswersFor c work call result → (result ≡ outcome_of reached) ⊎ IsForced call result
+  module _ (t : Task) (single : IsSingle (work_of t files)) (reached : Reached Stop Output) (comes : work_of t files reached) where
+    complete-for : (result : Outcome) → AnswersFor t call result → (result ≡ outcome_of reached) ⊎ IsForced call result
     complete-for outcome.Done (output, is, puts) = inl (ap outcome_of
-        (single (gives output) reached (over-files (reads_files c.verb) (λ fs. work fs (gives output)) is.cause) comes))
+        (single (gives output) reached (over-files (reads_files t) (λ fs. work_of t fs (gives output)) is.cause) comes))
     complete-for (outcome.Refused r) (is, nothing) = inl (is.is
-        ∙ ap outcome_of (single (stops is.stop) reached (over-files (reads_files c.verb) (λ fs. work fs (stops is.stop)) is.cause) comes))
+        ∙ ap outcome_of (single (stops is.stop) reached (over-files (reads_files t) (λ fs. work_of t fs (stops is.stop)) is.cause) comes))
     complete-for (outcome.Usage f) is = absurd is
     complete-for (outcome.ReadFault at) is = inr is.0
     complete-for outcome.WriteFault is = inr is.0
     complete-for outcome.NoMemory is = inr tt
 
-  refused-end : (s : WordsStop) (reached : Reached Stop Output) → work_by (Err s) files reached → stop_answer s ≡ outcome_of reached
+  refused-end : (s : WordsStop) (reached : Reached Stop Output) → stop_at {A = Output} (words_refused s) reached → stop_answer s ≡ outcome_of reached
   refused-end s (gives output) comes = absurd comes
   refused-end s (stops t) comes = ap stop_outcome (sym comes)
 
@@ -348,15 +351,14 @@ module _ (call : Call) (files : List NamedFile) (known : call.old.files ≡ Some
     explained-complete outcome.WriteFault is reached comes = inr is.0
     explained-complete outcome.NoMemory is reached comes = inr tt
 
-    complete-with : (b : Bool) (c : Command) → HoldBytes files → (result : Outcome) → AnswersWith b words c call result → (reached : Reached Stop Output)
-        → work_with b words c files reached → (result ≡ outcome_of reached) ⊎ IsForced call result
-    complete-with true c bytes result is reached comes = explained-complete result is reached comes
-    complete-with false c bytes result is reached comes =
-        complete-for c (λ fs. work_of c.verb fs c) (work_of-single files bytes c c.verb) reached comes result is
+    complete-with : (q : Request) → HoldBytes files → (result : Outcome) → AnswersWith words q call result → (reached : Reached Stop Output)
+        → work_with words q files reached → (result ≡ outcome_of reached) ⊎ IsForced call result
+    complete-with request.Explain bytes result is reached comes = explained-complete result is reached comes
+    complete-with (request.Run t) bytes result is reached comes = complete-for t (work_of-single files bytes t) reached comes result is
 
     pub complete-by : (r : Result Command WordsStop) → HoldBytes files → (result : Outcome) → AnswersBy words r call result
         → (reached : Reached Stop Output) → run_by words r files reached → (result ≡ outcome_of reached) ⊎ IsForced call result
-    complete-by (Ok c) bytes result is reached comes = complete-with (explains c.verb) c bytes result is reached comes
+    complete-by (Ok c) bytes result is reached comes = complete-with (request_of c) bytes result is reached comes
     complete-by (Err s) bytes result is reached comes = by is.is where
       by : (result ≡ stop_answer s) ⊎ (result ≡ outcome.NoMemory) → (result ≡ outcome_of reached) ⊎ IsForced call result
       by (inl same) = inl (same ∙ refused-end s reached comes)

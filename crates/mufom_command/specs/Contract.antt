@@ -1,31 +1,34 @@
--- The contract of the top call: what is true of a run with given arguments. `explain` depends on the arguments after its name; all other commands are
--- rows of the table of commands.
-use Rattle.std.specs.Prelude.{◌≡◌, ◌≢◌, ◌⊎◌, ℕ, Bool, true, false, List, Result, Ok, Err, IfSome}
+-- The contract of the top call: what is true of a run with given arguments. `explain` depends on the arguments after its name; all else that arguments
+-- ask for is a task, with its row in the table of tasks.
+use Rattle.std.specs.Prelude.{◌≡◌, ◌≢◌, ◌⊎◌, ℕ, List, Result, Ok, Err, IfSome}
 use Rattle.mufom_host.specs.World.{NamedFile}
 use Rattle.mufom_words.specs.declared.command.Command.{Command}
 use Rattle.mufom_words.specs.declared.stop.WordsStop.{WordsStop}
 use Rattle.mufom_words.specs.Answer.{PrintsHelp, answer_of}
 use Rattle.mufom_words.specs.Explain.{explained}
-use Rattle.mufom_words.specs.Options.{explains}
-use Rattle.mufom_groups.specs.Work.{Reached, Work}
-use Rattle.mufom_command.specs.declared.outcome.Outcome.{Outcome}
-use Rattle.mufom_command.specs.declared.outcome.Outcome.TheVariants as outcome
-use Rattle.mufom_command.specs.Stop.{Stop}
-use Rattle.mufom_command.specs.Commands.{Output, work_by, work_of}
+use Rattle.mufom_groups.specs.Work.{Reached, Work, stop_at}
+use Rattle.mufom_outcome.specs.declared.outcome.Outcome.{Outcome}
+use Rattle.mufom_outcome.specs.declared.outcome.Outcome.TheVariants as outcome
+use Rattle.mufom_outcome.specs.Stop.{Stop, words_refused}
+use Rattle.mufom_task.specs.declared.task.Request.{Request}
+use Rattle.mufom_task.specs.declared.task.Request.TheVariants as request
+use Rattle.mufom_task.specs.Calls.{Call, NoneFalls, OpensInputs}
+use Rattle.mufom_task.specs.Tasks.{inputs_of, request_of}
+use Rattle.mufom_command.specs.Works.{Output, work_of}
 use Rattle.mufom_command.specs.Explain.{ExplainsTo, OpensSome, explaining}
-use Rattle.mufom_command.specs.Run.{AnswersFor, Call, IsForced, NoneFalls, OpensInputs, PrintsErrorLine, RefusesWords, outcome_of}
+use Rattle.mufom_command.specs.Run.{AnswersFor, IsForced, PrintsErrorLine, RefusesWords, outcome_of}
 
 -- ---- the work of a run
 
--- the work of a command with these arguments; `true` if it explains the arguments after its name
-abbrev pub work_with : Bool → List (List ℕ) → Command → List NamedFile → Work Stop Output
-work_with true words c files = explaining (explained words) files
-work_with false words c files = work_of c.verb files c
+-- the work of what these arguments ask for
+abbrev pub work_with : List (List ℕ) → Request → List NamedFile → Work Stop Output
+work_with words (request.Run t) files = work_of t files
+work_with words request.Explain files = explaining (explained words) files
 
 -- the work of these arguments, given the command or the error that they are parsed to
 abbrev pub run_by : List (List ℕ) → Result Command WordsStop → List NamedFile → Work Stop Output
-run_by words (Ok c) files = work_with (explains c.verb) words c files
-run_by words (Err s) files = work_by (Err s) files
+run_by words (Ok c) files = work_with words (request_of c) files
+run_by words (Err s) files = stop_at (words_refused s)
 
 -- The work of a run with these arguments over these files.
 abbrev pub run_of : List (List ℕ) → List NamedFile → Work Stop Output
@@ -33,13 +36,13 @@ run_of words files = run_by words (answer_of words) files
 
 -- ---- the parts of the contract
 
--- the outcome of a command has its cause, and exactly its output is made
-abbrev pub AnswersWith : Bool → List (List ℕ) → Command → Call → Outcome → Type 0
-AnswersWith true words c call result = ExplainsTo (explained words) call result
-AnswersWith false words c call result = AnswersFor c (λ files. work_of c.verb files c) call result
+-- the outcome of what is asked for has its cause, and exactly its output is made
+abbrev pub AnswersWith : List (List ℕ) → Request → Call → Outcome → Type 0
+AnswersWith words (request.Run t) call result = AnswersFor t call result
+AnswersWith words request.Explain call result = ExplainsTo (explained words) call result
 
 abbrev pub AnswersBy : List (List ℕ) → Result Command WordsStop → Call → Outcome → Type 0
-AnswersBy words (Ok c) call result = AnswersWith (explains c.verb) words c call result
+AnswersBy words (Ok c) call result = AnswersWith words (request_of c) call result
 AnswersBy words (Err s) call result = RefusesWords s call result
 
 -- Every outcome has its cause, and exactly its output is made.
@@ -51,18 +54,18 @@ abbrev pub IsComplete : List (List ℕ) → Call → Outcome → Type 0
 IsComplete words call result =
     IfSome call.old.files (λ files. (reached : Reached Stop Output) → run_of words files reached → (result ≡ outcome_of reached) ⊎ IsForced call result)
 
--- the inputs of a command are opened in their order; for a command that explains other arguments, these are the inputs of those arguments
-abbrev pub OpensWith : Bool → List (List ℕ) → Command → Call → Outcome → Type 0
-OpensWith true words c call result = OpensSome (explained words) call
-OpensWith false words c call result = OpensInputs c call result
+-- the inputs of a task are opened in their order; for an explanation, these are the inputs of the arguments that it explains
+abbrev pub OpensWith : List (List ℕ) → Request → Call → Outcome → Type 0
+OpensWith words (request.Run t) call result = OpensInputs (inputs_of t) call result
+OpensWith words request.Explain call result = OpensSome (explained words) call
 
-abbrev pub OpensFor : List (List ℕ) → Result Command WordsStop → Call → Outcome → Type 0
-OpensFor words (Ok c) call result = OpensWith (explains c.verb) words c call result
-OpensFor words (Err s) call result = call.new.opened ≡ call.old.opened
+abbrev pub OpensOf : List (List ℕ) → Result Command WordsStop → Call → Outcome → Type 0
+OpensOf words (Ok c) call result = OpensWith words (request_of c) call result
+OpensOf words (Err s) call result = call.new.opened ≡ call.old.opened
 
--- The inputs of the command, its plan and then its files, are opened in their order, and nothing else is.
+-- The inputs of the task, its plan and then its files, are opened in their order, and nothing else is.
 abbrev pub OpensInOrder : List (List ℕ) → Call → Outcome → Type 0
-OpensInOrder words call result = OpensFor words (answer_of words) call result
+OpensInOrder words call result = OpensOf words (answer_of words) call result
 
 -- ---- the contract
 
@@ -71,7 +74,7 @@ pub record IsRun (words : List (List ℕ)) (call : Call) (result : Outcome) : Ty
   -- Every outcome follows from the arguments and the files, or from a failed call of the host that is counted; exactly its output is made.
   pub answers : Answers words call result
   -- The outcome is the one that the arguments and the files determine, unless a call of the host failed or memory ran out. This follows from
-  -- `answers`, since arguments and files that hold bytes have at most one result (`RunsAreSingle`), and the files of a host hold bytes.
+  -- `answers`, since arguments and files that hold bytes have at most one result, and the files of a host hold bytes.
   pub complete : IsComplete words call result
   -- The inputs named by the arguments are opened in their order, up to the one that the outcome names, and nothing else is. For `explain` they are
   -- those of the arguments after it, up to the one that their own outcome names (`IsExplanation`).

@@ -1,27 +1,39 @@
 -- The command `explain`. It carries out the arguments after its name, up to the first file that they would create or the first text that they would
 -- print, and prints their outcome: the error line, the things that the line names, and the help text on it.
-use Rattle.std.specs.Prelude.{◌≡◌, ◌≢◌, List, [], ℕ, Option, Some, Result, Ok, Err}
+use Rattle.std.specs.Prelude.{◌≡◌, ◌≢◌, List, [], ℕ, Some, Result, Ok, Err}
 use Rattle.mufom_host.specs.World.{NamedFile, Rose}
 use Rattle.mufom_words.specs.declared.command.Command.{Command}
 use Rattle.mufom_words.specs.declared.stop.WordsStop.{WordsStop}
 use Rattle.mufom_words.specs.Answer.{answer_of}
-use Rattle.mufom_words.specs.Options.{reads_files}
 use Rattle.mufom_groups.specs.Work.{Reached, Work, gives, stops}
 use Rattle.mufom_text.specs.Words.{Text}
-use Rattle.mufom_command.specs.declared.outcome.Outcome.{Outcome}
-use Rattle.mufom_command.specs.declared.outcome.Outcome.TheVariants as outcome
-use Rattle.mufom_command.specs.Stop.{Stop}
-use Rattle.mufom_command.specs.Commands.{Output, printed, work_by, work_of}
+use Rattle.mufom_outcome.specs.declared.outcome.Outcome.{Outcome}
+use Rattle.mufom_outcome.specs.declared.outcome.Outcome.TheVariants as outcome
+use Rattle.mufom_outcome.specs.Outcomes.{stop_answer}
+use Rattle.mufom_outcome.specs.Stop.{Stop}
+use Rattle.mufom_task.specs.declared.task.Request.{Request}
+use Rattle.mufom_task.specs.declared.task.Request.TheVariants as request
+use Rattle.mufom_task.specs.declared.task.Task.{Task}
+use Rattle.mufom_task.specs.Tasks.{inputs_of, keep_of, reads_files, request_of}
+use Rattle.mufom_command.specs.Works.{Output, not_explained, printed, work_by, work_of}
 use Rattle.mufom_command.specs.HasDetails.{HasDetails, HasInputLine}
 use Rattle.mufom_command.specs.ExplainText.{explain_text}
-use Rattle.mufom_command.specs.Run.{BeginsText, Call, IsInputReached, IsOutput, IsStopped, OpensBy, PrintsText, PutsOutNothing, outcome_of, stop_answer}
+use Rattle.mufom_command.specs.Run.{BeginsText, IsOutput, OpensBy, PrintsText, PutsOutNothing, outcome_of}
+use Rattle.mufom_task.specs.Calls.{Call}
+use Rattle.mufom_task.specs.Ends.{IsInputReached, IsStopped}
+use Rattle.mufom_outcome.specs.Outcomes.{stop_answer}
 
 -- ---- the work of explaining arguments over files
 
--- the lines about what the outcome of the arguments names, if no call of the host fails
+-- the lines about what the outcome of what is asked for names, if no call of the host fails
+abbrev pub HasLinesFor : List NamedFile → Request → Reached Stop Output → Text → Type 0
+HasLinesFor files (request.Run t) (stops s) details = HasDetails (Some files) (inputs_of t) (keep_of t) s details
+HasLinesFor files (request.Run t) (gives output) details = details ≡ []
+HasLinesFor files request.Explain reached details = details ≡ []
+
+-- the same of arguments that give this command or error
 abbrev pub HasLines : List NamedFile → Result Command WordsStop → Reached Stop Output → Text → Type 0
-HasLines files (Ok c) (stops s) details = HasDetails (Some files) c s details
-HasLines files (Ok c) (gives output) details = details ≡ []
+HasLines files (Ok c) reached details = HasLinesFor files (request_of c) reached details
 HasLines files (Err stop) reached details = details ≡ []
 
 -- the text that explains this result of the arguments
@@ -38,18 +50,24 @@ explaining words files (stops s) = ⊥
 
 -- ---- the outcome of the explained arguments in a call
 
--- The outcome of a command with this work, before it creates a file or prints, and the lines about what the outcome names: the work has an output; or
--- the inputs are refused; or one of them could not be read, and the count of such errors rose.
-abbrev pub EndsFor : Command → (List NamedFile → Work Stop Output) → Call → Outcome → Text → Type 0
-EndsFor c work call outcome.Done details = ((output : Output) × IsOutput c work call.old.files output) × (details ≡ [])
-EndsFor c work call (outcome.Refused r) details =
-    (is : IsStopped (reads_files c.verb) work call.old.files (outcome.Refused r)) × HasDetails call.old.files c is.stop details
-EndsFor c work call (outcome.ReadFault at) details =
-    Rose call.before.reads call.now.reads × IsInputReached call.old.files c at × HasInputLine c at details
-EndsFor c work call _ details = ⊥
+-- The outcome of a task, before it creates a file or prints, and the lines about what the outcome names: the work has an output; or the inputs are
+-- refused; or one of them could not be read, and the count of such errors rose.
+abbrev pub EndsFor : Task → Call → Outcome → Text → Type 0
+EndsFor t call outcome.Done details = ((output : Output) × IsOutput t call.old.files output) × (details ≡ [])
+EndsFor t call (outcome.Refused r) details =
+    (is : IsStopped (reads_files t) (work_of t) call.old.files (outcome.Refused r))
+    × HasDetails call.old.files (inputs_of t) (keep_of t) is.stop details
+EndsFor t call (outcome.ReadFault at) details =
+    Rose call.before.reads call.now.reads × IsInputReached call.old.files (inputs_of t) at × HasInputLine (inputs_of t) at details
+EndsFor t call _ details = ⊥
+
+-- the same of what is asked for; an explanation is not explained, which is an error in the arguments
+abbrev pub EndsWith : Request → Call → Outcome → Text → Type 0
+EndsWith (request.Run t) call answer details = EndsFor t call answer details
+EndsWith request.Explain call answer details = (answer ≡ stop_answer not_explained) × (details ≡ [])
 
 abbrev pub EndsBy : Result Command WordsStop → Call → Outcome → Text → Type 0
-EndsBy (Ok c) call answer details = EndsFor c (λ files. work_of c.verb files c) call answer details
+EndsBy (Ok c) call answer details = EndsWith (request_of c) call answer details
 EndsBy (Err s) call answer details = (answer ≡ stop_answer s) × (answer ≢ outcome.NoMemory) × (details ≡ [])
 
 -- The text that explains the outcome of the arguments in this call. Their inputs are opened as in a run of them, up to the one that their outcome

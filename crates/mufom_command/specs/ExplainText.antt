@@ -1,9 +1,9 @@
 -- The text that `explain` prints: the error line of the explained run, the lines about what it names, and the help text on it.
 use Rattle.std.specs.Prelude.{List, [], ◌++◌, Option, Some, None, codes}
-use Rattle.mufom_command.specs.declared.outcome.Outcome.{Outcome}
-use Rattle.mufom_command.specs.declared.outcome.Outcome.TheVariants as outcome
-use Rattle.mufom_command.specs.Complaint.{complaint}
-use Rattle.mufom_command.specs.Topic.{topic_of}
+use Rattle.mufom_outcome.specs.declared.outcome.Outcome.{Outcome}
+use Rattle.mufom_outcome.specs.declared.outcome.Outcome.TheVariants as outcome
+use Rattle.mufom_outcome.specs.Complaint.{complaint}
+use Rattle.mufom_outcome.specs.Topic.{topic_of}
 use Rattle.mufom_text.specs.Words.{Text, line}
 
 -- the error line, or `done` if there is none

@@ -1,9 +1,8 @@
--- The lines about what the outcome of a command names: files, the plan, sections, regions, and the modules that mention a name.
-use Rattle.std.specs.Prelude.{◌≡◌, ◌⊎◌, ℕ, ◌<◌, List, [], length, Option, Some, IfSome}
+-- The lines about what the outcome of a task names: files, the plan, sections, regions, and the modules that mention a name.
+use Rattle.std.specs.Prelude.{◌≡◌, ◌⊎◌, ℕ, ◌<◌, List, [], length, Option, Some, None, IfSome, if◌then◌else◌}
 use Rattle.mufom_host.specs.World.{NamedFile}
 use Rattle.mufom_module.specs.declared.module.Parts.{Parts}
 use Rattle.mufom_meaning.specs.Facts.{LinkFact, LocateFact}
-use Rattle.mufom_words.specs.declared.command.Command.{Command}
 use Rattle.mufom_words.specs.Tree.{tree_of}
 use Rattle.mufom_plan.specs.declared.plan.Plan.{Plan}
 use Rattle.mufom_groups.specs.Refused.{IsRefusedList}
@@ -14,32 +13,36 @@ use Rattle.mufom_origins.specs.Places.{at_positions}
 use Rattle.mufom_explain.specs.Details.{Explained, link_details, locate_details, name_details}
 use Rattle.mufom_explain.specs.Lines.{file_line, plan_line}
 use Rattle.mufom_text.specs.Words.{Text}
-use Rattle.mufom_command.specs.declared.outcome.Input.{Input}
-use Rattle.mufom_command.specs.declared.outcome.Input.TheVariants as input
-use Rattle.mufom_command.specs.declared.outcome.Outcome.{Outcome}
-use Rattle.mufom_command.specs.declared.outcome.Outcome.TheVariants as outcome
-use Rattle.mufom_command.specs.declared.outcome.Refusal.TheVariants as refusal
-use Rattle.mufom_command.specs.Stop.{Stop, words_refused, plan_refused, file_refused, past_limit, link_fact, keep_unknown, locate_fact, raw_too_long}
-use Rattle.mufom_command.specs.Stop.{text_refused, listing_refused}
-use Rattle.mufom_command.specs.Commands.{Kept, kept_of, kept_origins, modules_in, plan_in}
+use Rattle.mufom_outcome.specs.declared.outcome.Input.{Input}
+use Rattle.mufom_outcome.specs.declared.outcome.Input.TheVariants as input
+use Rattle.mufom_outcome.specs.declared.outcome.Outcome.{Outcome}
+use Rattle.mufom_outcome.specs.declared.outcome.Outcome.TheVariants as outcome
+use Rattle.mufom_outcome.specs.declared.outcome.Refusal.TheVariants as refusal
+use Rattle.mufom_outcome.specs.Stop.{Stop, words_refused, plan_refused, file_refused, past_limit, link_fact, keep_unknown, locate_fact, raw_too_long}
+use Rattle.mufom_outcome.specs.Stop.{text_refused, listing_refused}
+use Rattle.mufom_command.specs.Works.{Kept, kept_of, kept_origins}
+use Rattle.mufom_task.specs.Reading.{modules_in, plan_in}
+use Rattle.mufom_task.specs.declared.task.Inputs.{Inputs}
+use Rattle.mufom_task.specs.declared.task.Task.{Task}
+use Rattle.mufom_task.specs.Tasks.{inputs_of, reads_files}
 use Rattle.mufom_command.specs.FlatFiles.{AreFlatFiles}
-use Rattle.mufom_command.specs.LocateRefusals.{locate_refusal}
+use Rattle.mufom_outcome.specs.LocateRefusals.{locate_refusal}
 
 -- ---- inputs
 
--- the line of a file of the command
-pub record HasFileLine (c : Command) (n : ℕ) (details : Text) : Type 0 where
+-- the line of one of the files
+pub record HasFileLine (c : Inputs) (n : ℕ) (details : Text) : Type 0 where
   pub there : n < length c.files
   pub are : details ≡ file_line c.files n
 
--- the line of the command's plan, if it names one
-pub record HasPlanLine (c : Command) (details : Text) : Type 0 where
+-- the line of the plan, if one is named
+pub record HasPlanLine (c : Inputs) (details : Text) : Type 0 where
   pub name : List ℕ
   pub named : c.plan ≡ Some name
   pub are : details ≡ plan_line name
 
--- the line of an input of the command
-abbrev pub HasInputLine : Command → Input → Text → Type 0
+-- the line of an input
+abbrev pub HasInputLine : Inputs → Input → Text → Type 0
 HasInputLine c input.Plan details = HasPlanLine c details
 HasInputLine c (input.File n) details = HasFileLine c n details
 
@@ -50,12 +53,12 @@ abbrev pub files_at : List Parts → List ℕ → List FileModule
 files_at ms files = at_positions (numbered ms) files
 
 -- The modules of the list that cannot be linked because of this error, with their files. In the lines that follow, modules are counted in that list:
--- if a group cannot be linked, in the group, not in the whole command.
-abbrev pub IsRefusedFlat : Command → List Parts → LinkFact → List FileModule → Type 0
-IsRefusedFlat c ms f flat = (files : List ℕ) × IsRefusedList c ms files f × (flat ≡ files_at ms files)
+-- if a group cannot be linked, in the group, not in the whole tree.
+abbrev pub IsRefusedFlat : Inputs → List Parts → LinkFact → List FileModule → Type 0
+IsRefusedFlat c ms f flat = (files : List ℕ) × IsRefusedList (tree_of c.marks) ms files f × (flat ≡ files_at ms files)
 
 -- the lines about a link error
-abbrev pub lines_of_link : List NamedFile → Command → LinkFact → Work Stop Text
+abbrev pub lines_of_link : List NamedFile → Inputs → LinkFact → Work Stop Text
 lines_of_link files c f = do
   ms ← modules_in files c
   flat ← one_with (IsRefusedFlat c ms f)
@@ -64,7 +67,7 @@ lines_of_link files c f = do
 -- ---- what is kept
 
 -- the lines about a name that should be kept and that no public of the flat list has
-abbrev pub lines_of_name : List NamedFile → Command → List ℕ → Work Stop Text
+abbrev pub lines_of_name : List NamedFile → Inputs → List ℕ → Work Stop Text
 lines_of_name files c name = do
   ms ← modules_in files c
   flat ← one_with (AreFlatFiles (tree_of c.marks) ms)
@@ -74,7 +77,7 @@ lines_of_name files c name = do
 
 -- The context in which an error of locating is explained. Sections, sizes of commons and undefined names are those of what is kept of the flat list;
 -- the modules that mention a name or request a common are looked up in the whole flat list. `maus` is the length of an address in units.
-abbrev pub explained_by : Command → Plan → List FileModule → Kept → ℕ → Explained
+abbrev pub explained_by : Inputs → Plan → List FileModule → Kept → ℕ → Explained
 explained_by c plan flat kept maus = record {
   names = c.files;
   flat = flat;
@@ -85,33 +88,32 @@ explained_by c plan flat kept maus = record {
 }
 
 -- the lines about an error of locating what is kept of the flat list
-abbrev pub lines_of_locate : List NamedFile → Command → ℕ → LocateFact → Work Stop Text
-lines_of_locate files c maus f = do
+abbrev pub lines_of_locate : List NamedFile → Inputs → Option (List ℕ) → ℕ → LocateFact → Work Stop Text
+lines_of_locate files c keep maus f = do
   plan ← plan_in files c.plan
   ms ← modules_in files c
   flat ← one_with (AreFlatFiles (tree_of c.marks) ms)
-  kept ← kept_of c.keep (modules_of flat)
+  kept ← kept_of keep (modules_of flat)
   sure (locate_details (explained_by c plan flat kept maus) (locate_refusal f))
 
 -- ---- any end
 
--- The lines about what an error of the command names. If they depend on the files, this claims something only if the files are known. Errors that
--- name no file, section, region or symbol have no lines.
-abbrev pub HasDetails : Option (List NamedFile) → Command → Stop → Text → Type 0
-HasDetails files c (plan_refused r) details = HasPlanLine c details
-HasDetails files c (file_refused n r) details = HasFileLine c n details
-HasDetails files c (past_limit n) details = HasFileLine c n details
-HasDetails files c (text_refused r) details = HasFileLine c 0 details
-HasDetails files c (listing_refused r) details = HasFileLine c 0 details
-HasDetails files c (link_fact f) details = IfSome files (λ fs. lines_of_link fs c f (gives details))
-HasDetails files c (keep_unknown name) details = IfSome files (λ fs. lines_of_name fs c name (gives details))
-HasDetails files c (locate_fact maus f) details = IfSome files (λ fs. lines_of_locate fs c maus f (gives details))
-HasDetails files c (raw_too_long count) details = details ≡ []
-HasDetails files c (words_refused s) details = details ≡ []
+-- The lines about what an error names, for these inputs and the symbol to keep, if one is named. If they depend on the files, this claims something
+-- only if the files are known. Errors that name no file, section, region or symbol have no lines.
+abbrev pub HasDetails : Option (List NamedFile) → Inputs → Option (List ℕ) → Stop → Text → Type 0
+HasDetails files c keep (plan_refused r) details = HasPlanLine c details
+HasDetails files c keep (file_refused n r) details = HasFileLine c n details
+HasDetails files c keep (past_limit n) details = HasFileLine c n details
+HasDetails files c keep (text_refused r) details = HasFileLine c 0 details
+HasDetails files c keep (listing_refused r) details = HasFileLine c 0 details
+HasDetails files c keep (link_fact f) details = IfSome files (λ fs. lines_of_link fs c f (gives details))
+HasDetails files c keep (keep_unknown name) details = IfSome files (λ fs. lines_of_name fs c name (gives details))
+HasDetails files c keep (locate_fact maus f) details = IfSome files (λ fs. lines_of_locate fs c keep maus f (gives details))
+HasDetails files c keep (raw_too_long count) details = details ≡ []
+HasDetails files c keep (words_refused s) details = details ≡ []
 
--- The lines about the input that an outcome of the command names; none if the outcome names no input. For a plan, this claims something only if the
--- command has one.
-abbrev pub IsInputDetail : Command → Outcome → Text → Type 0
+-- The lines about the input that an outcome names; none if the outcome names no input. For a plan, this claims something only if one is named.
+abbrev pub IsInputDetail : Inputs → Outcome → Text → Type 0
 IsInputDetail c (outcome.ReadFault input.Plan) details = (name : List ℕ) → c.plan ≡ Some name → details ≡ plan_line name
 IsInputDetail c (outcome.ReadFault (input.File n)) details = details ≡ file_line c.files n
 IsInputDetail c (outcome.Refused (refusal.Plan r)) details = (name : List ℕ) → c.plan ≡ Some name → details ≡ plan_line name
@@ -120,3 +122,12 @@ IsInputDetail c (outcome.Refused (refusal.InputLimit n)) details = details ≡ f
 IsInputDetail c (outcome.Refused (refusal.Text r)) details = details ≡ file_line c.files 0
 IsInputDetail c (outcome.Refused (refusal.Build r)) details = details ≡ file_line c.files 0
 IsInputDetail c _ details = details ≡ []
+
+-- the inputs of a task that reads files
+abbrev pub inputs_read : Task → Option Inputs
+inputs_read t = if reads_files t then Some (inputs_of t) else None
+
+-- The line about the input of a task that an outcome names; none for a task that reads no files.
+abbrev pub IsTaskDetail : Option Inputs → Outcome → Text → Type 0
+IsTaskDetail None answer details = details ≡ []
+IsTaskDetail (Some inputs) answer details = IsInputDetail inputs answer details

@@ -3,9 +3,10 @@ use Rattle.std.specs.Prelude.{ℕ, ◌<◌, ◌≤◌, List, length}
 use Rattle.mufom_host.specs.World.{KeepsAllButFile, KeepsAllButWrites, Rose}
 use Rattle.mufom_meaning.specs.declared.located.Run.{Run}
 use Rattle.mufom_titxt.specs.Written.{run_text}
-use Rattle.mufom_command.specs.declared.outcome.Outcome.{Outcome}
-use Rattle.mufom_command.specs.declared.outcome.Outcome.TheVariants as outcome
-use Rattle.mufom_command.specs.Run.{Call, BeginsFile, BeginsText, MakesFile, PrintsText, PutsOutNothing}
+use Rattle.mufom_outcome.specs.declared.outcome.Outcome.{Outcome}
+use Rattle.mufom_outcome.specs.declared.outcome.Outcome.TheVariants as outcome
+use Rattle.mufom_task.specs.Calls.{Call}
+use Rattle.mufom_command.specs.Run.{BeginsFile, BeginsText, MakesFile, PrintsText, PutsOutNothing}
 
 -- The effect of writing a file with these bytes: the whole file, or a part of it if a write failed.
 abbrev pub IsMade : (name bytes : List ℕ) → Call → Outcome → Type 0

@@ -1,40 +1,44 @@
--- The effects of the parts of a run: the work of a command, before its error line is printed, and the printing of that line. No clause of `run` cites
+-- The effects of the parts of a run: the work of a task, before its error line is printed, and the printing of that line. No clause of `run` cites
 -- them.
-use Rattle.std.specs.Prelude.{◌≡◌, ◌⊎◌, ◌∷◌, ◌<◌, Bool, true, false, List, [], ℕ, length, Option, IfSome, Result, Ok, Err}
-use Rattle.mufom_host.specs.World.{NamedFile, OnlyPrints}
+use Rattle.std.specs.Prelude.{◌≡◌, ◌⊎◌, List, [], ◌∷◌, ℕ, Option, None, IfSome, Result, Ok, Err}
+use Rattle.mufom_host.specs.World.{NamedFile, GrowsBy, OnlyPrints, Rose}
 use Rattle.mufom_module.specs.declared.module.Parts.{Parts}
+use Rattle.mufom_module.specs.Written.{written}
 use Rattle.mufom_plan.specs.declared.plan.Plan.{Plan}
 use Rattle.mufom_words.specs.declared.command.Command.{Command}
 use Rattle.mufom_words.specs.declared.stop.WordsStop.{WordsStop}
 use Rattle.mufom_words.specs.Answer.{answer_of}
 use Rattle.mufom_words.specs.Explain.{explained}
-use Rattle.mufom_words.specs.Options.{explains, reads_files}
-use Rattle.mufom_words.specs.Sound.{IsSound}
-use Rattle.mufom_words.specs.Tree.{tree_of}
-use Rattle.mufom_groups.specs.Linked.{linked}
-use Rattle.mufom_groups.specs.Work.{Work, gives}
+use Rattle.mufom_words.specs.Tree.{Forest, tree_of}
+use Rattle.mufom_groups.specs.Linked.{linked, linked_module}
+use Rattle.mufom_groups.specs.Work.{gives}
 use Rattle.mufom_meaning.specs.StagingLaws.{MeansTheSame}
 use Rattle.mufom_origins.specs.declared.origins.Origin.{Origin}
 use Rattle.mufom_origins.specs.Origins.{FileModule, modules_of, origins_of}
-use Rattle.mufom_command.specs.declared.outcome.Outcome.{Outcome}
-use Rattle.mufom_command.specs.declared.outcome.Outcome.TheVariants as outcome
-use Rattle.mufom_command.specs.declared.outcome.Refusal.TheVariants as refusal
-use Rattle.mufom_meaning.specs.declared.located.LocatedParts.{LocatedParts}
-use Rattle.mufom_meaning.specs.Absolute.{absolute_of}
-use Rattle.mufom_numbers.specs.declared.limits.TheConstants.{MOST_FILE_BYTES}
-use Rattle.mufom_words.specs.declared.command.Verb.TheVariants as verb
-use Rattle.mufom_write.specs.Raw.{raw_image}
-use Rattle.mufom_command.specs.Stop.{Stop}
-use Rattle.mufom_command.specs.Commands.{IsHeld, Kept, Output, kept_of, kept_origins, work_of}
+use Rattle.mufom_outcome.specs.declared.outcome.Outcome.{Outcome}
+use Rattle.mufom_outcome.specs.declared.outcome.Outcome.TheVariants as outcome
+use Rattle.mufom_outcome.specs.declared.outcome.Refusal.TheVariants as refusal
+use Rattle.mufom_prune.specs.declared.refusal.PruneRefusal.{PruneRefusal}
+use Rattle.mufom_outcome.specs.Outcomes.{outcome_of_prune, stop_answer}
+use Rattle.mufom_task.specs.declared.task.Inputs.{Inputs}
+use Rattle.mufom_task.specs.declared.task.Request.{Request}
+use Rattle.mufom_task.specs.declared.task.Request.TheVariants as request
+use Rattle.mufom_task.specs.declared.task.Task.{Task}
+use Rattle.mufom_task.specs.declared.task.Task.TheVariants as task
+use Rattle.mufom_task.specs.Calls.{Call, NoneFalls, OpensInputs}
+use Rattle.mufom_task.specs.Ends.{IsInputReached, IsStopped}
+use Rattle.mufom_task.specs.InputsRead.{NamesPlan, inputs_in}
+use Rattle.mufom_task.specs.Tasks.{input_names, inputs_of, keep_of, reads_files, request_of}
+use Rattle.mufom_command.specs.declared.ready.Ready.{Ready}
+use Rattle.mufom_command.specs.Works.{IsHeld, Kept, Output, kept_of, kept_origins, made, work_of}
 use Rattle.mufom_command.specs.FlatFiles.{AreFlatFiles}
-use Rattle.mufom_command.specs.RunLaws.{IsLocating, MayPutOut}
 use Rattle.mufom_command.specs.Explain.{ExplainsTo, OpensSome}
 use Rattle.mufom_command.specs.ExplainText.{explain_text}
 use Rattle.mufom_command.specs.HasDetails.{HasDetails}
-use Rattle.mufom_command.specs.InputsRead.{inputs_in}
 use Rattle.mufom_command.specs.Making.{IsPrinted}
-use Rattle.mufom_command.specs.Run.{AnswersFor, Call, IsOutput, IsStopped, NoneFalls, OpensInputs, PutsOutNothing, stop_answer}
-use Rattle.mufom_command.specs.WorkEnds.{IsOfModules}
+use Rattle.mufom_command.specs.Ready.{IsHelp, IsReady, ready_output}
+use Rattle.mufom_command.specs.Run.{AnswersFor, IsOutput, PutsOutNothing}
+use Rattle.mufom_command.specs.WorkEnds.{EndsAt, IsOfModules}
 
 -- memory may run out for the error line of these outcomes
 abbrev pub MayLackMemory : Outcome → Type 0
@@ -46,10 +50,52 @@ MayLackMemory _ = ⊥
 abbrev pub IsPrintedAs : Outcome → Outcome → Type 0
 IsPrintedAs answer result = (result ≡ answer) ⊎ ((result ≡ outcome.NoMemory) × MayLackMemory answer)
 
--- The effect of a call that does the work of a command, before its error line is printed.
-pub record Does (c : Command) (work : List NamedFile → Work Stop Output) (call : Call) (result : Outcome) : Type 0 where
-  pub answers : AnswersFor c work call result
-  pub opens : OpensInputs c call result
+-- ---- up to the output
+
+-- The inputs of the task were read, and this is its output, ready to be put out.
+pub record IsPrepared (t : Task) (call : Call) (ready : Ready) : Type 0 where
+  pub output : IsOutput t call.old.files (ready_output ready)
+  pub is : IsReady ready
+  pub opened : GrowsBy call.old.opened call.new.opened (input_names (inputs_of t))
+
+-- why the task has no output
+abbrev pub StopsFor : Task → Call → Outcome → Type 0
+StopsFor t call (outcome.Refused r) = IsStopped (reads_files t) (work_of t) call.old.files (outcome.Refused r)
+StopsFor t call (outcome.ReadFault at) = Rose call.before.reads call.now.reads × IsInputReached call.old.files (inputs_of t) at
+StopsFor t call outcome.NoMemory = Unit {0}
+StopsFor t call _ = ⊥
+
+-- The task has no output, and this is its outcome.
+pub record IsUnprepared (t : Task) (call : Call) (stop : Outcome) : Type 0 where
+  pub why : StopsFor t call stop
+  pub opens : OpensInputs (inputs_of t) call stop
+  pub named : NamesPlan (inputs_of t).plan stop
+
+-- Modules are linked into one under the given name or that of the first, and its file is ready to be written.
+pub record MakesLink (tree : Forest) (name : Option (List ℕ)) (out : List ℕ) (ms : List Parts) (ready : Ready) : Type 0 where
+  pub object : Parts
+  pub links : linked_module tree name ms (gives object)
+  pub held : IsHeld object
+  pub output : ready_output ready ≡ made out (written object)
+  pub is : IsReady ready
+
+-- the task prints a text of the program
+abbrev pub IsHelpTask : Task → Type 0
+IsHelpTask (task.Help text) = Unit {0}
+IsHelpTask _ = ⊥
+
+-- a task that prints a text of the program has its output ready, without memory
+abbrev pub PrintsHelpText : Task → Result Ready Outcome → Type 0
+PrintsHelpText (task.Help text) (Ok ready) = IsHelp ready
+PrintsHelpText (task.Help text) (Err stop) = ⊥
+PrintsHelpText _ result = Unit {0}
+
+-- ---- the whole task
+
+-- The effect of a call that does a task, before its error line is printed.
+pub record Does (t : Task) (call : Call) (result : Outcome) : Type 0 where
+  pub answers : AnswersFor t call result
+  pub opens : OpensInputs (inputs_of t) call result
   pub err : call.new.err ≡ call.old.err
   pub counts : NoneFalls call
 
@@ -60,58 +106,91 @@ pub record Explains (words : List (List ℕ)) (call : Call) (result : Outcome) :
   pub err : call.new.err ≡ call.old.err
   pub counts : NoneFalls call
 
--- ---- explaining a command whose inputs were read
+-- ---- explaining a task whose inputs were read
 
--- these are the inputs of the command, if the files are known
-abbrev pub AreReadFrom : Option (List NamedFile) → Command → Plan → List Parts → Type 0
-AreReadFrom files c plan ms = IfSome files (λ fs. inputs_in fs c (gives (plan, ms)))
+-- these are the inputs, if the files are known
+abbrev pub AreReadFrom : Option (List NamedFile) → Inputs → Plan → List Parts → Type 0
+AreReadFrom files inputs plan ms = IfSome files (λ fs. inputs_in fs inputs (gives (plan, ms)))
 
--- The command is valid and locates, these are its inputs, and this is their flat list, which can be linked.
-pub record AreLinkedFlat (files : Option (List NamedFile)) (c : Command) (plan : Plan) (ms : List Parts) (flat : List FileModule) : Type 0 where
-  pub sound : IsSound c
-  pub locating : IsLocating c.verb
-  pub read : AreReadFrom files c plan ms
-  pub are : AreFlatFiles (tree_of c.marks) ms flat
-  pub links : linked (tree_of c.marks) ms (gives (modules_of flat))
+-- These are the inputs, and this is their flat list, which can be linked.
+pub record AreLinkedFlat (files : Option (List NamedFile)) (inputs : Inputs) (plan : Plan) (ms : List Parts) (flat : List FileModule) : Type 0 where
+  pub read : AreReadFrom files inputs plan ms
+  pub are : AreFlatFiles (tree_of inputs.marks) ms flat
+  pub links : linked (tree_of inputs.marks) ms (gives (modules_of flat))
 
 -- `kept` is what is kept of such a list. The module with these origins is located instead of it: it means the same, and its entries come from the
 -- same modules as in the list.
-pub record IsKeptFlat (c : Command) (flat : List FileModule) (object : Parts) (origins : List Origin) (kept : Kept) : Type 0 where
-  pub keeps : kept_of c.keep (modules_of flat) (gives kept)
+pub record IsKeptFlat (keep : Option (List ℕ)) (flat : List FileModule) (object : Parts) (origins : List Origin) (kept : Kept) : Type 0 where
+  pub keeps : kept_of keep (modules_of flat) (gives kept)
   pub same : MeansTheSame (object ∷ []) kept.modules
   pub from : origins ≡ kept_origins kept.rest (origins_of flat)
 
--- The outcome of a command whose inputs were read from these files, before it has an output, and the lines about what the outcome names.
-abbrev pub EndsOver : Option (List NamedFile) → Command → Outcome → List ℕ → Type 0
-EndsOver files c outcome.Done details = ((output : Output) × IsOutput c (λ fs. work_of c.verb fs c) files output) × (details ≡ [])
-EndsOver files c (outcome.Refused r) details =
-    (is : IsStopped (reads_files c.verb) (λ fs. work_of c.verb fs c) files (outcome.Refused r)) × IsOfModules is.stop × HasDetails files c is.stop details
-EndsOver files c _ details = ⊥
+-- nothing is kept of such a list for this reason
+pub record AreRefusedKept (files : Option (List NamedFile)) (inputs : Inputs) (keep : Option (List ℕ)) (plan : Plan) (ms : List Parts)
+    (flat : List FileModule) (r : PruneRefusal) : Type 0 where
+  pub linked : AreLinkedFlat files inputs plan ms flat
+  pub ends : EndsAt (kept_of keep (modules_of flat)) (outcome_of_prune r)
 
--- the outcome of a command that has located its files: `Done`, and then a raw image is not too long, and the program can hold the absolute module of
--- `locate`; or a raw image that is too long; or out of memory
-abbrev pub IsLocatedOutcome : Command → LocatedParts → Outcome → Type 0
-IsLocatedOutcome c r outcome.Done = MayPutOut c.verb c r × (c.verb ≡ verb.Locate → IsHeld (absolute_of r))
-IsLocatedOutcome c r (outcome.Refused (refusal.Bin count)) =
-    (c.verb ≡ verb.Bin) × (MOST_FILE_BYTES < length (raw_image c.fill r.runs)) × (count ≡ length (raw_image c.fill r.runs))
-IsLocatedOutcome c r outcome.NoMemory = Unit {0}
-IsLocatedOutcome c r _ = ⊥
+-- none of its publics has this name, which should be kept
+pub record AreUnkept (files : Option (List NamedFile)) (inputs : Inputs) (keep : Option (List ℕ)) (plan : Plan) (ms : List Parts)
+    (flat : List FileModule) (name : List ℕ) : Type 0 where
+  pub linked : AreLinkedFlat files inputs plan ms flat
+  pub ends : EndsAt (kept_of keep (modules_of flat)) (outcome.Refused (refusal.Keep name))
+
+-- the module with these origins is located instead of what is kept of it
+pub record AreUnlocated (files : Option (List NamedFile)) (inputs : Inputs) (keep : Option (List ℕ)) (plan : Plan) (ms : List Parts)
+    (flat : List FileModule) (object : Parts) (origins : List Origin) : Type 0 where
+  pub linked : AreLinkedFlat files inputs plan ms flat
+  pub kept : Kept
+  pub keeps : IsKeptFlat keep flat object origins kept
+
+-- the task links lists of the modules of these inputs into one, under this name, if one is given
+abbrev pub LinksLists : Task → Inputs → Option (List ℕ) → Type 0
+LinksLists (task.Link own given out) inputs name = (own ≡ inputs) × (given ≡ name)
+LinksLists (task.Locate own keep p) inputs name = (own ≡ inputs) × (name ≡ None)
+LinksLists _ inputs name = ⊥
+
+-- the task names no more than inputs if it has no output
+abbrev pub NamesInputs : Task → Type 0
+NamesInputs (task.Link inputs name out) = ⊥
+NamesInputs (task.Locate inputs keep p) = ⊥
+NamesInputs _ = Unit {0}
+
+-- The outcome of a task whose inputs were read from these files, before it has an output, and the lines about what the outcome names.
+abbrev pub EndsOver : Option (List NamedFile) → Task → Outcome → List ℕ → Type 0
+EndsOver files t outcome.Done details = ((output : Output) × IsOutput t files output) × (details ≡ [])
+EndsOver files t (outcome.Refused r) details =
+    (is : IsStopped (reads_files t) (work_of t) files (outcome.Refused r)) × IsOfModules is.stop × HasDetails files (inputs_of t) (keep_of t) is.stop details
+EndsOver files t _ details = ⊥
 
 -- The text that explains such an outcome is printed, and nothing else; or memory ran out.
-pub record Tells (words : List (List ℕ)) (c : Command) (files : Option (List NamedFile)) (call : Call) (result : Outcome) : Type 0 where
-  pub told : (result ≡ outcome.NoMemory) ⊎ ((answer : Outcome) × (details : List ℕ) × EndsOver files c answer details
+pub record Tells (words : List (List ℕ)) (t : Task) (files : Option (List NamedFile)) (call : Call) (result : Outcome) : Type 0 where
+  pub told : (result ≡ outcome.NoMemory) ⊎ ((answer : Outcome) × (details : List ℕ) × EndsOver files t answer details
       × IsPrinted (explain_text words answer details) call result)
   pub nothing : result ≡ outcome.NoMemory → PutsOutNothing call
   pub only : OnlyPrints call.old call.new call.before call.now
 
--- the effect of carrying out a command; `true` if it explains the arguments after its name
-abbrev pub DoesWith : Bool → List (List ℕ) → Command → Call → Outcome → Type 0
-DoesWith true words c call result = Explains (explained words) call result
-DoesWith false words c call result = Does c (λ files. work_of c.verb files c) call result
+-- ---- what the arguments ask for
+
+-- the arguments give a command that asks for this
+pub record AskFor (words : List (List ℕ)) (asked : Request) : Type 0 where
+  pub command : Command
+  pub given : answer_of words ≡ Ok command
+  pub is : request_of command ≡ asked
+
+-- the effect of doing what is asked for
+abbrev pub DoesWith : List (List ℕ) → Request → Call → Outcome → Type 0
+DoesWith words (request.Run t) call result = Does t call result
+DoesWith words request.Explain call result = Explains (explained words) call result
 
 abbrev pub DoesBy : List (List ℕ) → Result Command WordsStop → Call → Outcome → Type 0
-DoesBy words (Ok c) call result = DoesWith (explains c.verb) words c call result
+DoesBy words (Ok c) call result = DoesWith words (request_of c) call result
 DoesBy words (Err s) call result = ((result ≡ stop_answer s) ⊎ (result ≡ outcome.NoMemory)) × (call.new ≡ call.old) × (call.now ≡ call.before)
+
+-- a text of the program is asked for
+abbrev pub AsksForHelp : Request → Type 0
+AsksForHelp (request.Run t) = IsHelpTask t
+AsksForHelp request.Explain = ⊥
 
 -- The effect of the arguments, before the error line is printed. Arguments that are not a command have none.
 abbrev pub DoesWords : List (List ℕ) → Call → Outcome → Type 0

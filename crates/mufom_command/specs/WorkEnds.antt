@@ -1,4 +1,4 @@
--- The outcome if modules cannot be linked or located.
+-- How the work on modules or on a text ends before it has an output.
 use Rattle.std.specs.Prelude.{◌≡◌, ◌≢◌, ◌⊎◌, ℕ, ◌≤◌, List, [], ◌∷◌, length, Option, Some, None, Bool, true, false}
 use Rattle.mufom_image.specs.declared.refusal.LocateRefusal.{LocateRefusal}
 use Rattle.mufom_image.specs.declared.refusal.LocateRefusal.TheVariants as locate
@@ -15,42 +15,18 @@ use Rattle.mufom_meaning.specs.Facts.{placement}
 use Rattle.mufom_meaning.specs.declared.located.LocatedParts.{LocatedParts}
 use Rattle.mufom_meaning.specs.Staging.{AreValid}
 use Rattle.mufom_meaning.specs.StagingLaws.{total_weight}
-use Rattle.mufom_words.specs.declared.command.Command.{Command}
-use Rattle.mufom_words.specs.Options.{reads_files}
-use Rattle.mufom_words.specs.Sound.{IsSound}
-use Rattle.mufom_words.specs.Tree.{tree_of}
+use Rattle.mufom_words.specs.Tree.{Forest}
 use Rattle.mufom_groups.specs.Groups.{most_weight}
 use Rattle.mufom_groups.specs.Linked.{linked}
 use Rattle.mufom_groups.specs.Work.{Work, ◌>>=◌, gives, stop_at, stops, sure, with_stops}
 use Rattle.mufom_host.specs.World.{NamedFile}
-use Rattle.mufom_command.specs.Commands.{Kept, all_of, kept_of, located, rest_of_module}
-use Rattle.mufom_command.specs.InputsRead.{inputs_in}
-use Rattle.mufom_command.specs.declared.outcome.Outcome.{Outcome}
-use Rattle.mufom_command.specs.declared.outcome.Outcome.TheVariants as outcome
-use Rattle.mufom_command.specs.declared.outcome.Refusal.TheVariants as refusal
-use Rattle.mufom_command.specs.Stop.{Stop, link_fact, keep_unknown, locate_fact, raw_too_long, text_refused, listing_refused}
-use Rattle.mufom_command.specs.Run.{stop_outcome}
-
-abbrev pub outcome_of_link : LinkRefusal → Outcome
-outcome_of_link link.NoMemory = outcome.NoMemory
-outcome_of_link r = outcome.Refused (refusal.Link r)
-
--- an address has the given number of units
-abbrev pub outcome_of_locate : ℕ → LocateRefusal → Outcome
-outcome_of_locate maus locate.NoMemory = outcome.NoMemory
-outcome_of_locate maus r = outcome.Refused (refusal.Locate r maus)
-
-abbrev pub outcome_of_prune : PruneRefusal → Outcome
-outcome_of_prune prune.NoMemory = outcome.NoMemory
-outcome_of_prune (prune.Unknown name) = outcome.Refused (refusal.Keep name)
-
--- the conditions of linking on a command and the modules of its files
-pub record AreLinkable (c : Command) (ms : List Parts) : Type 0 where
-  pub sound : IsSound c
-  pub of_files : reads_files c.verb ≡ true
-  pub count : length ms ≡ length c.files
-  pub valid : AreValid ms
-  pub light : total_weight ms ≤ most_weight
+use Rattle.mufom_command.specs.Works.{Kept, all_of, kept_of, located, rest_of_module}
+use Rattle.mufom_task.specs.InputsRead.{inputs_in}
+use Rattle.mufom_outcome.specs.declared.outcome.Outcome.{Outcome}
+use Rattle.mufom_outcome.specs.declared.outcome.Outcome.TheVariants as outcome
+use Rattle.mufom_outcome.specs.declared.outcome.Refusal.TheVariants as refusal
+use Rattle.mufom_outcome.specs.Stop.{Stop, link_fact, keep_unknown, locate_fact, raw_too_long, text_refused, listing_refused}
+use Rattle.mufom_task.specs.Ends.{stop_outcome}
 
 -- what remains of a module for a name, if one of its publics has it
 abbrev pub own_rest : Bool → List ℕ → Parts → Work Stop Kept
@@ -68,16 +44,12 @@ own_location keep plan M = do
   kept ← own_kept keep M
   located plan kept.modules
 
--- the location, by a plan, of what is kept of the flat list of the modules of the files
-abbrev pub location_of : Command → Plan → List Parts → Work Stop LocatedParts
-location_of c plan ms = do
-  flat ← with_stops link_fact (linked (tree_of c.marks) ms)
-  kept ← kept_of c.keep flat
+-- the location, by a plan, of what is kept of the flat list of the tree; `ms` are the modules in the order of the files
+abbrev pub location_of : Forest → Option (List ℕ) → Plan → List Parts → Work Stop LocatedParts
+location_of tree keep plan ms = do
+  flat ← with_stops link_fact (linked tree ms)
+  kept ← kept_of keep flat
   located plan kept.modules
-
--- the work over the files gives this location
-abbrev pub LocatesTo : List NamedFile → Command → LocatedParts → Type 0
-LocatesTo files c r = (plan : Plan) × (ms : List Parts) × inputs_in files c (gives (plan, ms)) × location_of c plan ms (gives r)
 
 -- the end is an error in the modules or in the text that was read, and is not due to a lack of memory
 abbrev pub IsOfModules : Stop → Type 0

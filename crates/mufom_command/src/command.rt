@@ -1,71 +1,74 @@
 //! The top call.
 
-ghost use Rattle.std.specs.Prelude.{◌≡◌, ◌<◌, ◌^◌, Ok, drop, length, map, true};
+ghost use Rattle.std.specs.Prelude.{◌≡◌, ◌<◌, ◌^◌, drop, length, map};
 ghost use Rattle.std.specs.String.{string_bytes};
-ghost use Rattle.mufom_words.specs.Answer.{PrintsHelp, answer_of};
-ghost use Rattle.mufom_words.specs.Options.{prints_help};
-ghost use Rattle.mufom_words.specs.Sound.{IsSound};
+ghost use Rattle.mufom_words.specs.Answer.{PrintsHelp};
+ghost use Rattle.mufom_task.specs.Calls.{call_of};
+ghost use Rattle.mufom_task.specs.Sound.{IsSoundRequest, IsSoundTask};
 ghost use Rattle.mufom_command.specs.Contract.{IsRun};
-ghost use Rattle.mufom_command.specs.Run.{call_of};
-ghost use Rattle.mufom_command.specs.RunParts.{DoesBy, DoesWords, NeedsNoMemory};
+ghost use Rattle.mufom_command.specs.RunParts.{AsksForHelp, Does, DoesWith, DoesWords, IsHelpTask, NeedsNoMemory};
 
 use crate::error_output::print_error_line;
 use crate::explain::explain;
-use crate::help::help;
-use crate::images::{bin, dump, locate_files, txt};
-use crate::linking::link;
-use crate::making::make;
-use crate::maps::map;
-use crate::outcome::{Outcome, outcome_of_stop};
-use crate::query::addr;
-use crate::show::{check, show};
-use crate::texts::{build, fromtxt};
+use crate::prepare::prepare;
+use crate::ready::put_out;
 use mufom_host::Host;
-use mufom_words::{Command, Verb, read_words};
+use mufom_numbers::NoMemory;
+use mufom_outcome::{Outcome, outcome_of_stop};
+use mufom_task::{Request, Task, request_of};
+use mufom_words::read_words;
 use std::alloc::Global;
 
-// The arguments of the command that `explain` runs: those after `explain`.
+// The arguments that `explain` explains: those after `explain`.
 fn explained(words: &[String]) -> &[String]
     ensures { result.now ≡ drop 1 words.now }
 {
     words.get(1..).unwrap_or(&[])
 }
 
-// Runs the command that these arguments gave, and returns its outcome. The error line is not printed yet.
-fn run_command<H: Host>(alloc: Global, words: &[String], command: &Command, host: &mut H) -> Outcome
-    requires few { length words.now < 2 ^ 32 }
-    requires sound { IsSound command.now }
-    requires given { answer_of (map (λ word. string_bytes word) words.now) ≡ Ok command.now }
-    ensures does { DoesBy (map (λ word. string_bytes word) words.now) (Ok command.now) (call_of H.meaning H.faults host.old host.new) result }
-    ensures memory { prints_help command.now.verb ≡ true → NeedsNoMemory result }
+// Does a task, and returns its outcome. The error line is not printed yet.
+fn carry_out<H: Host>(alloc: Global, task: &Task, host: &mut H) -> Outcome
+    requires { IsSoundTask task.now }
+    ensures does { Does task.now (call_of H.meaning H.faults host.old host.new) result }
+    ensures memory { IsHelpTask task.now → NeedsNoMemory result }
 {
-    match command.verb {
-        Verb::Show => show(alloc, command, host),
-        Verb::Check => check(alloc, command, host),
-        Verb::Link => link(alloc, command, host),
-        Verb::Locate => locate_files(alloc, command, host),
-        Verb::Dump => dump(alloc, command, host),
-        Verb::Map => map(alloc, command, host),
-        Verb::Make => make(alloc, command, host),
-        Verb::Addr => addr(alloc, command, host),
-        Verb::Bin => bin(alloc, command, host),
-        Verb::Txt => txt(alloc, command, host),
-        Verb::FromTxt => fromtxt(alloc, command, host),
-        Verb::Build => build(alloc, command, host),
-        Verb::Help | Verb::Version => help(command, host),
-        Verb::Explain => explain(alloc, explained(words), host),
+    match prepare(alloc, task, host) {
+        Ok(ready) => put_out(alloc, &ready, host),
+        Err(stop) => stop,
     }
 }
 
-// Reads the arguments and runs their command. The error line is not printed yet.
+// Does what the arguments ask for. The error line is not printed yet.
+fn answer_request<H: Host>(
+    alloc: Global,
+    words: &[String],
+    request: &Request,
+    host: &mut H,
+) -> Outcome
+    requires few { length words.now < 2 ^ 32 }
+    requires sound { IsSoundRequest request.now }
+    ensures does { DoesWith (map (λ word. string_bytes word) words.now) request.now (call_of H.meaning H.faults host.old host.new) result }
+    ensures memory { AsksForHelp request.now → NeedsNoMemory result }
+{
+    match request {
+        Request::Run(task) => carry_out(alloc, task, host),
+        Request::Explain => explain(alloc, explained(words), host),
+    }
+}
+
+// Reads the arguments and does what they ask for. The error line is not printed yet.
 fn answer<H: Host>(alloc: Global, words: &[String], host: &mut H) -> Outcome
     requires { length words.now < 2 ^ 32 }
     ensures does { DoesWords (map (λ word. string_bytes word) words.now) (call_of H.meaning H.faults host.old host.new) result }
     ensures memory { PrintsHelp (map (λ word. string_bytes word) words.now) → NeedsNoMemory result }
 {
-    match read_words(alloc, words) {
-        Ok(command) => run_command(alloc, words, &command, host),
-        Err(stop) => outcome_of_stop(stop),
+    let command = match read_words(alloc, words) {
+        Ok(command) => command,
+        Err(stop) => return outcome_of_stop(stop),
+    };
+    match request_of(alloc, command) {
+        Ok(request) => answer_request(alloc, words, &request, host),
+        Err(NoMemory) => Outcome::NoMemory,
     }
 }
 

@@ -2,14 +2,14 @@
 
 ghost use Rattle.std.specs.Prelude.{◌≡◌, List, ℕ};
 ghost use Rattle.mufom_host.specs.World.{OnlyPrintsErrors};
-ghost use Rattle.mufom_command.specs.Complaint.{complaint};
-ghost use Rattle.mufom_command.specs.Run.{call_of, AddsErrorLine, PrintsErrorLine};
+ghost use Rattle.mufom_outcome.specs.Complaint.{complaint};
+ghost use Rattle.mufom_task.specs.Calls.{call_of};
+ghost use Rattle.mufom_command.specs.Run.{AddsErrorLine, PrintsErrorLine};
 ghost use Rattle.mufom_command.specs.RunParts.{IsPrintedAs};
 
-use crate::error_lines::{fault_line, refusal_line, usage_line};
-use crate::outcome::Outcome;
 use mufom_host::{Failed, Host};
 use mufom_numbers::NoMemory;
+use mufom_outcome::{Outcome, fault_line, refusal_line, usage_line};
 use std::alloc::Global;
 
 // Prints a line on the error output. If that fails, the line or its end is lost.

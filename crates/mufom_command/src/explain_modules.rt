@@ -1,117 +1,118 @@
-//! Explains the commands that link modules.
+//! Explains the tasks that link modules.
 
-ghost use Rattle.std.specs.Prelude.{◌≡◌, ◌⊎◌, ◌<◌, ◌+◌, ◌^◌, ◌∷◌, [], ℕ, List as list, Option as option, Ok, length, map, All, IfErr, IfOk};
+ghost use Rattle.std.specs.Prelude.{◌≡◌, ◌≢◌, ◌<◌, ◌^◌, ◌∷◌, [], ℕ, List as list, Option as option, None, length, map, All, IfOk, IfSome};
 ghost use Rattle.std.specs.String.{string_bytes};
 ghost use Rattle.mufom_host.specs.World.{NamedFile};
 ghost use Rattle.mufom_image.specs.Placements.{IsSoundPlan};
+ghost use Rattle.mufom_image.specs.Refusals.{IsMet};
+ghost use Rattle.mufom_meaning.specs.LocateAnswer.{locate_answer};
 ghost use Rattle.mufom_module.specs.declared.module.Parts.{Parts};
-ghost use Rattle.mufom_module.specs.Defects.{IsValid};
 ghost use Rattle.mufom_module.specs.Written.{weight};
-ghost use Rattle.mufom_names.specs.Names.{names_of, AreDistinct};
-ghost use Rattle.mufom_plan.specs.declared.plan.Plan.{Plan};
+ghost use Rattle.mufom_plan.specs.declared.plan.Plan.{Plan as Planned};
 ghost use Rattle.mufom_meaning.specs.Absolute.{absolute_of};
 ghost use Rattle.mufom_meaning.specs.Facts.{LinkFact};
-ghost use Rattle.mufom_meaning.specs.Selection.{IsSelected};
-ghost use Rattle.mufom_origins.specs.Origins.{modules_of, numbered, origins_of};
-ghost use Rattle.mufom_origins.specs.Places.{with_chosen};
 ghost use Rattle.mufom_explain.specs.Flat.{flat_of};
-ghost use Rattle.mufom_words.specs.Answer.{answer_of};
-ghost use Rattle.mufom_words.specs.Sound.{numbers_from, IsSound};
-ghost use Rattle.mufom_words.specs.Tree.{leaves, tree_of, Forest};
-ghost use Rattle.mufom_groups.specs.Groups.{most_weight};
-ghost use Rattle.mufom_groups.specs.Linked.{linked, linked_module, members, roots};
-ghost use Rattle.mufom_groups.specs.Work.{gives, stops, with_stops};
-ghost use Rattle.mufom_command.specs.Commands.{kept_of, located, Kept};
+ghost use Rattle.mufom_words.specs.Tree.{tree_of};
+ghost use Rattle.mufom_groups.specs.Groups.{StopsWork};
+ghost use Rattle.mufom_groups.specs.Linked.{linked, linked_module};
+ghost use Rattle.mufom_groups.specs.Work.{stops};
+ghost use Rattle.mufom_task.specs.Calls.{call_of};
+ghost use Rattle.mufom_task.specs.Sound.{IsSoundInputs};
+ghost use Rattle.mufom_task.specs.declared.task.Inputs.{Inputs as Reads};
+ghost use Rattle.mufom_task.specs.declared.task.Product.{Product as Made};
+ghost use Rattle.mufom_task.specs.declared.task.Request.TheVariants as request_variants;
+ghost use Rattle.mufom_task.specs.declared.task.Task.{Task as Tasks};
+ghost use Rattle.mufom_task.specs.declared.task.Task.TheVariants as task_variants;
 ghost use Rattle.mufom_command.specs.FlatFiles.{files_with};
 ghost use Rattle.mufom_command.specs.HasDetails.{IsRefusedFlat};
-ghost use Rattle.mufom_command.specs.Run.{call_of};
-ghost use Rattle.mufom_command.specs.RunLaws.{IsLocating};
-ghost use Rattle.mufom_command.specs.RunParts.{AreLinkedFlat, AreReadFrom, Explains, IsKeptFlat, IsLocatedOutcome, Tells};
-ghost use Rattle.mufom_command.specs.Stop.{link_fact};
-ghost use Rattle.mufom_command.specs.WorkEnds.{AreLinkable, EndsAt};
+ghost use Rattle.mufom_command.specs.Locations.{AreLinkable, AreLocated, AreMapped, HasPlaces, HasPlan, IsObstacle};
+ghost use Rattle.mufom_command.specs.RunParts.{AreReadFrom, AreRefusedKept, AreUnkept, AreUnlocated, AskFor, Explains, LinksLists, Tells};
 
 use crate::explain::input_details;
 use crate::explanation::{Details, print_done, print_explanation};
 use crate::flat::{copies, flat_modules};
-use crate::inputs::{Inputs, read_inputs};
-use crate::linking::outcome_of_locate;
-use crate::maps::{TracedModule, flat_origins, kept_part, linked_members};
-use crate::outcome::{Outcome, Refusal};
-use mufom_explain::{FlatModule, LocateContext, explain_link, explain_locate, explain_name};
-use mufom_groups::{LinkedModules, flat_files, refused_files};
+use crate::locating::{Location, Obstacle, Places, TracedModule, locate_modules};
+use crate::prepare::link_file;
+use crate::ready::ready_of;
+use mufom_explain::{
+    FlatModule, LocateContext, explain_link as link_details, explain_locate, explain_name,
+};
+use mufom_groups::{flat_files, refused_files};
 use mufom_host::Host;
-use mufom_image::{Located, absolute, locate};
+use mufom_image::LocateRefusal;
+use mufom_link::LinkRefusal;
 use mufom_module::Module;
-use mufom_numbers::NoMemory;
-use mufom_numbers::limits::MOST_FILE_BYTES;
-use mufom_origins::Origins;
+use mufom_numbers::{Bytes, NoMemory, Text};
+use mufom_outcome::{Cause, Outcome};
 use mufom_plan::Plan;
-use mufom_words::{Command, Verb};
-use mufom_write::raw_length;
+use mufom_prune::PruneRefusal;
+use mufom_task::{Inputs, Loaded, Product, read_inputs};
 use std::alloc::Global;
 
-// ---- linking
+// ---- lists that cannot be linked
 
-// Links copies of the modules of the command, with its members, or returns the outcome of the run.
-fn link_copies(
-    alloc: Global,
-    command: &Command,
-    modules: &[Module],
-) -> Result<LinkedModules, Outcome>
-    requires linkable { AreLinkable command.now modules.now }
-    ensures ok { IfOk result (λ linked. linked_module command.now modules.now (gives linked.«module»)) }
-    ensures count { IfOk result (λ linked. linked.roots ≡ length (leaves (tree_of command.now.marks))) }
-    ensures chosen { IfOk result (λ linked. IsSelected (roots (tree_of command.now.marks) modules.now)
-        (members (tree_of command.now.marks) modules.now) linked.chosen) }
-    ensures valid { IfOk result (λ linked. IsValid linked.«module») }
-    ensures light { IfOk result (λ linked. weight linked.«module» < most_weight + 2 ^ 16) }
-    ensures stops { IfErr result (EndsAt (with_stops link_fact (linked_module command.now modules.now))) }
-{
-    match copies(alloc, modules) {
-        Ok(copies) => linked_members(alloc, command, copies),
-        Err(NoMemory) => Err(Outcome::NoMemory),
-    }
-}
-
-// The modules of the list that the command cannot link, with their files.
+// The modules of the list that cannot be linked, with their files.
 fn refused_list<'a>(
     alloc: Global,
-    command: &Command,
+    inputs: &Inputs,
     modules: &'a [Module],
 ) -> Result<Vec<FlatModule<'a>>, NoMemory>
-    requires linkable { AreLinkable command.now modules.now }
-    ensures list { IfOk result (λ flat. (f : LinkFact) → linked (tree_of command.now.marks) modules.now (stops f)
-        → IsRefusedFlat command.now modules.now f (flat_of flat.items)) }
+    requires linkable { AreLinkable inputs.now modules.now }
+    ensures list { IfOk result (λ flat. (f : LinkFact) → linked (tree_of inputs.now.marks) modules.now (stops f)
+        → IsRefusedFlat inputs.now modules.now f (flat_of flat.items)) }
     ensures few { IfOk result (λ flat. length flat.items < 2 ^ 32) }
 {
-    let files = refused_files(alloc, command, modules)?;
+    let files = refused_files(alloc, inputs.marks.as_slice(), modules)?;
     flat_modules(alloc, modules, files.as_slice())
 }
 
-// Explains that the modules of the command cannot be linked.
+// Explains that modules cannot be linked.
+fn explain_refused<H: Host>(
+    alloc: Global,
+    words: &[String],
+    inputs: &Inputs,
+    modules: &[Module],
+    refusal: &LinkRefusal,
+    host: &mut H,
+) -> Outcome
+    requires linkable { AreLinkable inputs.now modules.now }
+    requires memory { refusal.now ≢ LinkRefusal.NoMemory }
+    ensures { (files : option (list NamedFile)) (plan : Planned) (task : Tasks) (name : option (list ℕ)) → AreReadFrom files inputs.now plan modules.now
+        → LinksLists task inputs.now name → StopsWork (linked_module (tree_of inputs.now.marks) name modules.now) refusal.now
+        → Tells (map (λ word. string_bytes word) words.now) task files (call_of H.meaning H.faults host.old host.new) result }
+{
+    let Ok(flat) = refused_list(alloc, inputs, modules) else {
+        return Outcome::NoMemory;
+    };
+    match link_details(alloc, inputs.files.as_slice(), &flat, refusal) {
+        Ok(details) => print_explanation(
+            alloc,
+            words,
+            &Cause::Link(refusal),
+            &Details::Link(details),
+            host,
+        ),
+        Err(NoMemory) => Outcome::NoMemory,
+    }
+}
+
+// Explains why modules are not linked: they cannot be, or memory ran out.
 fn explain_unlinked<H: Host>(
     alloc: Global,
     words: &[String],
-    command: &Command,
+    inputs: &Inputs,
     modules: &[Module],
-    answer: &Outcome,
+    refusal: &LinkRefusal,
     host: &mut H,
 ) -> Outcome
-    requires linkable { AreLinkable command.now modules.now }
-    requires links { (command.now.verb ≡ Verb.Link) ⊎ IsLocating command.now.verb }
-    requires stops { EndsAt (with_stops link_fact (linked_module command.now modules.now)) answer.now }
-    ensures { (files : option (list NamedFile)) (plan : Plan) → AreReadFrom files command.now plan modules.now
-        → Tells (map (λ word. string_bytes word) words.now) command.now files (call_of H.meaning H.faults host.old host.new) result }
+    requires linkable { AreLinkable inputs.now modules.now }
+    ensures { (files : option (list NamedFile)) (plan : Planned) (task : Tasks) (name : option (list ℕ)) → AreReadFrom files inputs.now plan modules.now
+        → LinksLists task inputs.now name → StopsWork (linked_module (tree_of inputs.now.marks) name modules.now) refusal.now
+        → Tells (map (λ word. string_bytes word) words.now) task files (call_of H.meaning H.faults host.old host.new) result }
 {
-    let Outcome::Refused(Refusal::Link(refusal)) = answer else {
-        return Outcome::NoMemory;
-    };
-    let Ok(flat) = refused_list(alloc, command, modules) else {
-        return Outcome::NoMemory;
-    };
-    match explain_link(alloc, command.files.as_slice(), &flat, refusal) {
-        Ok(details) => print_explanation(alloc, words, answer, &Details::Link(details), host),
-        Err(NoMemory) => Outcome::NoMemory,
+    match refusal {
+        LinkRefusal::NoMemory => Outcome::NoMemory,
+        _ => explain_refused(alloc, words, inputs, modules, refusal, host),
     }
 }
 
@@ -120,233 +121,310 @@ fn explain_unlinked<H: Host>(
 // The modules of the flat list, with their files.
 fn flat_list<'a>(
     alloc: Global,
+    inputs: &Inputs,
     modules: &'a [Module],
-    linked: &LinkedModules,
+    places: &Places,
 ) -> Result<Vec<FlatModule<'a>>, NoMemory>
-    requires few { linked.now.roots + length linked.now.chosen < 2 ^ 32 }
-    requires inside { All (λ (position : ℕ). linked.now.roots + position < 2 ^ 32) linked.now.chosen }
-    ensures flat { (tree : Forest) → leaves tree ≡ numbers_from 0 linked.now.roots
-        → IfOk result (λ flat. flat_of flat.items ≡ files_with tree modules.now linked.now.chosen) }
+    requires linkable { AreLinkable inputs.now modules.now }
+    requires places { HasPlaces (tree_of inputs.now.marks) modules.now places.now }
+    ensures flat { IfOk result (λ flat. flat_of flat.items ≡ files_with (tree_of inputs.now.marks) modules.now places.now.chosen) }
     ensures few { IfOk result (λ flat. length flat.items < 2 ^ 32) }
 {
-    let files = flat_files(alloc, linked.roots, linked.chosen.as_slice())?;
+    let files = flat_files(alloc, places.roots, places.chosen.as_slice())?;
     flat_modules(alloc, modules, files.as_slice())
-}
-
-// The link, with the origins of its entries.
-fn traced(alloc: Global, modules: &[Module], linked: LinkedModules) -> Result<TracedModule, Outcome>
-    requires few { length modules.now < 2 ^ 32 }
-    ensures origins { IfOk result (λ whole. whole.origins ≡ with_chosen linked.roots linked.chosen (origins_of (numbered modules.now))) }
-    ensures object { IfOk result (λ whole. whole.object ≡ linked.«module») }
-    ensures err { IfErr result (λ stop. stop ≡ Outcome.NoMemory) }
-{
-    let Ok(origins) = Origins::of(alloc, modules) else {
-        return Err(Outcome::NoMemory);
-    };
-    match flat_origins(alloc, &origins, &linked) {
-        Ok(origins) => Ok(TracedModule {
-            origins,
-            object: linked.module,
-        }),
-        Err(stop) => Err(stop),
-    }
 }
 
 // Explains that no public symbol has the name that should be kept.
 fn explain_unknown<H: Host>(
     alloc: Global,
     words: &[String],
-    command: &Command,
+    inputs: &Inputs,
     flat: &[FlatModule<'_>],
-    answer: &Outcome,
+    name: &Bytes,
     host: &mut H,
 ) -> Outcome
     requires few { length flat.now < 2 ^ 32 }
-    ensures { (files : option (list NamedFile)) (plan : Plan) (ms : list Parts) → AreLinkedFlat files command.now plan ms (flat_of flat.now)
-        → EndsAt (kept_of command.now.keep (modules_of (flat_of flat.now))) answer.now
-        → Tells (map (λ word. string_bytes word) words.now) command.now files (call_of H.meaning H.faults host.old host.new) result }
+    ensures { (files : option (list NamedFile)) (plan : Planned) (ms : list Parts) (keep : option (list ℕ)) (made : Made)
+        → AreUnkept files inputs.now keep plan ms (flat_of flat.now) name.now
+        → Tells (map (λ word. string_bytes word) words.now) (task_variants.Locate inputs.now keep made) files
+            (call_of H.meaning H.faults host.old host.new) result }
 {
-    let Outcome::Refused(Refusal::Keep(name)) = answer else {
-        return Outcome::NoMemory;
-    };
-    let names = command.files.as_slice();
-    match explain_name(alloc, names, flat, name.as_slice()) {
-        Ok(details) => print_explanation(alloc, words, answer, &Details::Name(details), host),
+    match explain_name(alloc, inputs.files.as_slice(), flat, name.as_slice()) {
+        Ok(details) => print_explanation(
+            alloc,
+            words,
+            &Cause::Keep(name),
+            &Details::Name(details),
+            host,
+        ),
         Err(NoMemory) => Outcome::NoMemory,
+    }
+}
+
+// Explains why nothing is kept of the link: no public symbol has the name, or memory ran out.
+fn explain_unkept<H: Host>(
+    alloc: Global,
+    words: &[String],
+    inputs: &Inputs,
+    flat: &[FlatModule<'_>],
+    refusal: &PruneRefusal,
+    host: &mut H,
+) -> Outcome
+    requires few { length flat.now < 2 ^ 32 }
+    ensures { (files : option (list NamedFile)) (plan : Planned) (ms : list Parts) (keep : option (list ℕ)) (made : Made)
+        → AreRefusedKept files inputs.now keep plan ms (flat_of flat.now) refusal.now
+        → Tells (map (λ word. string_bytes word) words.now) (task_variants.Locate inputs.now keep made) files
+            (call_of H.meaning H.faults host.old host.new) result }
+{
+    match refusal {
+        PruneRefusal::Unknown(name) => explain_unknown(alloc, words, inputs, flat, name, host),
+        PruneRefusal::NoMemory => Outcome::NoMemory,
     }
 }
 
 // ---- locating
 
 // Explains that what is kept cannot be located.
-fn explain_obstacle<H: Host>(
+fn explain_fact<H: Host>(
     alloc: Global,
     words: &[String],
-    command: &Command,
+    inputs: &Inputs,
     flat: &[FlatModule<'_>],
     part: &TracedModule,
     plan: &Plan,
-    answer: &Outcome,
+    refusal: &LocateRefusal,
     host: &mut H,
 ) -> Outcome
     requires few { length flat.now < 2 ^ 32 }
     requires plan { IsSoundPlan plan.now }
-    requires stops { EndsAt (located plan.now (part.now.object ∷ [])) answer.now }
-    ensures { (files : option (list NamedFile)) (ms : list Parts) (kept : Kept) → AreLinkedFlat files command.now plan.now ms (flat_of flat.now)
-        → IsKeptFlat command.now (flat_of flat.now) part.now.object part.now.origins kept
-        → Tells (map (λ word. string_bytes word) words.now) command.now files (call_of H.meaning H.faults host.old host.new) result }
+    requires met { IsMet (locate_answer (part.now.object ∷ []) plan.now) refusal.now }
+    requires memory { refusal.now ≢ LocateRefusal.NoMemory }
+    ensures { (files : option (list NamedFile)) (ms : list Parts) (keep : option (list ℕ)) (made : Made)
+        → AreUnlocated files inputs.now keep plan.now ms (flat_of flat.now) part.now.object part.now.origins
+        → Tells (map (λ word. string_bytes word) words.now) (task_variants.Locate inputs.now keep made) files
+            (call_of H.meaning H.faults host.old host.new) result }
 {
-    let Outcome::Refused(Refusal::Locate(refusal, _)) = answer else {
-        return Outcome::NoMemory;
-    };
     let context = LocateContext {
-        names: command.files.as_slice(),
+        names: inputs.files.as_slice(),
         flat,
         origins: &part.origins,
         object: &part.object,
         plan,
     };
+    let maus = part.object.parts().maus;
     match explain_locate(alloc, context, refusal) {
-        Ok(details) => print_explanation(alloc, words, answer, &Details::Locate(details), host),
+        Ok(details) => print_explanation(
+            alloc,
+            words,
+            &Cause::Locate(refusal, maus),
+            &Details::Locate(details),
+            host,
+        ),
         Err(NoMemory) => Outcome::NoMemory,
     }
 }
 
-// The outcome of a command that has located its files, before it has an output.
-fn located_outcome(alloc: Global, command: &Command, located: &Located) -> Outcome
-    requires light { weight (absolute_of located.now) < 2 ^ 32 }
-    ensures { IsLocatedOutcome command.now located.now result }
-{
-    match command.verb {
-        Verb::Locate => match absolute(alloc, located) {
-            Ok(object) => {
-                let _ = object.parts();
-                Outcome::Done
-            }
-            Err(_) => Outcome::NoMemory,
-        },
-        Verb::Bin => {
-            let count = raw_length(located.parts().runs.as_slice());
-            if count > MOST_FILE_BYTES as u128 {
-                Outcome::Refused(Refusal::Bin(count))
-            } else {
-                Outcome::Done
-            }
-        }
-        _ => Outcome::Done,
-    }
-}
-
-// Explains the outcome of locating what is kept of the flat list.
-fn explain_part<H: Host>(
+// Explains why what is kept is not located: it cannot be, or memory ran out.
+fn explain_unlocated<H: Host>(
     alloc: Global,
     words: &[String],
-    command: &Command,
+    inputs: &Inputs,
     flat: &[FlatModule<'_>],
     part: &TracedModule,
     plan: &Plan,
+    refusal: &LocateRefusal,
     host: &mut H,
 ) -> Outcome
     requires few { length flat.now < 2 ^ 32 }
     requires plan { IsSoundPlan plan.now }
-    requires names { AreDistinct (names_of part.now.object.names.publics) }
-    requires light { weight part.now.object < most_weight + 2 ^ 16 }
-    ensures { (files : option (list NamedFile)) (ms : list Parts) (kept : Kept) → AreLinkedFlat files command.now plan.now ms (flat_of flat.now)
-        → IsKeptFlat command.now (flat_of flat.now) part.now.object part.now.origins kept
-        → Tells (map (λ word. string_bytes word) words.now) command.now files (call_of H.meaning H.faults host.old host.new) result }
+    requires met { IsMet (locate_answer (part.now.object ∷ []) plan.now) refusal.now }
+    ensures { (files : option (list NamedFile)) (ms : list Parts) (keep : option (list ℕ)) (made : Made)
+        → AreUnlocated files inputs.now keep plan.now ms (flat_of flat.now) part.now.object part.now.origins
+        → Tells (map (λ word. string_bytes word) words.now) (task_variants.Locate inputs.now keep made) files
+            (call_of H.meaning H.faults host.old host.new) result }
 {
-    match locate(alloc, &part.object, plan) {
-        Ok(located) => {
-            let answer = located_outcome(alloc, command, &located);
-            print_explanation(alloc, words, &answer, &Details::Nothing, host)
+    match refusal {
+        LocateRefusal::NoMemory => Outcome::NoMemory,
+        _ => explain_fact(alloc, words, inputs, flat, part, plan, refusal, host),
+    }
+}
+
+// Explains what keeps modules from being located.
+fn explain_obstacle<H: Host>(
+    alloc: Global,
+    words: &[String],
+    inputs: &Inputs,
+    keep: &Option<Bytes>,
+    modules: &[Module],
+    obstacle: &Obstacle,
+    host: &mut H,
+) -> Outcome
+    requires linkable { AreLinkable inputs.now modules.now }
+    requires obstacle { IsObstacle (tree_of inputs.now.marks) keep.now modules.now obstacle.now }
+    ensures { (files : option (list NamedFile)) (plan : Planned) (made : Made) → AreReadFrom files inputs.now plan modules.now
+        → HasPlan plan obstacle.now
+        → Tells (map (λ word. string_bytes word) words.now) (task_variants.Locate inputs.now keep.now made) files
+            (call_of H.meaning H.faults host.old host.new) result }
+{
+    match obstacle {
+        Obstacle::Unlinked(refusal) => {
+            explain_unlinked(alloc, words, inputs, modules, refusal, host)
         }
-        Err(refusal) => {
-            let answer = outcome_of_locate(part.object.parts().maus, refusal);
-            explain_obstacle(alloc, words, command, flat, part, plan, &answer, host)
+        Obstacle::Unkept { refusal, places } => {
+            let Ok(flat) = flat_list(alloc, inputs, modules, places) else {
+                return Outcome::NoMemory;
+            };
+            explain_unkept(alloc, words, inputs, &flat, refusal, host)
+        }
+        Obstacle::Unlocated {
+            refusal,
+            part,
+            plan,
+            places,
+        } => {
+            let Ok(flat) = flat_list(alloc, inputs, modules, places) else {
+                return Outcome::NoMemory;
+            };
+            explain_unlocated(alloc, words, inputs, &flat, part, plan, refusal, host)
         }
     }
 }
 
-// Explains a command that locates and whose modules are linked.
+// Explains what is made of a location.
+fn explain_product<H: Host>(
+    alloc: Global,
+    words: &[String],
+    product: &Product,
+    location: Location,
+    host: &mut H,
+) -> Outcome
+    requires located { AreLocated location }
+    requires light { weight (absolute_of location.located) < 2 ^ 32 }
+    ensures { (files : option (list NamedFile)) (inputs : Reads) (keep : option (list ℕ)) (plan : Planned) (ms : list Parts)
+        → AreReadFrom files inputs plan ms → AreMapped (tree_of inputs.marks) keep plan ms location
+        → Tells (map (λ word. string_bytes word) words.now) (task_variants.Locate inputs keep product.now) files
+            (call_of H.meaning H.faults host.old host.new) result }
+{
+    match ready_of(alloc, product, location) {
+        Ok(_) => print_done(alloc, words, host),
+        Err(answer) => print_explanation(
+            alloc,
+            words,
+            &Cause::Outcome(&answer),
+            &Details::Nothing,
+            host,
+        ),
+    }
+}
+
+// Explains the locating of modules that were read. They are copied, since what an error names is looked up in
+// them.
+fn explain_loaded<H: Host>(
+    alloc: Global,
+    words: &[String],
+    inputs: &Inputs,
+    keep: &Option<Bytes>,
+    product: &Product,
+    loaded: Loaded,
+    host: &mut H,
+) -> Outcome
+    requires linkable { AreLinkable inputs.now loaded.modules }
+    requires plan { IsSoundPlan loaded.plan }
+    ensures { (files : option (list NamedFile)) → AreReadFrom files inputs.now loaded.plan loaded.modules
+        → Tells (map (λ word. string_bytes word) words.now) (task_variants.Locate inputs.now keep.now product.now) files
+            (call_of H.meaning H.faults host.old host.new) result }
+{
+    let Loaded { plan, modules } = loaded;
+    let Ok(spare) = copies(alloc, modules.as_slice()) else {
+        return Outcome::NoMemory;
+    };
+    let spare = Loaded {
+        plan,
+        modules: spare,
+    };
+    match locate_modules(alloc, inputs, keep, spare) {
+        Ok(location) => explain_product(alloc, words, product, location, host),
+        Err(obstacle) => {
+            let modules = modules.as_slice();
+            explain_obstacle(alloc, words, inputs, keep, modules, &obstacle, host)
+        }
+    }
+}
+
+/// Explains a task that locates files.
+pub(crate) fn explain_location<H: Host>(
+    alloc: Global,
+    words: &[String],
+    inputs: &Inputs,
+    keep: &Option<Bytes>,
+    product: &Product,
+    host: &mut H,
+) -> Outcome
+    requires sound { IsSoundInputs inputs.now }
+    requires asks { AskFor (map (λ word. string_bytes word) words.now)
+        (request_variants.Run (task_variants.Locate inputs.now keep.now product.now)) }
+    ensures { Explains (map (λ word. string_bytes word) words.now) (call_of H.meaning H.faults host.old host.new) result }
+{
+    match read_inputs(alloc, inputs, host) {
+        Ok(loaded) => explain_loaded(alloc, words, inputs, keep, product, loaded, host),
+        Err(answer) => {
+            let details = input_details(inputs, &answer);
+            print_explanation(alloc, words, &Cause::Outcome(&answer), &details, host)
+        }
+    }
+}
+
+// ---- linking
+
+// Explains the linking of modules that were read. They are copied, since what an error names is looked up in
+// them.
 fn explain_linked<H: Host>(
     alloc: Global,
     words: &[String],
-    command: &Command,
     inputs: &Inputs,
-    linked: LinkedModules,
+    name: &Option<Bytes>,
+    out: &Text,
+    modules: &[Module],
     host: &mut H,
 ) -> Outcome
-    requires linkable { AreLinkable command.now inputs.now.modules }
-    requires plan { IsSoundPlan inputs.now.plan }
-    requires locating { IsLocating command.now.verb }
-    requires link { linked_module command.now inputs.now.modules (gives linked.«module») }
-    requires count { linked.roots ≡ length (leaves (tree_of command.now.marks)) }
-    requires chosen { IsSelected (roots (tree_of command.now.marks) inputs.now.modules)
-        (members (tree_of command.now.marks) inputs.now.modules) linked.chosen }
-    requires valid { IsValid linked.«module» }
-    requires light { weight linked.«module» < most_weight + 2 ^ 16 }
-    ensures { (files : option (list NamedFile)) → AreReadFrom files command.now inputs.now.plan inputs.now.modules
-        → Tells (map (λ word. string_bytes word) words.now) command.now files (call_of H.meaning H.faults host.old host.new) result }
+    requires linkable { AreLinkable inputs.now modules.now }
+    requires short { IfSome name.now (λ given. length given < 2 ^ 16) }
+    ensures { (files : option (list NamedFile)) (plan : Planned) → AreReadFrom files inputs.now plan modules.now
+        → Tells (map (λ word. string_bytes word) words.now) (task_variants.Link inputs.now name.now out.now) files
+            (call_of H.meaning H.faults host.old host.new) result }
 {
-    let modules = inputs.modules.as_slice();
-    let Ok(flat) = flat_list(alloc, modules, &linked) else {
+    let Ok(spare) = copies(alloc, modules) else {
         return Outcome::NoMemory;
     };
-    let Ok(whole) = traced(alloc, modules, linked) else {
-        return Outcome::NoMemory;
-    };
-    match kept_part(alloc, command, whole) {
-        Ok(part) => explain_part(alloc, words, command, &flat, &part, &inputs.plan, host),
-        Err(answer) => explain_unknown(alloc, words, command, &flat, &answer, host),
+    match link_file(alloc, inputs, name, out, spare) {
+        Ok(_) => print_done(alloc, words, host),
+        Err(refusal) => explain_unlinked(alloc, words, inputs, modules, &refusal, host),
     }
 }
 
-// ---- all commands that link
-
-// Explains a command whose inputs were read.
-fn explain_inputs<H: Host>(
+/// Explains a task that links files.
+pub(crate) fn explain_link<H: Host>(
     alloc: Global,
     words: &[String],
-    command: &Command,
     inputs: &Inputs,
+    name: &Option<Bytes>,
+    out: &Text,
     host: &mut H,
 ) -> Outcome
-    requires linkable { AreLinkable command.now inputs.now.modules }
-    requires plan { IsSoundPlan inputs.now.plan }
-    requires links { (command.now.verb ≡ Verb.Link) ⊎ IsLocating command.now.verb }
-    ensures { (files : option (list NamedFile)) → AreReadFrom files command.now inputs.now.plan inputs.now.modules
-        → Tells (map (λ word. string_bytes word) words.now) command.now files (call_of H.meaning H.faults host.old host.new) result }
-{
-    let modules = inputs.modules.as_slice();
-    match link_copies(alloc, command, modules) {
-        Ok(linked) => match command.verb {
-            Verb::Link => {
-                let _ = linked.module.parts();
-                print_done(alloc, words, host)
-            }
-            _ => explain_linked(alloc, words, command, inputs, linked, host),
-        },
-        Err(answer) => explain_unlinked(alloc, words, command, modules, &answer, host),
-    }
-}
-
-/// Explains a command that links the modules of its files.
-pub(crate) fn explain_modules<H: Host>(
-    alloc: Global,
-    words: &[String],
-    command: &Command,
-    host: &mut H,
-) -> Outcome
-    requires sound { IsSound command.now }
-    requires given { answer_of (map (λ word. string_bytes word) words.now) ≡ Ok command.now }
-    requires links { (command.now.verb ≡ Verb.Link) ⊎ IsLocating command.now.verb }
+    requires sound { IsSoundInputs inputs.now }
+    requires short { IfSome name.now (λ given. length given < 2 ^ 16) }
+    requires asks { AskFor (map (λ word. string_bytes word) words.now)
+        (request_variants.Run (task_variants.Link inputs.now name.now out.now)) }
     ensures { Explains (map (λ word. string_bytes word) words.now) (call_of H.meaning H.faults host.old host.new) result }
 {
-    match read_inputs(alloc, command, host) {
-        Ok(inputs) => explain_inputs(alloc, words, command, &inputs, host),
+    match read_inputs(alloc, inputs, host) {
+        Ok(loaded) => {
+            let modules = loaded.modules.as_slice();
+            explain_linked(alloc, words, inputs, name, out, modules, host)
+        }
         Err(answer) => {
-            let details = input_details(command, &answer);
-            print_explanation(alloc, words, &answer, &details, host)
+            let details = input_details(inputs, &answer);
+            print_explanation(alloc, words, &Cause::Outcome(&answer), &details, host)
         }
     }
 }

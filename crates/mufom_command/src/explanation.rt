@@ -4,16 +4,18 @@ ghost use Rattle.std.specs.Prelude.{◌≡◌, ◌≢◌, [], map, option_map, I
 ghost use Rattle.std.specs.String.{string_bytes};
 ghost use Rattle.mufom_host.specs.World.{OnlyPrints};
 ghost use Rattle.mufom_command.specs.ExplainText.{explain_text, first_line as line_of, topic_part};
+ghost use Rattle.mufom_outcome.specs.Outcomes.{cause_outcome};
 ghost use Rattle.mufom_command.specs.Making.{IsPrinted};
-ghost use Rattle.mufom_command.specs.Run.{call_of};
+ghost use Rattle.mufom_task.specs.Calls.{call_of};
 ghost use Rattle.mufom_command.specs.Told.{told_text};
 
-use crate::error_lines::{fault_line, refusal_line, usage_line};
-use crate::outcome::Outcome;
-use crate::topic::topic_of;
 use mufom_explain::{LinkDetails, LocateDetails, NameDetails, file_line, plan_line};
 use mufom_host::Host;
 use mufom_numbers::{NoMemory, Text};
+use mufom_outcome::{
+    Cause, Outcome, fault_line, keep_line, link_line, locate_line, refusal_line, topic_of,
+    usage_line,
+};
 use mufom_text::{Lines, Output, PrintStop, print_lines};
 use std::alloc::Global;
 
@@ -88,7 +90,7 @@ impl<'a> Lines for Explanation<'a> {
 }
 
 // The error line of an outcome, or `done` if it has none.
-fn first_line(alloc: Global, answer: &Outcome) -> Result<Vec<u8>, NoMemory>
+fn outcome_line(alloc: Global, answer: &Outcome) -> Result<Vec<u8>, NoMemory>
     ensures line { IfOk result (λ text. text.items ≡ line_of answer.now) }
     ensures told { IfOk result (λ text. (answer.now ≢ Outcome.WriteFault) × (answer.now ≢ Outcome.NoMemory)) }
 {
@@ -101,28 +103,41 @@ fn first_line(alloc: Global, answer: &Outcome) -> Result<Vec<u8>, NoMemory>
     }
 }
 
-/// Prints the outcome of a run with these arguments: its error line, what that names, and the help text on
-/// it. Returns the outcome of the explanation, whose error line is not printed yet. It is out of memory if
-/// memory runs out here or ran out in that run; then nothing is printed.
+// The first line of an explanation.
+fn first_line(alloc: Global, cause: &Cause<'_>) -> Result<Vec<u8>, NoMemory>
+    ensures line { IfOk result (λ text. text.items ≡ line_of (cause_outcome cause.now)) }
+    ensures told { IfOk result (λ text. (cause_outcome cause.now ≢ Outcome.WriteFault) × (cause_outcome cause.now ≢ Outcome.NoMemory)) }
+{
+    match cause {
+        Cause::Outcome(outcome) => outcome_line(alloc, outcome),
+        Cause::Link(refusal) => link_line(alloc, refusal),
+        Cause::Keep(name) => keep_line(alloc, name),
+        Cause::Locate(refusal, maus) => locate_line(alloc, refusal, *maus),
+    }
+}
+
+/// Prints how a run with these arguments ends: the error line, what that names, and the help text on it.
+/// Returns the outcome of the explanation, whose error line is not printed yet. It is out of memory if memory
+/// runs out here or ran out in that run; then nothing is printed.
 pub(crate) fn print_explanation<H: Host>(
     alloc: Global,
     words: &[String],
-    answer: &Outcome,
+    cause: &Cause<'_>,
     details: &Details<'_>,
     host: &mut H,
 ) -> Outcome
-    ensures answer { IsPrinted (explain_text (map (λ word. string_bytes word) words.now) answer.now (told_text details.now))
+    ensures answer { IsPrinted (explain_text (map (λ word. string_bytes word) words.now) (cause_outcome cause.now) (told_text details.now))
         (call_of H.meaning H.faults host.old host.new) result }
-    ensures told { result ≢ Outcome.NoMemory → (answer.now ≢ Outcome.WriteFault) × (answer.now ≢ Outcome.NoMemory) }
+    ensures told { result ≢ Outcome.NoMemory → (cause_outcome cause.now ≢ Outcome.WriteFault) × (cause_outcome cause.now ≢ Outcome.NoMemory) }
     ensures only { OnlyPrints (H.meaning host.old) (H.meaning host.new) (H.faults host.old) (H.faults host.new) }
 {
-    let Ok(line) = first_line(alloc, answer) else {
+    let Ok(line) = first_line(alloc, cause) else {
         return Outcome::NoMemory;
     };
     let explanation = Explanation {
         line: line.as_slice(),
         details,
-        topic: topic_of(words, answer),
+        topic: topic_of(words, cause),
     };
     match print_lines(alloc, host, &explanation) {
         Ok(()) => Outcome::Done,
@@ -137,5 +152,12 @@ pub(crate) fn print_done<H: Host>(alloc: Global, words: &[String], host: &mut H)
         (call_of H.meaning H.faults host.old host.new) result }
     ensures only { OnlyPrints (H.meaning host.old) (H.meaning host.new) (H.faults host.old) (H.faults host.new) }
 {
-    print_explanation(alloc, words, &Outcome::Done, &Details::Nothing, host)
+    let done = Outcome::Done;
+    print_explanation(
+        alloc,
+        words,
+        &Cause::Outcome(&done),
+        &Details::Nothing,
+        host,
+    )
 }

@@ -1,61 +1,19 @@
-//! The commands that make a module from a text: `fromtxt` from a TI-TXT text, and `build` from a listing.
+//! The module of a text: of a TI-TXT text, or of a listing.
 
-ghost use Rattle.std.specs.Prelude.{◌≡◌, ◌≤◌, ◌∷◌, [], ◌*◌, length, None, IfErr, IfOk, IfSome, IsSome, OnSome, true};
-ghost use Rattle.mufom_host.specs.World.{GrowsBy, OnlyOpens};
+ghost use Rattle.std.specs.Prelude.{◌≤◌, ◌*◌, length, IfErr, IfOk};
 ghost use Rattle.mufom_numbers.specs.declared.limits.TheConstants.{MOST_FILE_BYTES as most};
 ghost use Rattle.mufom_titxt.specs.TextModules.{HaveModule};
-ghost use Rattle.mufom_words.specs.Options.{reads_files, takes_one_file};
-ghost use Rattle.mufom_words.specs.Sound.{IsSound};
 ghost use Rattle.mufom_groups.specs.Work.{gives};
-ghost use Rattle.mufom_command.specs.Commands.{parts_of_listing, parts_of_txt, reading_listing, reading_text, runs_of_text, text_in};
-ghost use Rattle.mufom_command.specs.InputsRead.{TextStops};
-ghost use Rattle.mufom_command.specs.Run.{call_of};
-ghost use Rattle.mufom_command.specs.RunParts.{Does};
 ghost use Rattle.mufom_command.specs.WorkEnds.{EndsAt};
+ghost use Rattle.mufom_command.specs.Works.{parts_of_listing, parts_of_txt, runs_of_text};
 
-use crate::linking::make_output;
-use crate::outcome::{Input, Outcome, Refusal};
-use crate::whole_file::read_whole;
 use mufom_build::BuildRefusal;
-use mufom_host::Host;
 use mufom_meaning::Run;
 use mufom_module::Module;
-use mufom_numbers::limits::MOST_FILE_BYTES;
 use mufom_numbers::{List, NoMemory};
+use mufom_outcome::{Outcome, Refusal};
 use mufom_titxt::{TxtStop, read_txt, text_module};
-use mufom_words::Command;
 use std::alloc::Global;
-
-/// The name of the only file of a command.
-pub(crate) fn only_file(command: &Command) -> &str
-    requires { length command.now.files ≡ 1 }
-    ensures { command.now.files ≡ result.now ∷ [] }
-{
-    command.files.as_slice()[0].as_str()
-}
-
-/// Reads the bytes of the text with this name, or returns the outcome of the run if they cannot be read or
-/// are too many.
-pub(crate) fn read_text<H: Host>(
-    alloc: Global,
-    name: &str,
-    host: &mut H,
-) -> Result<Vec<u8>, Outcome>
-    ensures text { IfOk result (λ bytes. IfSome (H.meaning host.old).files (λ files. text_in files (name.now ∷ []) (gives bytes.items))) }
-    ensures short { IfOk result (λ bytes. length bytes.items ≤ most) }
-    ensures stops { IfErr result (λ stop. TextStops name.now (call_of H.meaning H.faults host.old host.new) stop) }
-    ensures opens { IfOk result (λ bytes. GrowsBy (H.meaning host.old).opened (H.meaning host.new).opened (name.now ∷ [])) }
-    ensures opened { OnSome (H.meaning host.new).opened (GrowsBy (H.meaning host.old).opened (H.meaning host.new).opened (name.now ∷ [])) }
-    ensures only { OnlyOpens (H.meaning host.old) (H.meaning host.new) (H.faults host.old) (H.faults host.new) }
-{
-    match read_whole(alloc, name, Input::File(0), MOST_FILE_BYTES, host) {
-        Ok(bytes) if bytes.len() > MOST_FILE_BYTES => {
-            Err(Outcome::Refused(Refusal::InputLimit(0)))
-        }
-        Ok(bytes) => Ok(bytes),
-        Err(stop) => Err(stop),
-    }
-}
 
 // The runs of a text, or the outcome of the run. An address has `maus` units.
 fn runs_of(alloc: Global, text: &[u8], maus: u8) -> Result<List<Run>, Outcome>
@@ -114,43 +72,5 @@ pub(crate) fn built_from(alloc: Global, text: &[u8]) -> Result<Module, Outcome>
             column,
             reason,
         }))),
-    }
-}
-
-/// Reads the TI-TXT text that the command names, and writes its module to a file.
-pub(crate) fn fromtxt<H: Host>(alloc: Global, command: &Command, host: &mut H) -> Outcome
-    requires sound { IsSound command.now }
-    requires of_files { reads_files command.now.verb ≡ true }
-    requires one { takes_one_file command.now.verb ≡ true }
-    requires no_plan { command.now.plan ≡ None }
-    requires file { IsSome command.now.out }
-    ensures { Does command.now (λ files. reading_text files command.now) (call_of H.meaning H.faults host.old host.new) result }
-{
-    let text = match read_text(alloc, only_file(command), host) {
-        Ok(text) => text,
-        Err(stop) => return stop,
-    };
-    match module_of(alloc, text.as_slice(), command.maus) {
-        Ok(object) => make_output(command, &object, host),
-        Err(stop) => stop,
-    }
-}
-
-/// Reads the listing that the command names, and writes the module that is built from it to a file.
-pub(crate) fn build<H: Host>(alloc: Global, command: &Command, host: &mut H) -> Outcome
-    requires sound { IsSound command.now }
-    requires of_files { reads_files command.now.verb ≡ true }
-    requires one { takes_one_file command.now.verb ≡ true }
-    requires no_plan { command.now.plan ≡ None }
-    requires file { IsSome command.now.out }
-    ensures { Does command.now (λ files. reading_listing files command.now) (call_of H.meaning H.faults host.old host.new) result }
-{
-    let text = match read_text(alloc, only_file(command), host) {
-        Ok(text) => text,
-        Err(stop) => return stop,
-    };
-    match built_from(alloc, text.as_slice()) {
-        Ok(object) => make_output(command, &object, host),
-        Err(stop) => stop,
     }
 }

@@ -3,17 +3,17 @@
 ghost use Rattle.std.specs.Prelude.{flat_map, All, OnErr, OnOk};
 ghost use Rattle.mufom_host.specs.World.{MakingGrowsBy, MakingGrowsByPrefix, OnlyWrites, Rose};
 ghost use Rattle.mufom_module.specs.Written.{written};
-ghost use Rattle.mufom_command.specs.Run.{call_of};
+ghost use Rattle.mufom_task.specs.Calls.{call_of};
 ghost use Rattle.mufom_command.specs.Making.{HasByte, IsMadeAlone, run_lines};
 ghost use Rattle.mufom_text.specs.Fitting.{FitsIn};
 ghost use Rattle.mufom_titxt.specs.Written.{txt_text};
 ghost use Rattle.mufom_write.specs.Raw.{raw_image};
 ghost use Rattle.mufom_write.specs.Writing.{Writes};
 
-use crate::outcome::Outcome;
 use mufom_host::{Failed, Host, Sink};
 use mufom_meaning::Run;
 use mufom_module::Module;
+use mufom_outcome::Outcome;
 use mufom_titxt::{write_end, write_run};
 use mufom_write::{write_module, write_raw};
 

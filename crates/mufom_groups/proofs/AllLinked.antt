@@ -1,5 +1,5 @@
--- The parts of the link of a command's modules, as the calls that do them answer.
-use Rattle.std.proofs.Common.{◌≡◌, ℕ, ◌+◌, ◌≤◌, ◌<◌, ◌^◌, List, [], ◌∷◌, ◌++◌, length, take, drop, None, Result, Ok, Err, IfOk, IfErr, unwrap_or, sym}
+-- The parts of the link of the modules of a tree, as the calls that do them answer.
+use Rattle.std.proofs.Common.{◌≡◌, ℕ, ◌+◌, ◌≤◌, ◌<◌, ◌^◌, List, [], ◌∷◌, ◌++◌, length, take, drop, Option, None, Result, Ok, Err, IfOk, IfErr, unwrap_or, sym}
 use Rattle.std.proofs.Common.{◌∙◌, ap, subst, arith}
 use Rattle.mufom_module.specs.declared.module.Parts.{Parts}
 use Rattle.mufom_module.specs.Written.{weight}
@@ -10,7 +10,6 @@ use Rattle.mufom_meaning.specs.LinkAnswer.{link_answer}
 use Rattle.mufom_meaning.specs.Selection.{IsSelected, members_at}
 use Rattle.mufom_meaning.specs.Staging.{AreValid}
 use Rattle.mufom_meaning.specs.StagingLaws.{total_weight}
-use Rattle.mufom_words.specs.declared.command.Command.{Command}
 use Rattle.mufom_words.specs.declared.command.Mark.{Mark}
 use Rattle.mufom_words.specs.Sound.{HasTree, numbers_from}
 use Rattle.mufom_words.specs.Tree.{leaves, tree_of}
@@ -20,44 +19,44 @@ use Rattle.mufom_groups.specs.Work.{gives}
 use Rattle.mufom_groups.proofs.LinkWalk.{weight-append, weight-split}
 use Rattle.mufom_groups.proofs.WholeLink.{first-refused, flat-linked, flat-refused, selected-flat}
 
-module _ (c : Command) (tree : HasTree c) (ms : List Parts) (valid : AreValid ms) (k : ℕ) (count : k ≡ length (leaves (tree_of c.marks))) where
-  numbered : leaves (tree_of c.marks) ≡ numbers_from 0 k
+module _ (own : List Mark) (given : Option (List ℕ)) (ms : List Parts) (tree : HasTree own (length ms)) (valid : AreValid ms) (k : ℕ) (count : k ≡ length (leaves (tree_of own))) where
+  numbered : leaves (tree_of own) ≡ numbers_from 0 k
   numbered = tree.numbered ∙ ap (numbers_from 0) (sym count)
 
-  pub first-stop : (marks : List Mark) (rs : List Parts) → marks ≡ c.marks → rs ≡ take k ms → (e : LinkRefusal)
-      → StopsWork (links (tree_links (tree_of marks) rs)) e → StopsWork (linked_module c ms) e
+  pub first-stop : (marks : List Mark) (rs : List Parts) → marks ≡ own → rs ≡ take k ms → (e : LinkRefusal)
+      → StopsWork (links (tree_links (tree_of marks) rs)) e → StopsWork (linked_module (tree_of own) given ms) e
   first-stop marks rs is_marks is_roots e refused =
-      first-refused c ms valid k numbered e
-      (subst (λ (l : List Parts). StopsWork (links (tree_links (tree_of c.marks) l)) e) is_roots
+      first-refused own given ms valid k numbered e
+      (subst (λ (l : List Parts). StopsWork (links (tree_links (tree_of own) l)) e) is_roots
       (subst (λ (l : List Mark). StopsWork (links (tree_links (tree_of l) rs)) e) is_marks refused))
 
-  module _ (marks : List Mark) (rs others two flat read : List Parts) (is_marks : marks ≡ c.marks) (is_roots : rs ≡ take k ms) (is_members : others
+  module _ (marks : List Mark) (rs others two flat read : List Parts) (is_marks : marks ≡ own) (is_roots : rs ≡ take k ms) (is_members : others
       ≡ drop k ms) (first : AreRootsLinked marks rs two)
       (has : HasSelected two others flat) (same : read ≡ flat) where
-    own-first : AreRootsLinked c.marks (take k ms) two
-    own-first = subst (λ (l : List Parts). AreRootsLinked c.marks l two) is_roots (subst (λ (l : List Mark). AreRootsLinked l rs two) is_marks first)
+    own-first : AreRootsLinked own (take k ms) two
+    own-first = subst (λ (l : List Parts). AreRootsLinked own l two) is_roots (subst (λ (l : List Mark). AreRootsLinked l rs two) is_marks first)
 
-    own-has : HasSelected two (members (tree_of c.marks) ms) flat
+    own-has : HasSelected two (members (tree_of own) ms) flat
     own-has = subst (λ (n : ℕ). HasSelected two (drop n ms) flat) count (subst (λ (l : List Parts). HasSelected two l flat) is_members has)
 
-    pub all-linked : (result : Result Parts LinkRefusal) → IfOk result (λ M. IsJoined M read (unwrap_or c.name (first_name read)))
+    pub all-linked : (result : Result Parts LinkRefusal) → IfOk result (λ M. IsJoined M read (unwrap_or given (first_name read)))
         → IfOk result (λ _. link_answer read ≡ None)
-        → IfOk result (λ M. linked_module c ms (gives M))
+        → IfOk result (λ M. linked_module (tree_of own) given ms (gives M))
     all-linked (Ok M) j none =
-        flat-linked c ms valid k numbered two flat own-first own-has M (ap link_answer (sym same)
-        ∙ none) (subst (λ (l : List Parts). IsJoined M l (unwrap_or c.name (first_name l))) same j)
+        flat-linked own given ms valid k numbered two flat own-first own-has M (ap link_answer (sym same)
+        ∙ none) (subst (λ (l : List Parts). IsJoined M l (unwrap_or given (first_name l))) same j)
     all-linked (Err e) j none = tt
 
     -- the members at these positions are the ones that the roots need
-    pub chosen-there : (chosen : List ℕ) → has.chosen ≡ chosen → IsSelected (roots (tree_of c.marks) ms) (members (tree_of c.marks) ms) chosen
+    pub chosen-there : (chosen : List ℕ) → has.chosen ≡ chosen → IsSelected (roots (tree_of own) ms) (members (tree_of own) ms) chosen
     chosen-there chosen is =
         let there = subst (λ (l : List ℕ). IsSelected two others l) is has.selected in
-        let own = subst (λ (n : ℕ). IsSelected two (drop n ms) chosen) count (subst (λ (l : List Parts). IsSelected two l chosen) is_members there) in
-        selected-flat c ms valid k numbered two flat own-first own-has chosen own
+        let among = subst (λ (n : ℕ). IsSelected two (drop n ms) chosen) count (subst (λ (l : List Parts). IsSelected two l chosen) is_members there) in
+        selected-flat own given ms valid k numbered two flat own-first own-has chosen among
 
-    pub all-refused : (result : Result Parts LinkRefusal) → IfErr result (λ e. IsRefusalOf read e) → IfErr result (λ e. StopsWork (linked_module c ms) e)
+    pub all-refused : (result : Result Parts LinkRefusal) → IfErr result (λ e. IsRefusalOf read e) → IfErr result (λ e. StopsWork (linked_module (tree_of own) given ms) e)
     all-refused (Ok M) refused = tt
-    all-refused (Err e) refused = flat-refused c ms valid k numbered two flat own-first own-has e (subst (λ (l : List Parts). IsRefusalOf l e) same refused)
+    all-refused (Err e) refused = flat-refused own given ms valid k numbered two flat own-first own-has e (subst (λ (l : List Parts). IsRefusalOf l e) same refused)
 
 -- the flat list is no heavier than the modules
 pub flat-light : (ms : List Parts) → total_weight ms ≤ most_weight → (k : ℕ) (marks : List Mark) (rs others two flat read : List Parts) → rs

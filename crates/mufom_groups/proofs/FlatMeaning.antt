@@ -1,6 +1,6 @@
 -- The module into which modules are linked stands for their flat list.
 use Rattle.std.proofs.Common.{length, unwrap_or, sym, subst}
-use Rattle.mufom_words.specs.Tree.{leaves, tree_of}
+use Rattle.mufom_words.specs.Tree.{leaves}
 use Rattle.mufom_meaning.specs.Selection.{members_at}
 use Rattle.mufom_meaning.specs.Staging.{AreValid}
 use Rattle.mufom_meaning.proofs.facts.AllAnswers.{answers_are_facts}
@@ -12,10 +12,10 @@ use Rattle.mufom_groups.proofs.GroupsAlike.{linked-flat}
 use Rattle.mufom_groups.proofs.LinkWalk.{valid-append, valid-drop, valid-members}
 
 pub links-stand-for-flat : LinksStandForFlat
-links-stand-for-flat c ms M valid (flat, is, j) =
-    let is_flat = ((linked-flat answers_are_facts link_facts_grow (tree_of c.marks) ms flat).0 is).0 in
+links-stand-for-flat tree name ms M valid (flat, is, j) =
+    let is_flat = ((linked-flat answers_are_facts link_facts_grow tree ms flat).0 is).0 in
     let flat_valid : AreValid flat = subst AreValid (sym is_flat.2)
-    (valid-append (roots (tree_of c.marks) ms) (members_at (members (tree_of c.marks) ms) is_flat.0) (valid-members ms (leaves (tree_of c.marks)) valid)
-    (valid-members (members (tree_of c.marks) ms) is_flat.0 (valid-drop (length (leaves (tree_of c.marks))) ms valid))) in
-    let stands = joined_stands_for M flat (unwrap_or c.name (first_name flat)) j flat_valid in
+    (valid-append (roots tree ms) (members_at (members tree ms) is_flat.0) (valid-members ms (leaves tree) valid)
+    (valid-members (members tree ms) is_flat.0 (valid-drop (length (leaves tree)) ms valid))) in
+    let stands = joined_stands_for M flat (unwrap_or name (first_name flat)) j flat_valid in
     record { flat = flat; is_flat = is_flat; stands = stands.0; settled = stands.3 }

@@ -3,9 +3,7 @@ use Rattle.std.proofs.Common.{◌≡◌, ◌⊎◌, ℕ, List, [], ◌∷◌, �
 use Rattle.std.specs.Prelude.{slice_get}
 use Rattle.std.proofs.lemmas.List.{append_assoc, append-nil, map-append}
 use Rattle.std.proofs.lemmas.Grind.{flat_map-append}
-use Rattle.mufom_words.specs.declared.command.Command.{Command}
-use Rattle.mufom_words.specs.Alike.{AreAlike}
-use Rattle.mufom_words.specs.Tree.{Forest, empty, file, group, tree_of, leaves, groups}
+use Rattle.mufom_words.specs.Tree.{Forest, empty, file, group, leaves, groups}
 use Rattle.mufom_module.specs.declared.module.Parts.{Parts}
 use Rattle.mufom_place.specs.Facts.{first_some, ◌or_else◌}
 use Rattle.mufom_meaning.specs.Facts.{LinkFact}
@@ -262,28 +260,32 @@ module _ (facts : AllAnswersAreFacts) (grow : LinkFactsGrow) where
     facts = ((λ (f, is). stops_there tree other same ms f is), (λ (f, is). stops_there other tree (sym same) ms f is));
   }
 
-  module _ (c d : Command) (alike : AreAlike c d) (ms : List Parts) where
-    flat_alike : EndAlike (linked (tree_of c.marks) ms) (linked (tree_of d.marks) ms)
-    flat_alike = linked-alike (tree_of c.marks) (tree_of d.marks) alike.roots ms
+  module _ (name : Option (List ℕ)) (ms : List Parts) where
+    joined_there : (tree other : Forest) → EndAlike (linked tree ms) (linked other ms) → (M : Parts)
+        → linked_module tree name ms (gives M) → linked_module other name ms (gives M)
+    joined_there tree other flats M (flat, is, j) = (flat, (flats.values flat).0 is, j)
 
-    joined_there : (c d : Command) → AreAlike c d → EndAlike (linked (tree_of c.marks) ms) (linked (tree_of d.marks) ms) → (M : Parts)
-        → linked_module c ms (gives M) → linked_module d ms (gives M)
-    joined_there c d alike flats M (flat, is, j) = (flat, (flats.values flat).0 is, subst (λ (name : Option (List ℕ)). joined name flat (gives M)) alike.name j)
+    joined_back : (tree other : Forest) → EndAlike (linked tree ms) (linked other ms) → (M : Parts)
+        → linked_module other name ms (gives M) → linked_module tree name ms (gives M)
+    joined_back tree other flats M (flat, is, j) = (flat, (flats.values flat).1 is, j)
 
-    joined_back : (M : Parts) → linked_module d ms (gives M) → linked_module c ms (gives M)
-    joined_back M (flat, is, j) = (flat, (flat_alike.values flat).1 is, subst (λ (name : Option (List ℕ)). joined name flat (gives M)) (sym alike.name) j)
+    facts_there : (tree other : Forest) → EndAlike (linked tree ms) (linked other ms) → StopsAtFact (linked_module tree name ms)
+        → StopsAtFact (linked_module other name ms)
+    facts_there tree other flats (f, inl is) = let (g, found) = flats.facts.0 (f, is) in (g, inl found)
+    facts_there tree other flats (f, inr (flat, is, never)) = absurd never
 
-    facts_there : StopsAtFact (linked_module c ms) → StopsAtFact (linked_module d ms)
-    facts_there (f, inl is) = let (g, found) = flat_alike.facts.0 (f, is) in (g, inl found)
-    facts_there (f, inr (flat, is, never)) = absurd never
+    facts_back : (tree other : Forest) → EndAlike (linked tree ms) (linked other ms) → StopsAtFact (linked_module other name ms)
+        → StopsAtFact (linked_module tree name ms)
+    facts_back tree other flats (f, inl is) = let (g, found) = flats.facts.1 (f, is) in (g, inl found)
+    facts_back tree other flats (f, inr (flat, is, never)) = absurd never
 
-    facts_back : StopsAtFact (linked_module d ms) → StopsAtFact (linked_module c ms)
-    facts_back (f, inl is) = let (g, found) = flat_alike.facts.1 (f, is) in (g, inl found)
-    facts_back (f, inr (flat, is, never)) = absurd never
+    modules-alike : (tree other : Forest) → EndAlike (linked tree ms) (linked other ms)
+        → EndAlike (linked_module tree name ms) (linked_module other name ms)
+    modules-alike tree other flats = record {
+      values = λ M. (joined_there tree other flats M, joined_back tree other flats M);
+      facts = (facts_there tree other flats, facts_back tree other flats);
+    }
 
-    modules-alike : EndAlike (linked_module c ms) (linked_module d ms)
-    modules-alike = record { values = λ M. (joined_there c d alike flat_alike M, joined_back M); facts = (facts_there, facts_back) }
-
-  -- Commands that differ in their brackets come to the same module, and a link fact for both or neither.
+  -- Trees that differ in their groups come to the same module, and a link fact for both or neither.
   pub groups-alike : GroupsMakeNoDifference
-  groups-alike c d alike ms = modules-alike c d alike ms
+  groups-alike tree other name same ms = modules-alike name ms tree other (linked-alike tree other same ms)

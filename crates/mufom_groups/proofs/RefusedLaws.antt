@@ -12,13 +12,11 @@ use Rattle.mufom_meaning.specs.LinkAnswer.{link_answer}
 use Rattle.mufom_meaning.specs.Selection.{IsSelected, member_at, members_at}
 use Rattle.mufom_meaning.specs.Staging.{AreValid}
 use Rattle.mufom_meaning.specs.StagingLaws.{total_weight}
-use Rattle.mufom_words.specs.declared.command.Command.{Command}
-use Rattle.mufom_words.specs.Alike.{flat_list, linked_lists}
 use Rattle.mufom_words.specs.Sound.{numbers_from}
-use Rattle.mufom_words.specs.Tree.{groups, leaves, tree_of}
+use Rattle.mufom_words.specs.Tree.{Forest, groups, leaves}
 use Rattle.mufom_groups.specs.Linked.{IsFlatList, linked, links, members, roots, tree_links, unless_fact}
 use Rattle.mufom_groups.specs.declared.refused.FileRange.{FileRange}
-use Rattle.mufom_groups.specs.Refused.{IsRefusedList, IsTreeOrFlat, files_between, refused_among}
+use Rattle.mufom_groups.specs.Refused.{IsRefusedList, IsTreeOrFlat, files_between, flat_list, linked_lists, refused_among}
 use Rattle.mufom_groups.specs.Work.{gives, stops}
 use Rattle.mufom_groups.proofs.RootsLink.{links-found}
 use Rattle.mufom_groups.proofs.Singles.{flat_list-single}
@@ -77,38 +75,38 @@ refused-facts ms (files ∷ lists) = by (link_answer (members_at ms files)) (ref
   by None later = later
   by (Some f) later = refl
 
--- ---- the lists of a command
+-- ---- the lists of a tree
 
-module _ (c : Command) (ms : List Parts) where
-  own-lists : tree_links (tree_of c.marks) ms ≡ map (members_at ms) (linked_lists c)
-  own-lists = sym (map-append (members_at ms) (groups (tree_of c.marks)) (leaves (tree_of c.marks) ∷ []))
+module _ (tree : Forest) (ms : List Parts) where
+  own-lists : tree_links tree ms ≡ map (members_at ms) (linked_lists tree)
+  own-lists = sym (map-append (members_at ms) (groups tree) (leaves tree ∷ []))
 
-  own-facts : first_some link_answer (tree_links (tree_of c.marks) ms) ≡ option_map (λ p. p.1) (refused_among ms (linked_lists c))
-  own-facts = ap (first_some link_answer) own-lists ∙ refused-facts ms (linked_lists c)
+  own-facts : first_some link_answer (tree_links tree ms) ≡ option_map (λ p. p.1) (refused_among ms (linked_lists tree))
+  own-facts = ap (first_some link_answer) own-lists ∙ refused-facts ms (linked_lists tree)
 
   -- a link fact that ends the links of the tree is that of the first list that is refused
-  pub fact-of-list : (f g : LinkFact) (files : List ℕ) → links (tree_links (tree_of c.marks) ms) (stops f)
-      → refused_among ms (linked_lists c) ≡ Some (files, g) → refused_among ms (linked_lists c) ≡ Some (files, f)
+  pub fact-of-list : (f g : LinkFact) (files : List ℕ) → links (tree_links tree ms) (stops f)
+      → refused_among ms (linked_lists tree) ≡ Some (files, g) → refused_among ms (linked_lists tree) ≡ Some (files, f)
   fact-of-list f g files ends found =
-      by (first_some link_answer (tree_links (tree_of c.marks) ms)) ends (own-facts ∙ ap (λ o. option_map (λ p. p.1) o) found) where
-        by : (o : Option LinkFact) → unless_fact o (stops f) → o ≡ Some g → refused_among ms (linked_lists c) ≡ Some (files, f)
+      by (first_some link_answer (tree_links tree ms)) ends (own-facts ∙ ap (λ o. option_map (λ p. p.1) o) found) where
+        by : (o : Option LinkFact) → unless_fact o (stops f) → o ≡ Some g → refused_among ms (linked_lists tree) ≡ Some (files, f)
         by None ends same = absurd ends
         by (Some h) ends same =
             let is : h ≡ g = cc in
             found ∙ ap (λ (k : LinkFact). Some (with-files files k)) (sym (ends ∙ is))
 
   -- where none ends them none is refused
-  pub links-none : (g : LinkFact) (files : List ℕ) → links (tree_links (tree_of c.marks) ms) (gives tt)
-      → refused_among ms (linked_lists c) ≡ Some (files, g) → ⊥
+  pub links-none : (g : LinkFact) (files : List ℕ) → links (tree_links tree ms) (gives tt)
+      → refused_among ms (linked_lists tree) ≡ Some (files, g) → ⊥
   links-none g files is found =
-      by (first_some link_answer (tree_links (tree_of c.marks) ms)) is (own-facts ∙ ap (λ o. option_map (λ p. p.1) o) found) where
+      by (first_some link_answer (tree_links tree ms)) is (own-facts ∙ ap (λ o. option_map (λ p. p.1) o) found) where
         by : (o : Option LinkFact) → unless_fact o (gives tt) → o ≡ Some g → ⊥
         by None is same = absurd cc
         by (Some h) is same = is
 
   -- where none is refused none ends them
-  pub none-ends : (f : LinkFact) → refused_among ms (linked_lists c) ≡ None → links (tree_links (tree_of c.marks) ms) (stops f) → ⊥
-  none-ends f none ends = by (first_some link_answer (tree_links (tree_of c.marks) ms)) ends (own-facts ∙ ap (λ o. option_map (λ p. p.1) o) none) where
+  pub none-ends : (f : LinkFact) → refused_among ms (linked_lists tree) ≡ None → links (tree_links tree ms) (stops f) → ⊥
+  none-ends f none ends = by (first_some link_answer (tree_links tree ms)) ends (own-facts ∙ ap (λ o. option_map (λ p. p.1) o) none) where
     by : (o : Option LinkFact) → unless_fact o (stops f) → o ≡ None → ⊥
     by None ends same = ends
     by (Some h) ends same = absurd cc
@@ -217,72 +215,71 @@ members-after k ms (n ∷ chosen) = λ i. member_at (get-after k n ms i) ++ memb
 members-append : (ms : List Parts) (a b : List ℕ) → members_at ms (a ++ b) ≡ members_at ms a ++ members_at ms b
 members-append ms a b = flat_map-append (λ n. member_at (slice_get ms n)) a b
 
-module _ (c : Command) (ms : List Parts) (k : ℕ) (count : k ≡ length (leaves (tree_of c.marks))) (numbered : leaves
-    (tree_of c.marks) ≡ numbers_from 0 k) where
-  tree-modules : roots (tree_of c.marks) ms ≡ take k ms
+module _ (tree : Forest) (ms : List Parts) (k : ℕ) (count : k ≡ length (leaves tree)) (numbered : leaves tree ≡ numbers_from 0 k) where
+  tree-modules : roots tree ms ≡ take k ms
   tree-modules = ap (members_at ms) numbered ∙ members-between 0 k ms
 
   -- the first range that is refused
-  pub range-refused : (files : List ℕ) → Some files ≡ option_map (λ p. p.0) (refused_among ms (groups (tree_of c.marks)))
-      → (f : LinkFact) → linked (tree_of c.marks) ms (stops f) → IsRefusedList c ms files f
-  range-refused files found f ends = by (refused_among ms (groups (tree_of c.marks))) refl found where
-    by : (o : Option (List ℕ × LinkFact)) → refused_among ms (groups (tree_of c.marks)) ≡ o → Some files ≡ option_map (λ p. p.0) o
-        → IsRefusedList c ms files f
+  pub range-refused : (files : List ℕ) → Some files ≡ option_map (λ p. p.0) (refused_among ms (groups tree))
+      → (f : LinkFact) → linked tree ms (stops f) → IsRefusedList tree ms files f
+  range-refused files found f ends = by (refused_among ms (groups tree)) refl found where
+    by : (o : Option (List ℕ × LinkFact)) → refused_among ms (groups tree) ≡ o → Some files ≡ option_map (λ p. p.0) o
+        → IsRefusedList tree ms files f
     by None is found = absurd cc
     by (Some p) is found =
         let same : p.0 ≡ files = cc in
-        let all : refused_among ms (linked_lists c) ≡ Some p = refused-before ms (groups (tree_of c.marks)) (leaves (tree_of c.marks) ∷ []) p is in
-        let own : refused_among ms (linked_lists c) ≡ Some (files, p.1) = all ∙ ap (λ (l : List ℕ). Some (with-files l p.1)) same in
+        let all : refused_among ms (linked_lists tree) ≡ Some p = refused-before ms (groups tree) (leaves tree ∷ []) p is in
+        let own : refused_among ms (linked_lists tree) ≡ Some (files, p.1) = all ∙ ap (λ (l : List ℕ). Some (with-files l p.1)) same in
         inl (of-ends ends own) where
-          of-ends : linked (tree_of c.marks) ms (stops f) → refused_among ms (linked_lists c) ≡ Some (files, p.1)
-              → refused_among ms (linked_lists c) ≡ Some (files, f)
-          of-ends (inl first) own = fact-of-list c ms f p.1 files first own
+          of-ends : linked tree ms (stops f) → refused_among ms (linked_lists tree) ≡ Some (files, p.1)
+              → refused_among ms (linked_lists tree) ≡ Some (files, f)
+          of-ends (inl first) own = fact-of-list tree ms f p.1 files first own
           of-ends (inr (_, gives_on, later)) own = absurd (goes-on gives_on own) where
-            goes-on : links (tree_links (tree_of c.marks) ms) (gives tt) → refused_among ms (linked_lists c) ≡ Some (files, p.1) → ⊥
-            goes-on is own = links-none c ms p.1 files is own
+            goes-on : links (tree_links tree ms) (gives tt) → refused_among ms (linked_lists tree) ≡ Some (files, p.1) → ⊥
+            goes-on is own = links-none tree ms p.1 files is own
 
   -- no range is refused
-  pub others-refused : refused_among ms (groups (tree_of c.marks)) ≡ None → (files : List ℕ) → IsTreeOrFlat k ms files
-      → (f : LinkFact) → linked (tree_of c.marks) ms (stops f) → IsRefusedList c ms files f
-  others-refused none files (inl (refused, are)) f ends = by (link_answer (members_at ms (leaves (tree_of c.marks)))) refl
+  pub others-refused : refused_among ms (groups tree) ≡ None → (files : List ℕ) → IsTreeOrFlat k ms files
+      → (f : LinkFact) → linked tree ms (stops f) → IsRefusedList tree ms files f
+  others-refused none files (inl (refused, are)) f ends = by (link_answer (members_at ms (leaves tree))) refl
       (subst (λ (l : List Parts). IsSome (link_answer l)) (sym tree-modules) refused) where
-        by : (o : Option LinkFact) → link_answer (members_at ms (leaves (tree_of c.marks))) ≡ o → IsSome o → IsRefusedList c ms files f
+        by : (o : Option LinkFact) → link_answer (members_at ms (leaves tree)) ≡ o → IsSome o → IsRefusedList tree ms files f
         by None is some = absurd cc
         by (Some g) is some =
-            let own : refused_among ms (linked_lists c) ≡ Some (files, g)
-            = refused-after ms (groups (tree_of c.marks)) (leaves (tree_of c.marks) ∷ []) none
-            ∙ refused-first ms (leaves (tree_of c.marks)) [] g is ∙ ap (λ (l : List ℕ). Some (with-files l g)) (numbered ∙ sym are) in
+            let own : refused_among ms (linked_lists tree) ≡ Some (files, g)
+            = refused-after ms (groups tree) (leaves tree ∷ []) none
+            ∙ refused-first ms (leaves tree) [] g is ∙ ap (λ (l : List ℕ). Some (with-files l g)) (numbered ∙ sym are) in
             of-ends ends own where
-              of-ends : linked (tree_of c.marks) ms (stops f) → refused_among ms (linked_lists c) ≡ Some (files, g) → IsRefusedList c ms files f
-              of-ends (inl first) own = inl (fact-of-list c ms f g files first own)
-              of-ends (inr (_, gives_on, later)) own = absurd (links-none c ms g files gives_on own)
+              of-ends : linked tree ms (stops f) → refused_among ms (linked_lists tree) ≡ Some (files, g) → IsRefusedList tree ms files f
+              of-ends (inl first) own = inl (fact-of-list tree ms f g files first own)
+              of-ends (inr (_, gives_on, later)) own = absurd (links-none tree ms g files gives_on own)
   others-refused none files (inr (fine, (chosen, selected, are))) f ends = of-ends ends where
-    all-fine : refused_among ms (linked_lists c) ≡ None
+    all-fine : refused_among ms (linked_lists tree) ≡ None
     all-fine =
-        refused-after ms (groups (tree_of c.marks)) (leaves (tree_of c.marks) ∷ []) none
-        ∙ refused-later ms (leaves (tree_of c.marks)) [] (ap link_answer tree-modules ∙ fine)
+        refused-after ms (groups tree) (leaves tree ∷ []) none
+        ∙ refused-later ms (leaves tree) [] (ap link_answer tree-modules ∙ fine)
 
-    own-selected : IsSelected (roots (tree_of c.marks) ms) (members (tree_of c.marks) ms) chosen
-    own-selected = subst (λ (n : ℕ). IsSelected (roots (tree_of c.marks) ms) (drop n ms) chosen) count
+    own-selected : IsSelected (roots tree ms) (members tree ms) chosen
+    own-selected = subst (λ (n : ℕ). IsSelected (roots tree ms) (drop n ms) chosen) count
         (subst (λ (l : List Parts). IsSelected l (drop k ms) chosen) (sym tree-modules) selected)
 
-    own-files : files ≡ flat_list c chosen
+    own-files : files ≡ flat_list tree chosen
     own-files = are ∙ (λ i. sym numbered i ++ map (λ member. count i + member) chosen)
 
-    own-modules : members_at ms files ≡ roots (tree_of c.marks) ms ++ members_at (members (tree_of c.marks) ms) chosen
+    own-modules : members_at ms files ≡ roots tree ms ++ members_at (members tree ms) chosen
     own-modules =
         ap (members_at ms) own-files
-        ∙ members-append ms (leaves (tree_of c.marks)) (map (λ member. length (leaves (tree_of c.marks)) + member) chosen)
-        ∙ ap (λ (l : List Parts). roots (tree_of c.marks) ms ++ l) (members-after (length (leaves (tree_of c.marks))) ms chosen)
+        ∙ members-append ms (leaves tree) (map (λ member. length (leaves tree) + member) chosen)
+        ∙ ap (λ (l : List Parts). roots tree ms ++ l) (members-after (length (leaves tree)) ms chosen)
 
-    flat-refused : IsFlatList (tree_of c.marks) ms (members_at ms files)
+    flat-refused : IsFlatList tree ms (members_at ms files)
     flat-refused = (chosen, own-selected, own-modules)
 
-    of-ends : linked (tree_of c.marks) ms (stops f) → IsRefusedList c ms files f
-    of-ends (inl first) = absurd (none-ends c ms f all-fine first)
+    of-ends : linked tree ms (stops f) → IsRefusedList tree ms files f
+    of-ends (inl first) = absurd (none-ends tree ms f all-fine first)
     of-ends (inr (_, gives_on, inl never)) = absurd never
     of-ends (inr (_, gives_on, inr (flat, is_flat, inl stopped))) =
-        let same : flat ≡ members_at ms files = flat_list-single (tree_of c.marks) ms flat (members_at ms files) is_flat flat-refused in
+        let same : flat ≡ members_at ms files = flat_list-single tree ms flat (members_at ms files) is_flat flat-refused in
         let fact : link_answer (members_at ms files) ≡ Some f = ap link_answer (sym same) ∙ one-fact flat f (links-found (flat ∷ []) f stopped) in
         inr (all-fine, record { chosen = chosen; selected = own-selected; are = own-files; fact = fact })
     of-ends (inr (_, gives_on, inr (flat, is_flat, inr (_, on, never)))) = absurd never

@@ -1,7 +1,6 @@
--- The link of a command's modules comes to one module, or to one link fact, at most.
+-- The link of modules comes to one module, or to one link fact, at most.
 use Rattle.std.proofs.Common.{◌≡◌, ℕ, List, [], ◌∷◌, ◌++◌, Option, Some, None, unwrap_or, sym, ap, ◌∙◌}
-use Rattle.mufom_words.specs.declared.command.Command.{Command}
-use Rattle.mufom_words.specs.Tree.{Forest, tree_of}
+use Rattle.mufom_words.specs.Tree.{Forest}
 use Rattle.mufom_module.specs.declared.module.Parts.{Parts}
 use Rattle.mufom_place.specs.Facts.{first_some}
 use Rattle.mufom_meaning.specs.Facts.{LinkFact}
@@ -37,6 +36,6 @@ linked-single tree ms =
 pub joined-single : (name : Option (List ℕ)) (ms : List Parts) → IsSingle (joined name ms)
 joined-single name ms = one_with-single (λ M. IsJoined M ms (unwrap_or name (first_name ms))) (λ M N. joined_is_single M N ms (unwrap_or name (first_name ms)))
 
-pub linked_module-single : (c : Command) (ms : List Parts) → IsSingle (linked_module c ms)
-linked_module-single c ms = then-single (linked (tree_of c.marks) ms) (λ flat. joined c.name flat) (linked-single (tree_of c.marks) ms)
-    (λ flat. joined-single c.name flat)
+pub linked_module-single : (tree : Forest) (name : Option (List ℕ)) (ms : List Parts) → IsSingle (linked_module tree name ms)
+linked_module-single tree name ms = then-single (linked tree ms) (λ flat. joined name flat) (linked-single tree ms)
+    (λ flat. joined-single name flat)

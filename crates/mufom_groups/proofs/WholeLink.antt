@@ -1,5 +1,5 @@
--- The link of a command's modules, from its roots to the selected members.
-use Rattle.std.proofs.Common.{◌≡◌, ℕ, zero, suc, ◌+◌, ◌≤◌, ◌<◌, List, [], ◌∷◌, ◌++◌, length, map, take, Some, None, unwrap_or, inl, inr, refl, sym}
+-- The link of the modules of a tree, from its roots to the selected members.
+use Rattle.std.proofs.Common.{◌≡◌, ℕ, zero, suc, ◌+◌, ◌≤◌, ◌<◌, List, [], ◌∷◌, ◌++◌, length, map, take, Option, Some, None, unwrap_or, inl, inr, refl, sym}
 use Rattle.std.proofs.Common.{◌∙◌, ap, subst, append-nil, arith}
 use Rattle.std.specs.Prelude.{slice_get}
 use Rattle.std.proofs.lemmas.List.{length-take-le, map-append}
@@ -14,7 +14,7 @@ use Rattle.mufom_meaning.specs.Selection.{IsSelected, members_at, member_at}
 use Rattle.mufom_meaning.specs.Staging.{AreValid}
 use Rattle.mufom_meaning.specs.StagingLaws.{IsLinkOrItself, a_link, itself}
 use Rattle.mufom_meaning.proofs.staging.Selected.{selection_agrees}
-use Rattle.mufom_words.specs.declared.command.Command.{Command}
+use Rattle.mufom_words.specs.declared.command.Mark.{Mark}
 use Rattle.mufom_words.specs.Sound.{HasTree, numbers_from}
 use Rattle.mufom_words.specs.Tree.{Forest, empty, file, group, groups, leaves, tree_of}
 use Rattle.mufom_groups.specs.Work.{gives, stops}
@@ -75,67 +75,67 @@ selected-there _ _ others chosen (a_link R own name j none) is =
 
 -- ---- how many files the tree has
 
-pub files-of-marks : (c : Command) → HasTree c → files_of c.marks ≡ leaves (tree_of c.marks)
-files-of-marks c tree = ap files_of (sym tree.spelled) ∙ all-files (tree_of c.marks)
+pub files-of-marks : (own : List Mark) (size : ℕ) → HasTree own size → files_of own ≡ leaves (tree_of own)
+files-of-marks own size tree = ap files_of (sym tree.spelled) ∙ all-files (tree_of own)
 
-pub roots-numbered : (c : Command) → HasTree c → (ms rs : List Parts) (count : ℕ) → length ms ≡ length c.files → count
-    ≡ length (leaves (tree_of c.marks)) → rs ≡ take count ms
-    → leaves (tree_of c.marks) ≡ numbers_from 0 (length rs)
-roots-numbered c tree ms rs count size is_count is_roots =
+pub roots-numbered : (own : List Mark) (ms rs : List Parts) (count : ℕ) → HasTree own (length ms) → count
+    ≡ length (leaves (tree_of own)) → rs ≡ take count ms
+    → leaves (tree_of own) ≡ numbers_from 0 (length rs)
+roots-numbered own ms rs count tree is_count is_roots =
     let within = tree.within in
-    let all = length-take-le count ms (omega (arith, within, size, is_count)) in
-    let same : length (leaves (tree_of c.marks)) ≡ length rs = sym is_count ∙ sym all ∙ sym (ap (λ (l : List Parts). length l) is_roots) in
+    let all = length-take-le count ms (omega (arith, within, is_count)) in
+    let same : length (leaves (tree_of own)) ≡ length rs = sym is_count ∙ sym all ∙ sym (ap (λ (l : List Parts). length l) is_roots) in
     tree.numbered ∙ ap (numbers_from 0) same
 
 -- ---- the parts of the work, one after another
 
-module _ (c : Command) (ms : List Parts) (valid : AreValid ms) (k : ℕ) (numbered : leaves (tree_of c.marks) ≡ numbers_from 0 k) where
-  below : Below k (leaves (tree_of c.marks))
+module _ (own : List Mark) (given : Option (List ℕ)) (ms : List Parts) (valid : AreValid ms) (k : ℕ) (numbered : leaves (tree_of own) ≡ numbers_from 0 k) where
+  below : Below k (leaves (tree_of own))
   below = subst (Below k) (sym numbered) (below-numbers 0 k k (omega arith))
 
-  same-roots : roots (tree_of c.marks) (take k ms) ≡ roots (tree_of c.marks) ms
-  same-roots = members-of-take k (leaves (tree_of c.marks)) ms below
+  same-roots : roots (tree_of own) (take k ms) ≡ roots (tree_of own) ms
+  same-roots = members-of-take k (leaves (tree_of own)) ms below
 
-  same-links : tree_links (tree_of c.marks) (take k ms) ≡ tree_links (tree_of c.marks) ms
-  same-links = λ i. groups-of-take k ms (tree_of c.marks) below i ++ same-roots i ∷ []
+  same-links : tree_links (tree_of own) (take k ms) ≡ tree_links (tree_of own) ms
+  same-links = λ i. groups-of-take k ms (tree_of own) below i ++ same-roots i ∷ []
 
   -- a link fact stands against a list before that of the members
-  pub first-refused : (e : LinkRefusal) → StopsWork (links (tree_links (tree_of c.marks) (take k ms))) e → StopsWork (linked_module c ms) e
-  first-refused e refused = stops-map (links (tree_links (tree_of c.marks) (take k ms))) (linked_module c ms)
+  pub first-refused : (e : LinkRefusal) → StopsWork (links (tree_links (tree_of own) (take k ms))) e → StopsWork (linked_module (tree_of own) given ms) e
+  first-refused e refused = stops-map (links (tree_links (tree_of own) (take k ms))) (linked_module (tree_of own) given ms)
       (λ f ends. inl (inl (subst (λ (lists : List (List Parts)). links lists (stops f)) same-links ends))) e refused
 
   -- the roots were linked, and members selected for them
-  module _ (two flat : List Parts) (first : AreRootsLinked c.marks (take k ms) two) (has : HasSelected two (members (tree_of c.marks) ms) flat) where
-    roots-link : IsInPlaceOf first.link (roots (tree_of c.marks) ms)
+  module _ (two flat : List Parts) (first : AreRootsLinked own (take k ms) two) (has : HasSelected two (members (tree_of own) ms) flat) where
+    roots-link : IsInPlaceOf first.link (roots (tree_of own) ms)
     roots-link = subst (λ (l : List Parts). IsInPlaceOf first.link l) same-roots first.in_place
 
-    members-valid : AreValid (members_at (members (tree_of c.marks) ms) has.chosen)
-    members-valid = valid-members (members (tree_of c.marks) ms) has.chosen (valid-drop (length (leaves (tree_of c.marks))) ms valid)
+    members-valid : AreValid (members_at (members (tree_of own) ms) has.chosen)
+    members-valid = valid-members (members (tree_of own) ms) has.chosen (valid-drop (length (leaves (tree_of own))) ms valid)
 
     -- what the list of the roots' link and the members stands for
-    flat-placed : AreInPlaceOf flat (roots (tree_of c.marks) ms ∷ each-alone (members_at (members (tree_of c.marks) ms) has.chosen))
+    flat-placed : AreInPlaceOf flat (roots (tree_of own) ms ∷ each-alone (members_at (members (tree_of own) ms) has.chosen))
     flat-placed =
-        let same : flat ≡ first.link ∷ members_at (members (tree_of c.marks) ms) has.chosen
-        = has.flat_list ∙ ap (λ (l : List Parts). l ++ members_at (members (tree_of c.marks) ms) has.chosen) first.new_list in
-        subst (λ (l : List Parts). AreInPlaceOf l (roots (tree_of c.marks) ms ∷ each-alone (members_at (members (tree_of c.marks) ms) has.chosen))) (sym same)
-        (roots-link, alone-in-place (members_at (members (tree_of c.marks) ms) has.chosen) members-valid)
+        let same : flat ≡ first.link ∷ members_at (members (tree_of own) ms) has.chosen
+        = has.flat_list ∙ ap (λ (l : List Parts). l ++ members_at (members (tree_of own) ms) has.chosen) first.new_list in
+        subst (λ (l : List Parts). AreInPlaceOf l (roots (tree_of own) ms ∷ each-alone (members_at (members (tree_of own) ms) has.chosen))) (sym same)
+        (roots-link, alone-in-place (members_at (members (tree_of own) ms) has.chosen) members-valid)
 
-    flat-all : all_of (roots (tree_of c.marks) ms ∷ each-alone (members_at (members (tree_of c.marks) ms) has.chosen)) ≡ roots (tree_of c.marks) ms
-        ++ members_at (members (tree_of c.marks) ms) has.chosen
-    flat-all = ap (λ (l : List Parts). roots (tree_of c.marks) ms ++ l) (all-alone (members_at (members (tree_of c.marks) ms) has.chosen))
+    flat-all : all_of (roots (tree_of own) ms ∷ each-alone (members_at (members (tree_of own) ms) has.chosen)) ≡ roots (tree_of own) ms
+        ++ members_at (members (tree_of own) ms) has.chosen
+    flat-all = ap (λ (l : List Parts). roots (tree_of own) ms ++ l) (all-alone (members_at (members (tree_of own) ms) has.chosen))
 
-    flat-valid : AreValid (all_of (roots (tree_of c.marks) ms ∷ each-alone (members_at (members (tree_of c.marks) ms) has.chosen)))
+    flat-valid : AreValid (all_of (roots (tree_of own) ms ∷ each-alone (members_at (members (tree_of own) ms) has.chosen)))
     flat-valid = subst AreValid (sym flat-all)
-        (valid-append (roots (tree_of c.marks) ms) (members_at (members (tree_of c.marks) ms) has.chosen)
-        (valid-members ms (leaves (tree_of c.marks)) valid) members-valid)
+        (valid-append (roots (tree_of own) ms) (members_at (members (tree_of own) ms) has.chosen)
+        (valid-members ms (leaves (tree_of own)) valid) members-valid)
 
     -- what is selected for the link of the roots is selected for the roots
-    pub selected-flat : (chosen : List ℕ) → IsSelected two (members (tree_of c.marks) ms) chosen
-        → IsSelected (roots (tree_of c.marks) ms) (members (tree_of c.marks) ms) chosen
-    selected-flat chosen selected = selected-there first.link (roots (tree_of c.marks) ms) (members (tree_of c.marks) ms) chosen roots-link.link
-        (subst (λ (l : List Parts). IsSelected l (members (tree_of c.marks) ms) chosen) first.new_list selected)
+    pub selected-flat : (chosen : List ℕ) → IsSelected two (members (tree_of own) ms) chosen
+        → IsSelected (roots (tree_of own) ms) (members (tree_of own) ms) chosen
+    selected-flat chosen selected = selected-there first.link (roots (tree_of own) ms) (members (tree_of own) ms) chosen roots-link.link
+        (subst (λ (l : List Parts). IsSelected l (members (tree_of own) ms) chosen) first.new_list selected)
 
-    is-flat : IsFlatList (tree_of c.marks) ms (roots (tree_of c.marks) ms ++ members_at (members (tree_of c.marks) ms) has.chosen)
+    is-flat : IsFlatList (tree_of own) ms (roots (tree_of own) ms ++ members_at (members (tree_of own) ms) has.chosen)
     is-flat = (
       has.chosen,
       selected-flat has.chosen has.selected,
@@ -143,33 +143,33 @@ module _ (c : Command) (ms : List Parts) (valid : AreValid ms) (k : ℕ) (number
     )
 
     -- the links before that of the flat list
-    first-links : links (tree_links (tree_of c.marks) ms) (gives tt)
-    first-links = links-give (tree_links (tree_of c.marks) ms) (ap (first_some link_answer) (sym same-links) ∙ first.linkable)
+    first-links : links (tree_links (tree_of own) ms) (gives tt)
+    first-links = links-give (tree_links (tree_of own) ms) (ap (first_some link_answer) (sym same-links) ∙ first.linkable)
 
-    flat-answer : link_answer flat ≡ link_answer (roots (tree_of c.marks) ms ++ members_at (members (tree_of c.marks) ms) has.chosen)
-    flat-answer = same-answer flat (roots (tree_of c.marks) ms ∷ each-alone (members_at (members (tree_of c.marks) ms) has.chosen)) flat-placed
+    flat-answer : link_answer flat ≡ link_answer (roots (tree_of own) ms ++ members_at (members (tree_of own) ms) has.chosen)
+    flat-answer = same-answer flat (roots (tree_of own) ms ∷ each-alone (members_at (members (tree_of own) ms) has.chosen)) flat-placed
         ∙ ap link_answer flat-all
 
     -- a link fact stands against the flat list
-    pub flat-refused : (e : LinkRefusal) → IsRefusalOf flat e → StopsWork (linked_module c ms) e
-    flat-refused e refused = refused-stops (linked_module c ms) flat e leads refused where
-      leads : (f : LinkFact) → link_answer flat ≡ Some f → linked_module c ms (stops f)
+    pub flat-refused : (e : LinkRefusal) → IsRefusalOf flat e → StopsWork (linked_module (tree_of own) given ms) e
+    flat-refused e refused = refused-stops (linked_module (tree_of own) given ms) flat e leads refused where
+      leads : (f : LinkFact) → link_answer flat ≡ Some f → linked_module (tree_of own) given ms (stops f)
       leads f found =
-          let list : List Parts = roots (tree_of c.marks) ms ++ members_at (members (tree_of c.marks) ms) has.chosen in
+          let list : List Parts = roots (tree_of own) ms ++ members_at (members (tree_of own) ms) has.chosen in
           let own : link_answer list ≡ Some f = sym flat-answer ∙ found in
           inl (inr (tt, first-links, inr (list, is-flat, inl (links-stop (list ∷ []) f (first-found list [] f own)))))
 
     -- the flat list is linked
-    pub flat-linked : (N : Parts) → link_answer flat ≡ None → IsJoined N flat (unwrap_or c.name (first_name flat)) → linked_module c ms (gives N)
+    pub flat-linked : (N : Parts) → link_answer flat ≡ None → IsJoined N flat (unwrap_or given (first_name flat)) → linked_module (tree_of own) given ms (gives N)
     flat-linked N none j =
-        let list : List Parts = roots (tree_of c.marks) ms ++ members_at (members (tree_of c.marks) ms) has.chosen in
-        let parts : List (List Parts) = roots (tree_of c.marks) ms ∷ each-alone (members_at (members (tree_of c.marks) ms) has.chosen) in
+        let list : List Parts = roots (tree_of own) ms ++ members_at (members (tree_of own) ms) has.chosen in
+        let parts : List (List Parts) = roots (tree_of own) ms ∷ each-alone (members_at (members (tree_of own) ms) has.chosen) in
         let own : link_answer list ≡ None = sym flat-answer ∙ none in
         let first_same : first_name flat ≡ first_name list = first-of-all flat parts flat-placed N flat-valid none ∙ ap first_name flat-all in
-        let all : IsJoined N list (unwrap_or c.name (first_name flat))
-        = subst (λ (l : List Parts). IsJoined N l (unwrap_or c.name (first_name flat))) flat-all
-        (joined-of-all flat parts flat-placed N flat-valid none (unwrap_or c.name (first_name flat)) j) in (
+        let all : IsJoined N list (unwrap_or given (first_name flat))
+        = subst (λ (l : List Parts). IsJoined N l (unwrap_or given (first_name flat))) flat-all
+        (joined-of-all flat parts flat-placed N flat-valid none (unwrap_or given (first_name flat)) j) in (
           list,
           (tt, first-links, (list, is-flat, (tt, links-give (list ∷ []) (first-none list [] own), refl))),
-          subst (λ (name : List ℕ). IsJoined N list (unwrap_or c.name name)) first_same all,
+          subst (λ (name : List ℕ). IsJoined N list (unwrap_or given name)) first_same all,
         )

@@ -1,9 +1,7 @@
 -- Laws about linking in groups.
-use Rattle.std.specs.Prelude.{◌≡◌, ◌↔◌, List, None}
+use Rattle.std.specs.Prelude.{◌≡◌, ◌↔◌, ℕ, List, Option, None}
 use Rattle.mufom_module.specs.declared.module.Parts.{Parts}
-use Rattle.mufom_words.specs.declared.command.Command.{Command}
-use Rattle.mufom_words.specs.Alike.{AreAlike}
-use Rattle.mufom_words.specs.Tree.{Forest, tree_of}
+use Rattle.mufom_words.specs.Tree.{Forest, leaves}
 use Rattle.mufom_meaning.specs.Facts.{LinkFact}
 use Rattle.mufom_meaning.specs.LinkAnswer.{link_answer}
 use Rattle.mufom_meaning.specs.Staging.{AreValid, HasSettledReferences, StandsFor}
@@ -28,21 +26,25 @@ pub record EndAlike {A : Type 0} (first second : Work LinkFact A) : Type 0 where
   pub values : (a : A) → first (gives a) ↔ second (gives a)
   pub facts : StopsAtFact first ↔ StopsAtFact second
 
--- Commands that differ only in their brackets link any modules into the same module, or both end with a link error.
+-- Trees with the same files, whatever their groups, link any modules into the same module, or both end with a link error.
 abbrev pub GroupsMakeNoDifference : Type 0
-GroupsMakeNoDifference = (c d : Command) → AreAlike c d → (ms : List Parts) → EndAlike (linked_module c ms) (linked_module d ms)
+GroupsMakeNoDifference =
+    (tree other : Forest) (name : Option (List ℕ)) → leaves tree ≡ leaves other → (ms : List Parts)
+    → EndAlike (linked_module tree name ms) (linked_module other name ms)
 
--- The modules of a command are linked into at most one module, or end with at most one link error.
+-- Modules are linked into at most one module, or end with at most one link error.
 abbrev pub LinksAreSingle : Type 0
-LinksAreSingle = (c : Command) (ms : List Parts) → IsSingle (linked_module c ms)
+LinksAreSingle = (tree : Forest) (name : Option (List ℕ)) (ms : List Parts) → IsSingle (linked_module tree name ms)
 
 -- The module can replace the flat list of the modules, in every context.
-pub record StandsForFlat (c : Command) (ms : List Parts) (M : Parts) : Type 0 where
+pub record StandsForFlat (tree : Forest) (ms : List Parts) (M : Parts) : Type 0 where
   pub flat : List Parts
-  pub is_flat : IsFlatList (tree_of c.marks) ms flat
+  pub is_flat : IsFlatList tree ms flat
   pub stands : StandsFor M flat
   pub settled : HasSettledReferences M
 
 -- The module into which modules without a defect are linked can replace their flat list.
 abbrev pub LinksStandForFlat : Type 0
-LinksStandForFlat = (c : Command) (ms : List Parts) (M : Parts) → AreValid ms → linked_module c ms (gives M) → StandsForFlat c ms M
+LinksStandForFlat =
+    (tree : Forest) (name : Option (List ℕ)) (ms : List Parts) (M : Parts) → AreValid ms → linked_module tree name ms (gives M)
+    → StandsForFlat tree ms M

@@ -1,4 +1,4 @@
--- The list of modules that a command links: those of its tree, followed by the members that are selected for them.
+-- The list of modules that are linked: those of a tree of files, followed by the members that are selected for them.
 use Rattle.std.specs.Prelude.{◌≡◌, ℕ, List, [], ◌∷◌, ◌++◌, length, drop, map, Option, Some, None, unwrap_or}
 use Rattle.mufom_module.specs.declared.module.Parts.{Parts}
 use Rattle.mufom_place.specs.Facts.{first_some}
@@ -6,8 +6,7 @@ use Rattle.mufom_meaning.specs.Facts.{LinkFact}
 use Rattle.mufom_meaning.specs.Joined.{IsJoined}
 use Rattle.mufom_meaning.specs.LinkAnswer.{link_answer}
 use Rattle.mufom_meaning.specs.Selection.{IsSelected, members_at}
-use Rattle.mufom_words.specs.declared.command.Command.{Command}
-use Rattle.mufom_words.specs.Tree.{Forest, leaves, groups, tree_of}
+use Rattle.mufom_words.specs.Tree.{Forest, leaves, groups}
 use Rattle.mufom_groups.specs.Work.{Work, goes_on, sure, one_with, stop_at, ◌>>=◌}
 
 -- the modules of the tree, in the order of the arguments
@@ -52,8 +51,8 @@ first_name (m ∷ ms) = m.name
 abbrev pub joined : Option (List ℕ) → List Parts → Work LinkFact Parts
 joined name ms = one_with (λ M. IsJoined M ms (unwrap_or name (first_name ms)))
 
--- The module into which the modules of a command are linked.
-abbrev pub linked_module : Command → List Parts → Work LinkFact Parts
-linked_module c ms = do
-  flat ← linked (tree_of c.marks) ms
-  joined c.name flat
+-- The module into which the modules of the tree and the selected members are linked, under the given name or that of the first module.
+abbrev pub linked_module : Forest → Option (List ℕ) → List Parts → Work LinkFact Parts
+linked_module tree name ms = do
+  flat ← linked tree ms
+  joined name flat

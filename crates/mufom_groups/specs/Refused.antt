@@ -1,16 +1,14 @@
--- The files of the first list that a command links and that cannot be linked.
+-- The files of the first list that is linked and that cannot be linked.
 use Rattle.std.specs.Prelude.{◌≡◌, ◌⊎◌, ℕ, ◌+◌, ◌-◌, List, [], ◌∷◌, ◌++◌, drop, length, map, take, Option, Some, None, option_map, IsSome}
 use Rattle.mufom_module.specs.declared.module.Parts.{Parts}
 use Rattle.mufom_place.specs.Facts.{first_some}
 use Rattle.mufom_meaning.specs.Facts.{LinkFact}
 use Rattle.mufom_meaning.specs.LinkAnswer.{link_answer}
 use Rattle.mufom_meaning.specs.Selection.{IsSelected, members_at}
-use Rattle.mufom_words.specs.declared.command.Command.{Command}
 use Rattle.mufom_words.specs.declared.command.Mark.{Mark}
 use Rattle.mufom_words.specs.declared.command.Mark.TheVariants.{Open, Close, File}
-use Rattle.mufom_words.specs.Alike.{flat_list, linked_lists}
 use Rattle.mufom_words.specs.Sound.{numbers_from}
-use Rattle.mufom_words.specs.Tree.{tree_of}
+use Rattle.mufom_words.specs.Tree.{Forest, groups, leaves}
 use Rattle.mufom_groups.specs.declared.refused.FileRange.{FileRange}
 use Rattle.mufom_groups.specs.Groups.{last_of}
 use Rattle.mufom_groups.specs.Linked.{members, roots}
@@ -19,19 +17,28 @@ use Rattle.mufom_groups.specs.Linked.{members, roots}
 abbrev pub refused_among : List Parts → List (List ℕ) → Option (List ℕ × LinkFact)
 refused_among ms lists = first_some (λ files. option_map (λ f. (files, f)) (link_answer (members_at ms files))) lists
 
+-- The lists of files that are linked before members are selected: each group, in the order of the closing brackets, and then the tree.
+abbrev pub linked_lists : Forest → List (List ℕ)
+linked_lists tree = groups tree ++ leaves tree ∷ []
+
+-- The files of the flat list, if these members are selected: those of the tree, followed by the members in their order. The members are the files
+-- after those of the tree.
+abbrev pub flat_list : Forest → List ℕ → List ℕ
+flat_list tree selected = leaves tree ++ map (λ member. length (leaves tree) + member) selected
+
 -- The files of the flat list, which cannot be linked because of this error.
-pub record IsRefusedFlatList (c : Command) (ms : List Parts) (files : List ℕ) (f : LinkFact) : Type 0 where
+pub record IsRefusedFlatList (tree : Forest) (ms : List Parts) (files : List ℕ) (f : LinkFact) : Type 0 where
   pub chosen : List ℕ
-  pub selected : IsSelected (roots (tree_of c.marks) ms) (members (tree_of c.marks) ms) chosen
-  pub are : files ≡ flat_list c chosen
+  pub selected : IsSelected (roots tree ms) (members tree ms) chosen
+  pub are : files ≡ flat_list tree chosen
   pub fact : link_answer (members_at ms files) ≡ Some f
 
 -- The files of the first list that cannot be linked, with its error: the first group that cannot be linked, in the order of the closing brackets;
 -- otherwise all files of the tree; otherwise those of the flat list.
-abbrev pub IsRefusedList : Command → List Parts → List ℕ → LinkFact → Type 0
-IsRefusedList c ms files f =
-    (refused_among ms (linked_lists c) ≡ Some (files, f))
-    ⊎ ((refused_among ms (linked_lists c) ≡ None) × IsRefusedFlatList c ms files f)
+abbrev pub IsRefusedList : Forest → List Parts → List ℕ → LinkFact → Type 0
+IsRefusedList tree ms files f =
+    (refused_among ms (linked_lists tree) ≡ Some (files, f))
+    ⊎ ((refused_among ms (linked_lists tree) ≡ None) × IsRefusedFlatList tree ms files f)
 
 -- the numbers of the files of a range
 abbrev pub files_between : FileRange → List ℕ

@@ -2,8 +2,8 @@
 
 ghost use Rattle.mufom_groups.specs.Laws.{GroupsMakeNoDifference, LinkFactsStand, LinkedIsFlat, LinksAreSingle, LinksStandForFlat};
 
-/// Commands that differ only in their brackets link any modules into the same module, or both fail with a
-/// link error.
+/// Trees with the same files, whatever their groups, link any modules into the same module, or both fail with
+/// a link error.
 pub fn groups_make_no_difference()
     ensures { GroupsMakeNoDifference }
 {}
@@ -18,7 +18,7 @@ pub fn link_facts_stand()
     ensures { LinkFactsStand }
 {}
 
-/// The modules of a command have at most one result: one module, or one link error.
+/// The modules of a tree have at most one result: one module, or one link error.
 pub fn links_are_single()
     ensures { LinksAreSingle }
 {}

@@ -1,4 +1,4 @@
-//! Links the modules of a command: its groups, from the inside out, and the members that its roots need.
+//! Links the modules of a tree of files: its groups, from the inside out, and the members that its roots need.
 //!
 //! [`link_modules`] links each group when its bracket closes, then the roots, selects members for them, and
 //! links the roots with the members. Its main clause is that the module that it returns is the link of the

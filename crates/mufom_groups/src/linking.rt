@@ -1,4 +1,4 @@
-//! Links the modules of a command: each group when its bracket closes, then the roots, and then the roots
+//! Links the modules of a tree of files: each group when its bracket closes, then the roots, and then the roots
 //! with the members that are selected for them.
 
 ghost use Rattle.std.specs.Prelude.{◌≡◌, ◌+◌, ◌++◌, ◌<◌, ◌≤◌, ◌^◌, [], ◌∷◌, length, map, take, drop, slice_get, unwrap_or, None, IfOk, IfErr, IfSome, OnOk};
@@ -23,7 +23,7 @@ use mufom_link::{LinkRefusal, link_owned};
 use mufom_module::Module;
 use mufom_numbers::{Bytes, List};
 use mufom_select::select;
-use mufom_words::{Command, Mark};
+use mufom_words::Mark;
 use std::alloc::Global;
 use std::vec::IntoIter;
 
@@ -264,18 +264,18 @@ fn link_unnamed(alloc: Global, flat: Vec<Module>) -> Result<Module, LinkRefusal>
     }
 }
 
-// Links the flat list, under the name that the command gives or that of the first module.
-fn link_flat(alloc: Global, command: &Command, flat: Vec<Module>) -> Result<Module, LinkRefusal>
+// Links the flat list, under the given name or that of the first module.
+fn link_flat(alloc: Global, name: &Option<Bytes>, flat: Vec<Module>) -> Result<Module, LinkRefusal>
     requires begins { BeginsWithLink flat.items }
     requires some { 0 < length flat.items }
-    requires short { IfSome command.now.name (λ name. length name < 2 ^ 16) }
+    requires short { IfSome name.now (λ given. length given < 2 ^ 16) }
     requires light { total_weight flat.items ≤ most_weight }
-    ensures joined { IfOk result (λ M. IsJoined M flat.items (unwrap_or command.now.name (first_name flat.items))) }
+    ensures joined { IfOk result (λ M. IsJoined M flat.items (unwrap_or name.now (first_name flat.items))) }
     ensures linkable { IfOk result (λ _. link_answer flat.items ≡ None) }
     ensures light { IfOk result (λ M. weight M < most_weight + 2 ^ 16) }
     ensures refused { IfErr result (λ e. IsRefusalOf flat.items e) }
 {
-    match &command.name {
+    match name {
         Some(name) => link_owned(alloc, flat, name.as_slice()),
         None => link_unnamed(alloc, flat),
     }
@@ -296,7 +296,7 @@ fn link_roots(alloc: Global, marks: &[Mark], roots: Vec<Module>) -> Result<Vec<M
     Ok(linked)
 }
 
-/// The module into which the modules of a command are linked, and the members that it contains.
+/// The module into which modules are linked, and the members that it contains.
 #[derive(Drop)]
 pub struct LinkedModules {
     /// The link.
@@ -307,31 +307,30 @@ pub struct LinkedModules {
     pub chosen: List<u32>,
 }
 
-/// Links the modules of a command: those of the tree, with each group linked first, and the members that are
-/// selected for them. The link has the name that the command gives, or that of the first module. Returns it
-/// with the positions of the members.
+/// Links modules: those of the tree that the marks spell, with each group linked first, and the members that
+/// are selected for them, which are the modules after those of the tree. The link has the given name, or that
+/// of the first module. Returns it with the positions of the members.
 pub fn link_with_members(
     alloc: Global,
-    command: &Command,
+    marks: &[Mark],
+    name: &Option<Bytes>,
     modules: List<Module>,
 ) -> Result<LinkedModules, LinkRefusal>
-    requires tree { HasTree command.now }
-    requires some { 1 ≤ length (leaves (tree_of command.now.marks)) }
-    requires count { length modules ≡ length command.now.files }
-    requires few { length command.now.files < 2 ^ 32 }
-    requires short { IfSome command.now.name (λ name. length name < 2 ^ 16) }
+    requires tree { HasTree marks.now (length modules) }
+    requires some { 1 ≤ length (leaves (tree_of marks.now)) }
+    requires few { length modules < 2 ^ 32 }
+    requires short { IfSome name.now (λ given. length given < 2 ^ 16) }
     requires valid { AreValid modules }
     requires light { total_weight modules ≤ most_weight }
-    ensures ok { IfOk result (λ linked. linked_module command.now modules (gives linked.«module»)) }
-    ensures count { IfOk result (λ linked. linked.roots ≡ length (leaves (tree_of command.now.marks))) }
+    ensures ok { IfOk result (λ linked. linked_module (tree_of marks.now) name.now modules (gives linked.«module»)) }
+    ensures count { IfOk result (λ linked. linked.roots ≡ length (leaves (tree_of marks.now))) }
     // The members are those that the modules of the tree need.
-    ensures chosen { IfOk result (λ linked. IsSelected (roots (tree_of command.now.marks) modules)
-        (members (tree_of command.now.marks) modules) linked.chosen) }
+    ensures chosen { IfOk result (λ linked. IsSelected (roots (tree_of marks.now) modules)
+        (members (tree_of marks.now) modules) linked.chosen) }
     // The link weighs little more than the greatest total weight of the modules of a run.
     ensures light { IfOk result (λ linked. weight linked.«module» < most_weight + 2 ^ 16) }
-    ensures refused { IfErr result (λ e. StopsWork (linked_module command.now modules) e) }
+    ensures refused { IfErr result (λ e. StopsWork (linked_module (tree_of marks.now) name.now modules) e) }
 {
-    let marks = command.marks.as_slice();
     let roots = file_count(marks);
     let mut modules = modules.into_vec();
     let Ok(members) = modules.split_off(roots) else {
@@ -339,7 +338,7 @@ pub fn link_with_members(
     };
     let mut linked = link_roots(alloc, marks, modules)?;
     let chosen = add_members(alloc, &mut linked, members)?;
-    let module = link_flat(alloc, command, linked)?;
+    let module = link_flat(alloc, name, linked)?;
     Ok(LinkedModules {
         module,
         roots,
@@ -347,25 +346,25 @@ pub fn link_with_members(
     })
 }
 
-/// Links the modules of a command, as [`link_with_members`] does, and returns the link alone.
+/// Links modules, as [`link_with_members`] does, and returns the link alone.
 pub fn link_modules(
     alloc: Global,
-    command: &Command,
+    marks: &[Mark],
+    name: &Option<Bytes>,
     modules: List<Module>,
 ) -> Result<Module, LinkRefusal>
-    requires tree { HasTree command.now }
-    requires some { 1 ≤ length (leaves (tree_of command.now.marks)) }
-    requires count { length modules ≡ length command.now.files }
-    requires few { length command.now.files < 2 ^ 32 }
-    requires short { IfSome command.now.name (λ name. length name < 2 ^ 16) }
+    requires tree { HasTree marks.now (length modules) }
+    requires some { 1 ≤ length (leaves (tree_of marks.now)) }
+    requires few { length modules < 2 ^ 32 }
+    requires short { IfSome name.now (λ given. length given < 2 ^ 16) }
     requires valid { AreValid modules }
     requires light { total_weight modules ≤ most_weight }
-    ensures ok { IfOk result (λ M. linked_module command.now modules (gives M)) }
+    ensures ok { IfOk result (λ M. linked_module (tree_of marks.now) name.now modules (gives M)) }
     // The link weighs little more than the greatest total weight of the modules of a run.
     ensures light { IfOk result (λ M. weight M < most_weight + 2 ^ 16) }
-    ensures refused { IfErr result (λ e. StopsWork (linked_module command.now modules) e) }
+    ensures refused { IfErr result (λ e. StopsWork (linked_module (tree_of marks.now) name.now modules) e) }
 {
-    match link_with_members(alloc, command, modules) {
+    match link_with_members(alloc, marks, name, modules) {
         Ok(linked) => Ok(linked.module),
         Err(refusal) => Err(refusal),
     }

@@ -1,4 +1,4 @@
-//! The files of the first list that a command cannot link.
+//! The files of the first list that cannot be linked.
 
 ghost use Rattle.std.specs.Prelude.{◌≡◌, ◌-◌, ◌+◌, ◌++◌, ◌≤◌, ◌<◌, ◌^◌, ℕ, length, map};
 ghost use Rattle.std.specs.Prelude.{drop, take, is_some, option_map, All, IfOk, IfSome, IsNone, IsSome, None, OnOk};
@@ -21,7 +21,7 @@ use mufom_link::{LinkRefusal, link};
 use mufom_module::Module;
 use mufom_numbers::{List, NoMemory};
 use mufom_select::select;
-use mufom_words::{Command, Mark};
+use mufom_words::Mark;
 use std::alloc::Global;
 
 /// Files with consecutive numbers, from `first` up to, but not including, `end`.
@@ -211,7 +211,7 @@ fn tree_or_flat(alloc: Global, roots: usize, modules: &[Module]) -> Result<List<
     }
 }
 
-/// Returns the numbers of the files of the first list that a command cannot link: the first group that cannot
+/// Returns the numbers of the files of the first list that cannot be linked: the first group that cannot
 /// be linked, in the order of the closing brackets; otherwise the tree; otherwise the flat list. If
 /// everything can be linked, they are those of the flat list.
 ///
@@ -219,20 +219,18 @@ fn tree_or_flat(alloc: Global, roots: usize, modules: &[Module]) -> Result<List<
 /// memory is that of the largest of these links.
 pub fn refused_files(
     alloc: Global,
-    command: &Command,
+    marks: &[Mark],
     modules: &[Module],
 ) -> Result<List<u32>, NoMemory>
-    requires tree { HasTree command.now }
-    requires some { 1 ≤ length (leaves (tree_of command.now.marks)) }
-    requires count { length modules.now ≡ length command.now.files }
-    requires few { length command.now.files < 2 ^ 32 }
+    requires tree { HasTree marks.now (length modules.now) }
+    requires some { 1 ≤ length (leaves (tree_of marks.now)) }
+    requires few { length modules.now < 2 ^ 32 }
     requires valid { AreValid modules.now }
     requires light { total_weight modules.now ≤ most_weight }
-    ensures list { IfOk result (λ files. (f : LinkFact) → linked (tree_of command.now.marks) modules.now (stops f)
-        → IsRefusedList command.now modules.now files f) }
+    ensures list { IfOk result (λ files. (f : LinkFact) → linked (tree_of marks.now) modules.now (stops f)
+        → IsRefusedList (tree_of marks.now) modules.now files f) }
     ensures few { IfOk result (λ files. length files ≤ length modules.now) }
 {
-    let marks = command.marks.as_slice();
     let ranges = group_ranges(alloc, marks)?;
     match refused_range(alloc, &ranges, modules)? {
         Some(range) => numbers_of(alloc, range),

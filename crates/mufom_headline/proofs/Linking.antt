@@ -1,44 +1,43 @@
 -- A link is done exactly where no link fact stands against the flat list.
-use Rattle.std.proofs.Common.{◌≡◌, ◌⊎◌, List, None, ap, subst, inl, inr}
+use Rattle.std.proofs.Common.{◌≡◌, ◌⊎◌, ℕ, List, None, Option, inl, inr}
 use Rattle.mufom_host.specs.World.{HoldBytes}
-use Rattle.mufom_words.specs.declared.command.Command.{Command}
-use Rattle.mufom_words.specs.Options.{explains}
-use Rattle.mufom_words.specs.declared.command.Verb.{Verb}
 use Rattle.mufom_module.specs.declared.module.Parts.{Parts}
-use Rattle.mufom_plan.specs.declared.plan.Plan.{Plan}
 use Rattle.mufom_meaning.specs.LinkAnswer.{link_answer}
-use Rattle.mufom_groups.specs.Work.{gives, stops}
-use Rattle.mufom_command.specs.declared.outcome.Outcome.TheVariants as outcome
-use Rattle.mufom_command.specs.Stop.{Stop}
-use Rattle.mufom_command.specs.Commands.{linked_file, work_of}
+use Rattle.mufom_groups.specs.Work.{stops}
+use Rattle.mufom_outcome.specs.declared.outcome.Outcome.TheVariants as outcome
+use Rattle.mufom_outcome.specs.Stop.{Stop}
+use Rattle.mufom_task.specs.declared.task.Task.TheVariants as task
+use Rattle.mufom_command.specs.Run.{AnswersFor}
+use Rattle.mufom_command.specs.Works.{linked_file, work_of}
 use Rattle.mufom_command.proofs.Runs.{of-files}
+use Rattle.mufom_run_laws.proofs.Accepted.{EndsAtFact, accepted-gives, accepted-stops, no-link-fact}
+use Rattle.mufom_run_laws.proofs.Calm.{done-comes, never-done}
+use Rattle.mufom_run_laws.proofs.Plain.{plain-answers}
 use Rattle.mufom_headline.specs.Linking.{LinkingIsDone}
-use Rattle.mufom_command.proofs.Calm.{answers-for, done-comes, never-done}
-use Rattle.mufom_command.proofs.Accepted.{EndsAtFact, accepted-gives, accepted-stops, no-link-fact}
-use Rattle.mufom_command.proofs.LocatingDone.{module-never}
 
 -- a list that can be linked is put out by a link
-file-never : (c : Command) (plan : Plan) (flat : List Parts) (s : Stop) → linked_file c plan flat (stops s) → ⊥
-file-never c plan flat s (inl (f, never, same)) = never
-file-never c plan flat s (inr (M, is_joined, ends)) = module-never c.out M s ends
+file-never : (name : Option (List ℕ)) (out : List ℕ) (flat : List Parts) (s : Stop) → linked_file name out flat (stops s) → ⊥
+file-never name out flat s (inl (f, never, same)) = never
+file-never name out flat s (inr (M, is_joined, (held, never))) = never
 
 pub linking-is-done : LinkingIsDone
-linking-is-done words files call result c plan flat is calm named links accepts = (there, back) where
+linking-is-done words files call result c inputs name out plan flat is calm named asks accepts = (there, back) where
   bytes : HoldBytes files
   bytes = of-files call files calm.known HoldBytes calm.revealed.bytes
 
+  answer : AnswersFor (task.Link inputs name out) call result
+  answer = plain-answers words c named (task.Link inputs name out) asks call result is
+
   there : result ≡ outcome.Done → link_answer flat ≡ None
   there done =
-      let came = done-comes files call c result (answers-for files call c words result is named (ap explains links)) calm done in
-      (accepted-gives files c plan flat bytes accepts (λ ms. linked_file) came.output
-      (subst (λ (v : Verb). work_of v files c (gives came.output)) links came.comes)).0
+      let came = done-comes files call (task.Link inputs name out) result answer calm done in
+      (accepted-gives files inputs plan flat bytes accepts (λ ms plan flat. linked_file name out flat) came.output came.comes).0
 
-  ends : (s : Stop) → link_answer flat ≡ None → work_of c.verb files c (stops s) → ⊥
-  ends s none stopped =
-      by (accepted-stops files c plan flat bytes accepts (λ ms. linked_file) s (subst (λ (v : Verb). work_of v files c (stops s)) links stopped)) where
-        by : EndsAtFact flat s ⊎ ((link_answer flat ≡ None) × linked_file c plan flat (stops s)) → ⊥
-        by (inl fact) = no-link-fact flat plan s none fact
-        by (inr (linkable, stopped)) = file-never c plan flat s stopped
+  ends : (s : Stop) → link_answer flat ≡ None → work_of (task.Link inputs name out) files (stops s) → ⊥
+  ends s none stopped = by (accepted-stops files inputs plan flat bytes accepts (λ ms plan flat. linked_file name out flat) s stopped) where
+    by : EndsAtFact flat s ⊎ ((link_answer flat ≡ None) × linked_file name out flat (stops s)) → ⊥
+    by (inl fact) = no-link-fact flat plan s none fact
+    by (inr (linkable, stopped)) = file-never name out flat s stopped
 
   back : link_answer flat ≡ None → result ≡ outcome.Done
-  back none = never-done files call c result (answers-for files call c words result is named (ap explains links)) calm (λ s stopped. ends s none stopped)
+  back none = never-done files call (task.Link inputs name out) result answer calm (λ s stopped. ends s none stopped)

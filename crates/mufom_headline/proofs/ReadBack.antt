@@ -5,16 +5,17 @@ use Rattle.std.specs.Prelude.{slice_get}
 use Rattle.std.proofs.lemmas.List.Sums.{sum_by-cons}
 use Rattle.mufom_numbers.specs.declared.limits.TheConstants.{MOST_FILE_BYTES}
 use Rattle.mufom_host.specs.World.{NamedFile, file_named}
-use Rattle.mufom_words.specs.declared.command.Command.{Command}
 use Rattle.mufom_module.specs.declared.module.Parts.{Parts}
 use Rattle.mufom_module.specs.Written.{written}
 use Rattle.mufom_module.proofs.OneModule.{one_module}
 use Rattle.mufom_write.proofs.Stated.{stated}
 use Rattle.mufom_read.specs.Judging.{IsModule}
 use Rattle.mufom_groups.specs.Work.{gives}
-use Rattle.mufom_command.specs.Inputs.{AreAccepted, AreModules, ComeTo, HaveBytes, accepted}
-use Rattle.mufom_command.specs.Commands.{IsHeld, modules_in}
-use Rattle.mufom_command.proofs.MadeLaws.{is-read-back}
+use Rattle.mufom_task.specs.declared.task.Inputs.{Inputs}
+use Rattle.mufom_task.specs.Inputs.{AreAccepted, AreModules, ComeTo, HaveBytes, accepted}
+use Rattle.mufom_task.specs.Reading.{modules_in}
+use Rattle.mufom_command.specs.Works.{IsHeld}
+use Rattle.mufom_run_laws.proofs.MadeLaws.{is-read-back}
 use Rattle.mufom_headline.specs.ReadBack.{IsReadBack, WrittenFilesAreReadBack}
 
 module _ (m : Parts) (is : IsModule true (written m) m) (few : length (written m) ≤ MOST_FILE_BYTES) where
@@ -36,14 +37,14 @@ module _ (m : Parts) (is : IsModule true (written m) m) (few : length (written m
   module-at files (first ∷ names) (bytes ∷ contents) (n ∷ ms) (suc k) name there have are here =
       let more : HaveBytes files names contents = cc in module-at files names contents ms k name there more are.1 here
 
-  in-place : (files : List NamedFile) (c : Command) (ms : List Parts) (k : ℕ) (name : List ℕ) → file_named name files ≡ Some (written m)
+  in-place : (files : List NamedFile) (c : Inputs) (ms : List Parts) (k : ℕ) (name : List ℕ) → file_named name files ≡ Some (written m)
       → c.no_debug ≡ false → slice_get c.files k ≡ Some name → modules_in files c (gives ms) → slice_get ms k ≡ Some m
   in-place files c ms k name there debug here (contents, all) =
       module-at files c.files contents ms k name there all.bytes
       (subst (λ (b : Bool). AreModules (not b) contents ms) debug all.modules) here
 
   -- the file alone is accepted
-  alone : (files : List NamedFile) (c : Command) (name : List ℕ) → file_named name files ≡ Some (written m) → c.no_debug ≡ false → c.files ≡ name ∷ []
+  alone : (files : List NamedFile) (c : Inputs) (name : List ℕ) → file_named name files ≡ Some (written m) → c.no_debug ≡ false → c.files ≡ name ∷ []
       → modules_in files c (gives (m ∷ []))
   alone files c name there debug names =
       subst (λ (b : Bool). ComeTo (not b) files c.files (accepted (m ∷ []))) (sym debug)

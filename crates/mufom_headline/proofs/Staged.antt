@@ -1,8 +1,5 @@
--- If a command's files were linked in stages, its work has the same result as over the list that the stages began with.
-use Rattle.std.proofs.Common.{◌≡◌, List, [], ◌∷◌, Option, Some, None, refl, sym, ap, subst, ◌∙◌, inl, inr}
-use Rattle.mufom_words.specs.declared.command.Command.{Command}
-use Rattle.mufom_words.specs.declared.command.Verb.{Verb}
-use Rattle.mufom_words.specs.declared.command.Verb.TheVariants as verb
+-- If a task's files were linked in stages, its work has the same result as over the list that the stages began with.
+use Rattle.std.proofs.Common.{◌≡◌, ℕ, List, [], ◌∷◌, Option, Some, None, refl, sym, ap, subst, ◌∙◌, inl, inr}
 use Rattle.mufom_words.specs.Tree.{tree_of}
 use Rattle.mufom_module.specs.declared.module.Parts.{Parts}
 use Rattle.mufom_place.specs.Facts.{first_some, ◌or_else◌}
@@ -19,16 +16,20 @@ use Rattle.mufom_groups.specs.Work.{Reached, gives, stops, Work, ◌>>=◌, with
 use Rattle.mufom_groups.proofs.GroupsAlike.{linked-flat, links-stand}
 use Rattle.mufom_groups.proofs.LinkWalk.{links-give, links-stop}
 use Rattle.mufom_groups.proofs.Singles.{flat_list-single}
-use Rattle.mufom_command.specs.Stop.{Stop, link_fact}
-use Rattle.mufom_origins.specs.Origins.{origins_of}
-use Rattle.mufom_command.specs.Commands.{Output, absolute_file, linked_file, linking, locating, locating_kept, map_with, mapping, printed_hit}
-use Rattle.mufom_command.specs.Commands.{printed_image, printed_map, raw_file, txt_file, work_of}
-use Rattle.mufom_command.specs.RunLaws.{CameByStages, IsLinking, IsSameWork, put_out_of}
-use Rattle.mufom_command.proofs.SameWorks.{same-trans}
-use Rattle.mufom_command.proofs.StageLaws.{means-same, put_out-alike}
-use Rattle.mufom_headline.specs.Linking.{StagedMapsAreFlat, StagedRunsAreFlat, after_link}
-use Rattle.mufom_headline.proofs.Maps.{map-staged}
-use Rattle.mufom_command.proofs.Accepted.{after-inputs}
+use Rattle.mufom_outcome.specs.Stop.{Stop, link_fact}
+use Rattle.mufom_host.specs.World.{HoldBytes, NamedFile}
+use Rattle.mufom_origins.specs.Origins.{FileModule, origins_of}
+use Rattle.mufom_task.specs.declared.task.Inputs.{Inputs}
+use Rattle.mufom_task.specs.declared.task.Product.{Product}
+use Rattle.mufom_task.specs.declared.task.Task.TheVariants as task
+use Rattle.mufom_command.specs.FlatFiles.{AreFlatFiles}
+use Rattle.mufom_command.specs.Works.{Output, linked_file, linking, locating_kept, producing, product_with, work_of}
+use Rattle.mufom_run_laws.specs.RunLaws.{Accepts, CameByStages, IsSameWork}
+use Rattle.mufom_run_laws.proofs.Accepted.{after-inputs}
+use Rattle.mufom_run_laws.proofs.SameWorks.{same-trans}
+use Rattle.mufom_run_laws.proofs.StageLaws.{means-same, put_out-alike}
+use Rattle.mufom_headline.specs.Linking.{StagedRunsAreFlat, after_link, link_of_list, location_of_list}
+use Rattle.mufom_headline.proofs.Maps.{producing-staged}
 
 -- ---- the link facts of a list of one descriptor with distinct names
 
@@ -62,7 +63,7 @@ some-alone ms f is = by (link_answer ms) is where
 
 -- ---- the links
 
-module _ (c : Command) (ms flat leaves : List Parts) (is_flat : IsFlatList (tree_of c.marks) ms flat) (came : CameByStages flat leaves) where
+module _ (c : Inputs) (ms flat leaves : List Parts) (is_flat : IsFlatList (tree_of c.marks) ms flat) (came : CameByStages flat leaves) where
   means : MeansTheSame flat leaves
   means = means-same flat leaves came
 
@@ -127,43 +128,32 @@ module _ (c : Command) (ms flat leaves : List Parts) (is_flat : IsFlatList (tree
     links-same : IsSameWork after-links (after_link leaves other)
     links-same x = (there x, back x)
 
--- ---- the work of a command
+-- ---- the work of a task
+
+module _ (files : List NamedFile) (c : Inputs) (plan : Plan) (flat leaves : List Parts) (own : List FileModule) (bytes : HoldBytes files)
+    (accepts : Accepts files c plan flat) (are : AreFlatFiles (tree_of c.marks) accepts.modules own) (came : CameByStages flat leaves) where
+  -- what is put out of the flat list is this, of the leaves
+  by-linking : (output : List Parts → Plan → List Parts → Work Stop Output) (other : Work Stop Output)
+      → IsSameWork (output accepts.modules plan flat) other → IsSameWork (linking output files c) (after_link leaves other)
+  by-linking output other same =
+      same-trans (linking output files c) (with_stops link_fact (linked (tree_of c.marks) accepts.modules) >>= λ list. output accepts.modules plan list)
+      (after_link leaves other) (after-inputs files c plan flat bytes accepts output)
+      (links-same c accepts.modules flat leaves accepts.is_flat came (λ list. output accepts.modules plan list) other same)
+
+  staged-link : (name : Option (List ℕ)) (out : List ℕ) → IsSameWork (work_of (task.Link c name out) files) (link_of_list name out leaves)
+  staged-link name out =
+      by-linking (λ ms plan flat. linked_file name out flat) (linked_file name out leaves)
+      ((put_out-alike plan flat leaves (means-same flat leaves came)).linked name out)
+
+  staged-location : (keep : Option (List ℕ)) (p : Product)
+      → IsSameWork (work_of (task.Locate c keep p) files) (location_of_list keep p (origins_of own) plan leaves)
+  staged-location keep p =
+      by-linking (λ ms plan flat. locating_kept (producing p (tree_of c.marks) ms plan) keep plan flat)
+      (locating_kept (product_with p (origins_of own) plan) keep plan leaves)
+      (producing-staged keep p plan (tree_of c.marks) accepts.modules own are flat leaves came)
 
 pub staged-runs-are-flat : StagedRunsAreFlat
-staged-runs-are-flat files c plan flat leaves bytes is_linking accepts came = by_verb c.verb is_linking where
-  by_linking : (output : Command → Plan → List Parts → Work Stop Output) → IsSameWork (output c plan flat) (output c plan leaves)
-      → IsSameWork (linking output files c) (after_link leaves (output c plan leaves))
-  by_linking output same =
-      same-trans (linking output files c) (with_stops link_fact (linked (tree_of c.marks) accepts.modules) >>= λ list. output c plan list)
-      (after_link leaves (output c plan leaves)) (after-inputs files c plan flat bytes accepts (λ ms. output))
-      (links-same c accepts.modules flat leaves accepts.is_flat came (λ list. output c plan list) (output c plan leaves) same)
-
-  alike : (v : Verb) → IsSameWork (put_out_of v c plan flat) (put_out_of v c plan leaves)
-  alike = put_out-alike c plan flat leaves (means-same flat leaves came)
-
-  by_verb : (v : Verb) → IsLinking v → IsSameWork (work_of v files c) (after_link leaves (put_out_of v c plan leaves))
-  by_verb verb.Show never = absurd never
-  by_verb verb.Check never = absurd never
-  by_verb verb.Link is_one = by_linking linked_file (alike verb.Link)
-  by_verb verb.Locate is_one = by_linking (locating absolute_file) (alike verb.Locate)
-  by_verb verb.Dump is_one = by_linking (locating printed_image) (alike verb.Dump)
-  by_verb verb.Addr is_one = by_linking (locating printed_hit) (alike verb.Addr)
-  by_verb verb.Bin is_one = by_linking (locating raw_file) (alike verb.Bin)
-  by_verb verb.Txt is_one = by_linking (locating txt_file) (alike verb.Txt)
-  by_verb verb.FromTxt never = absurd never
-  by_verb verb.Build never = absurd never
-  by_verb verb.Help never = absurd never
-  by_verb verb.Version never = absurd never
-  by_verb verb.Explain never = absurd never
-  by_verb verb.Make never = absurd never
-  by_verb verb.Map never = absurd never
-
--- the same of the work of `map`
-pub staged-maps-are-flat : StagedMapsAreFlat
-staged-maps-are-flat files c plan flat leaves own bytes is_map accepts are came =
-    let output : List Parts → Work Stop Output = λ list. locating_kept (printed_map accepts.modules plan) c plan list in
-    let other : Work Stop Output = locating_kept (map_with (origins_of own) plan) c plan leaves in
-    subst (λ (v : Verb). IsSameWork (work_of v files c) (after_link leaves other)) (sym is_map)
-    (same-trans (mapping files c) (with_stops link_fact (linked (tree_of c.marks) accepts.modules) >>= output) (after_link leaves other)
-    (after-inputs files c plan flat bytes accepts (λ ms c plan list. locating_kept (printed_map ms plan) c plan list))
-    (links-same c accepts.modules flat leaves accepts.is_flat came output other (map-staged c plan accepts.modules own are flat leaves came)))
+staged-runs-are-flat files c plan flat leaves own bytes accepts are came = record {
+  linked = staged-link files c plan flat leaves own bytes accepts are came;
+  located = staged-location files c plan flat leaves own bytes accepts are came;
+}

@@ -24,8 +24,8 @@ use Rattle.mufom_meaning.specs.declared.located.Run.{Run}
 use Rattle.mufom_meaning.specs.AddressMap.{AreApart}
 use Rattle.mufom_titxt.specs.TextModules.{EndBelow, HaveModule, HaveText, literals, loads_from, run_section, text_parts}
 use Rattle.mufom_titxt.proofs.ModuleValid.{text_is_valid}
-use Rattle.mufom_command.specs.Inputs.{AreAccepted, ComeTo, accepted}
-use Rattle.mufom_command.specs.Commands.{IsHeld}
+use Rattle.mufom_task.specs.Inputs.{AreAccepted, ComeTo, accepted}
+use Rattle.mufom_command.specs.Works.{IsHeld}
 
 -- ---- sections
 

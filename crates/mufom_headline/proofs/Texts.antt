@@ -1,10 +1,8 @@
 -- A text comes back from the file that is made of it.
-use Rattle.std.proofs.Common.{◌≡◌, ◌≤◌, ℕ, ◌*◌, Bool, true, not, nat_lt, List, [], ◌∷◌, length, Option, Some, Result, Ok, refl, sym, subst, arith}
+use Rattle.std.proofs.Common.{◌≡◌, ◌≤◌, ℕ, ◌*◌, Bool, true, not, nat_lt, List, [], ◌∷◌, length, Option, Some, None, Ok, refl, sym, subst, arith}
 use Rattle.mufom_numbers.specs.declared.limits.TheConstants.{MOST_FILE_BYTES}
 use Rattle.mufom_host.specs.World.{HoldBytes, NamedFile, file_named}
 use Rattle.mufom_words.specs.declared.command.Command.{Command}
-use Rattle.mufom_words.specs.declared.command.Verb.{Verb}
-use Rattle.mufom_words.specs.declared.stop.WordsStop.{WordsStop}
 use Rattle.mufom_words.specs.Answer.{answer_of}
 use Rattle.mufom_words.specs.Tree.{Forest, empty, file, tree_of}
 use Rattle.mufom_module.specs.declared.module.Parts.{Parts}
@@ -25,22 +23,30 @@ use Rattle.mufom_meaning.specs.Selection.{IsSelected}
 use Rattle.mufom_groups.specs.Linked.{IsFlatList, linked, links}
 use Rattle.mufom_groups.specs.Work.{gives}
 use Rattle.mufom_groups.proofs.Works.{value-same}
-use Rattle.mufom_command.specs.Inputs.{ComeTo, accepted}
-use Rattle.mufom_command.specs.Commands.{all_of, modules_in, Output, kept_of, located, located_unless, locating, made, plan_in, runs_of_text}
-use Rattle.mufom_command.specs.Commands.{text_in, txt_file, unless_past_limit, work_of, writes, writes_module}
-use Rattle.mufom_command.specs.declared.outcome.Outcome.{Outcome}
-use Rattle.mufom_command.specs.declared.outcome.Outcome.TheVariants as outcome
+use Rattle.mufom_outcome.specs.declared.outcome.Outcome.{Outcome}
+use Rattle.mufom_outcome.specs.declared.outcome.Outcome.TheVariants as outcome
+use Rattle.mufom_task.specs.declared.task.Inputs.{Inputs}
+use Rattle.mufom_task.specs.declared.task.Product.TheVariants as product
+use Rattle.mufom_task.specs.declared.task.Request.TheVariants as request
+use Rattle.mufom_task.specs.declared.task.Task.{Task}
+use Rattle.mufom_task.specs.declared.task.Task.TheVariants as task
+use Rattle.mufom_task.specs.Calls.{Call}
+use Rattle.mufom_task.specs.Inputs.{ComeTo, accepted}
+use Rattle.mufom_task.specs.Reading.{modules_in, plan_in, text_in, unless_past_limit}
+use Rattle.mufom_task.specs.Tasks.{request_of}
+use Rattle.mufom_origins.specs.Origins.{origins_of}
+use Rattle.mufom_command.specs.Works.{Output, all_of, located, located_unless, made, producing, product_with, work_of, writes}
 use Rattle.mufom_command.specs.Contract.{Answers, run_of}
-use Rattle.mufom_command.specs.Run.{Call, MakesFile, PutsOut}
-use Rattle.mufom_command.specs.RunLaws.{IsUndisturbed}
-use Rattle.mufom_command.proofs.Determined.{answers-determined}
+use Rattle.mufom_command.specs.Run.{MakesFile, PutsOut}
 use Rattle.mufom_command.proofs.ExplainSingle.{run_of-single}
-use Rattle.mufom_command.proofs.Plain.{plain-run, works-plainly}
 use Rattle.mufom_command.proofs.Runs.{of-files}
-use Rattle.mufom_command.proofs.TextRuns.{text-rows}
-use Rattle.mufom_command.proofs.WorkLaws.{module-gives, writes-gives}
-use Rattle.mufom_headline.specs.Texts.{IsFromTxt, IsTxtAlone, Makes, TextsComeBack}
-use Rattle.mufom_command.proofs.Calm.{answers-for, done-comes}
+use Rattle.mufom_command.proofs.TextLaws.{text-gives, text-rows}
+use Rattle.mufom_run_laws.specs.RunLaws.{IsUndisturbed}
+use Rattle.mufom_run_laws.proofs.Calm.{done-comes}
+use Rattle.mufom_run_laws.proofs.Determined.{answers-determined}
+use Rattle.mufom_run_laws.proofs.Plain.{plain-answers, plain-run}
+use Rattle.mufom_headline.specs.Texts.{IsFileAlone, Makes, TextsComeBack}
+use Rattle.mufom_headline.proofs.Maps.{flat-files}
 use Rattle.mufom_headline.proofs.ReadBack.{read-back}
 use Rattle.mufom_headline.proofs.TextMade.{text-accepted, text-held, text-is-module}
 
@@ -60,23 +66,16 @@ module _ (text : List ℕ) (maus : ℕ) (runs : List Run) (low : 1 ≤ maus) (hi
 
   -- ---- `fromtxt`
 
-  module _ (files : List NamedFile) (c : Command) (name out : List ℕ) (does : IsFromTxt c maus name out) (there : file_named name files ≡ Some text) where
+  module _ (files : List NamedFile) (c : Inputs) (name out : List ℕ) (alone : c.files ≡ name ∷ []) (there : file_named name files ≡ Some text) where
     is-read : text_in files c.files (gives text)
     is-read =
         let kept : unless_past_limit (nat_lt MOST_FILE_BYTES (length text)) text (gives text)
         = subst (λ (b : Bool). unless_past_limit b text (gives text)) (sym (not_lt MOST_FILE_BYTES (length text) short)) refl in
-        subst (λ (names : List (List ℕ)). text_in files names (gives text)) (sym does.files) (text, there, kept)
+        subst (λ (names : List (List ℕ)). text_in files names (gives text)) (sym alone) (text, there, kept)
 
-    has-rows : runs_of_text c.maus text (gives runs)
-    has-rows = subst (λ (k : ℕ). runs_of_text k text (gives runs)) (sym does.maus) (text-rows maus text runs is)
-
-    puts-out : writes_module c.out (text_parts c.maus runs) (gives (made out bytes))
-    puts-out = subst (λ (k : ℕ). writes_module c.out (text_parts k runs) (gives (made out bytes))) (sym does.maus)
-        (module-gives c out (text_parts maus runs) (text-held maus runs low high has-module has-text) does.puts_out)
-
-    module-file : work_of c.verb files c (gives (made out bytes))
-    module-file = subst (λ (v : Verb). work_of v files c (gives (made out bytes))) (sym does.does)
-        (text, is-read, (text_parts c.maus runs, (runs, has-rows, refl), puts-out))
+    module-file : work_of (task.FromTxt c maus out) files (gives (made out bytes))
+    module-file =
+        (text, is-read, (text_parts maus runs, (runs, text-rows maus text runs is, refl), (text-held maus runs low high has-module has-text, refl)))
 
   -- ---- `txt`
 
@@ -100,35 +99,42 @@ module _ (text : List ℕ) (maus : ℕ) (runs : List Run) (low : 1 ≤ maus) (hi
     is-located : located no_regions (text_parts maus runs ∷ []) (gives r)
     is-located = subst (λ (o : Option LocateFact). located_unless o no_regions (text_parts maus runs ∷ []) (gives r)) (sym is_location.locates) is_location
 
-    module _ (files : List NamedFile) (c : Command) (name out : List ℕ) (does : IsTxtAlone c name out) (there : file_named name files ≡ Some bytes) where
+    module _ (files : List NamedFile) (c : Inputs) (name out : List ℕ) (does : IsFileAlone c name) (there : file_named name files ≡ Some bytes) where
       is-planned : plan_in files c.plan (gives no_regions)
       is-planned = subst (λ (o : Option (List ℕ)). plan_in files o (gives no_regions)) (sym does.plan) refl
-
-      is-kept : kept_of c.keep (text_parts maus runs ∷ []) (gives (all_of (text_parts maus runs ∷ [])))
-      is-kept = subst (λ (o : Option (List ℕ)). kept_of o (text_parts maus runs ∷ []) (gives (all_of (text_parts maus runs ∷ [])))) (sym does.keep) refl
 
       is-in : modules_in files c (gives (text_parts maus runs ∷ []))
       is-in = subst (λ (names : List (List ℕ)). ComeTo (not c.no_debug) files names (accepted (text_parts maus runs ∷ []))) (sym does.files)
           (text-accepted maus runs low high has-module has-text few (not c.no_debug) files name there)
 
-      text-file : r.runs ≡ runs → work_of c.verb files c (gives (made out (txt_text runs)))
+      text-file : r.runs ≡ runs → work_of (task.Locate c None (product.TiTxt out)) files (gives (made out (txt_text runs)))
       text-file same =
           let linked-here : linked (tree_of c.marks) (text_parts maus runs ∷ []) (gives (text_parts maus runs ∷ []))
           = subst (λ (tree : Forest). linked tree (text_parts maus runs ∷ []) (gives (text_parts maus runs ∷ []))) (sym does.marks) is-linked in
-          let puts : writes c.out (txt_text r.runs) (gives (made out (txt_text runs)))
-          = subst (λ (rows : List Run). writes c.out (txt_text rows) (gives (made out (txt_text runs)))) (sym same)
-          (writes-gives c out (txt_text runs) does.puts_out) in
-          let put-out : locating txt_file c no_regions (text_parts maus runs ∷ []) (gives (made out (txt_text runs)))
-          = (all_of (text_parts maus runs ∷ []), is-kept, (r, is-located, puts)) in
-          subst (λ (v : Verb). work_of v files c (gives (made out (txt_text runs)))) (sym does.does)
-          (no_regions, is-planned, (text_parts maus runs ∷ [], is-in, (text_parts maus runs ∷ [], linked-here, put-out)))
+          let flat-here : IsFlatList (tree_of c.marks) (text_parts maus runs ∷ []) (text_parts maus runs ∷ [])
+          = subst (λ (tree : Forest). IsFlatList tree (text_parts maus runs ∷ []) (text_parts maus runs ∷ [])) (sym does.marks) is-flat in
+          let own = flat-files (tree_of c.marks) (text_parts maus runs ∷ []) (text_parts maus runs ∷ []) flat-here in
+          let puts : writes out (txt_text r.runs) (gives (made out (txt_text runs)))
+          = subst (λ (rows : List Run). writes out (txt_text rows) (gives (made out (txt_text runs)))) (sym same) refl in (
+            no_regions,
+            is-planned,
+            (
+              text_parts maus runs ∷ [],
+              is-in,
+              (
+                text_parts maus runs ∷ [],
+                linked-here,
+                (all_of (text_parts maus runs ∷ []), refl, (r, is-located, (own.0, own.1, puts))),
+              ),
+            ),
+          )
 
 -- ---- runs
 
-module _ (files : List NamedFile) (c : Command) (name bytes : List ℕ) (works : work_of c.verb files c (gives (made name bytes))) where
-  module _ (words : List (List ℕ)) (named : answer_of words ≡ Ok c) where
-    of-run : (o : Output) → work_of c.verb files c (gives o) → run_of words files (gives o)
-    of-run o is = plain-run words c named (works-plainly c.verb files c (gives (made name bytes)) works) files (gives o) is
+module _ (files : List NamedFile) (t : Task) (name bytes : List ℕ) (works : work_of t files (gives (made name bytes))) where
+  module _ (words : List (List ℕ)) (c : Command) (named : answer_of words ≡ Ok c) (asks : request_of c ≡ request.Run t) where
+    of-run : (o : Output) → work_of t files (gives o) → run_of words files (gives o)
+    of-run o is = plain-run words c named t asks files (gives o) is
 
     module _ (call : Call) (result : Outcome) (is : Answers words call result) (calm : IsUndisturbed files call result) where
       is-done : result ≡ outcome.Done
@@ -136,27 +142,29 @@ module _ (files : List NamedFile) (c : Command) (name bytes : List ℕ) (works :
 
       makes-file : MakesFile name bytes call
       makes-file =
-          let works_so = works-plainly c.verb files c (gives (made name bytes)) works in
-          let came = done-comes files call c result (answers-for files call c words result is named works_so) calm is-done in
+          let came = done-comes files call t result (plain-answers words c named t asks call result is) calm is-done in
           let hold : HoldBytes files = of-files call files calm.known HoldBytes calm.revealed.bytes in
           let same : came.output ≡ made name bytes = value-same came.output (made name bytes)
           (run_of-single words files hold (gives came.output) (gives (made name bytes)) (of-run came.output came.comes) (of-run (made name bytes) works)) in
           subst (λ (o : Output). PutsOut o call) same came.puts_out
 
-  makes : Makes files c name bytes
+  makes : Makes files t name bytes
   makes = record {
     work = works;
-    run = λ words call result is calm named. (is-done words named call result is calm, makes-file words named call result is calm);
+    run = λ words call result c is calm named asks.
+        (is-done words c named asks call result is calm, makes-file words c named asks call result is calm);
   }
 
 pub texts-come-back : TextsComeBack
 texts-come-back text maus runs low high short is few = record {
-  module_file = λ files c name out does there.
-      makes files c out (written (text_parts maus runs)) (module-file text maus runs low high short is few files c name out does there);
+  module_file = λ files inputs name out alone there.
+      makes files (task.FromTxt inputs maus out) out (written (text_parts maus runs))
+      (module-file text maus runs low high short is few files inputs name out alone there);
   read_back = read-back (text_parts maus runs) (text-is-module maus runs low high (has-module text maus runs low high short is few)
       (has-text text maus runs low high short is few) few true) few;
-  text_file = λ files c name out does there.
+  text_file = λ files inputs name out does there.
       let (r, is_location, same) = text_located maus runs (has-module text maus runs low high short is few) low high in
-      makes files c out (txt_text runs) (text-file text maus runs low high short is few r is_location files c name out does there same);
+      makes files (task.Locate inputs None (product.TiTxt out)) out (txt_text runs)
+      (text-file text maus runs low high short is few r is_location files inputs name out does there same);
   same_runs = written_is_read (8 * maus) runs (has-text text maus runs low high short is few);
 }

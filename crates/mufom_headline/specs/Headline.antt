@@ -1,10 +1,8 @@
 -- The result of a run of a command that locates: the main law of the program. It can be read alone, with the definitions that it names.
-use Rattle.std.specs.Prelude.{◌≡◌, ◌↔◌, ◌<◌, ℕ, List, [], ◌∷◌, length, Some, None, Ok}
+use Rattle.std.specs.Prelude.{◌≡◌, ◌↔◌, ◌<◌, ℕ, List, [], ◌∷◌, length, Option, Some, None, Ok}
 use Rattle.mufom_numbers.specs.declared.limits.TheConstants.{MOST_FILE_BYTES}
 use Rattle.mufom_host.specs.World.{NamedFile}
 use Rattle.mufom_words.specs.declared.command.Command.{Command}
-use Rattle.mufom_words.specs.declared.command.Verb.{Verb}
-use Rattle.mufom_words.specs.declared.command.Verb.TheVariants as verb
 use Rattle.mufom_words.specs.Answer.{answer_of}
 use Rattle.mufom_words.specs.Tree.{tree_of}
 use Rattle.mufom_module.specs.declared.module.Parts.{Parts}
@@ -23,30 +21,36 @@ use Rattle.mufom_groups.specs.Work.{gives}
 use Rattle.mufom_origins.specs.declared.origins.Origin.{Origin}
 use Rattle.mufom_origins.specs.Origins.{FileModule, origins_of}
 use Rattle.mufom_map.specs.MapText.{map_text}
-use Rattle.mufom_command.specs.declared.outcome.Outcome.{Outcome}
-use Rattle.mufom_command.specs.declared.outcome.Outcome.TheVariants as outcome
-use Rattle.mufom_command.specs.declared.outcome.Refusal.TheVariants as refusal
-use Rattle.mufom_command.specs.LocateRefusals.{locate_refusal}
-use Rattle.mufom_command.specs.Commands.{Kept, kept_of, mapped_kept, maus_of}
+use Rattle.mufom_outcome.specs.declared.outcome.Outcome.{Outcome}
+use Rattle.mufom_outcome.specs.declared.outcome.Outcome.TheVariants as outcome
+use Rattle.mufom_outcome.specs.declared.outcome.Refusal.TheVariants as refusal
+use Rattle.mufom_outcome.specs.LocateRefusals.{locate_refusal}
+use Rattle.mufom_task.specs.declared.task.Inputs.{Inputs}
+use Rattle.mufom_task.specs.declared.task.Product.{Product}
+use Rattle.mufom_task.specs.declared.task.Product.TheVariants as product
+use Rattle.mufom_task.specs.declared.task.Request.TheVariants as request
+use Rattle.mufom_task.specs.declared.task.Task.TheVariants as task
+use Rattle.mufom_task.specs.Calls.{Call}
+use Rattle.mufom_task.specs.Tasks.{request_of}
+use Rattle.mufom_command.specs.Works.{Kept, kept_of, mapped_kept, maus_of}
 use Rattle.mufom_command.specs.FlatFiles.{AreFlatFiles}
 use Rattle.mufom_command.specs.Contract.{Answers}
-use Rattle.mufom_command.specs.Run.{Call, PrintsText}
-use Rattle.mufom_command.specs.RunLaws.{Accepts, CameByStages, HasNoFact, IsLocating, IsUndisturbed, MayPutOut}
+use Rattle.mufom_command.specs.Run.{MakesFile, PrintsText}
 use Rattle.mufom_command.specs.Text.{hit_text}
-use Rattle.mufom_headline.specs.ReadBack.{IsPutInFile, MakesOutFile}
+use Rattle.mufom_run_laws.specs.RunLaws.{Accepts, CameByStages, HasNoFact, IsUndisturbed, MayPutOut}
+use Rattle.mufom_headline.specs.ReadBack.{IsPutInFile}
 
 -- The output of a run is this location of what is kept, and nothing else. `locate` writes the file of the location's absolute module, from which a
 -- later run reads that module; `bin` writes the file of its raw image, and `txt` the file of its TI-TXT text. `dump` prints the text of its image;
 -- `addr` prints the lines of the function and the source line at the address in its arguments; `map` prints the sections and symbols with their
 -- addresses and the modules from which they come. `origins` are the names of these modules, their files, and the numbers of their entries.
-abbrev pub PutsOutLocation : Verb → Command → List Origin → Plan → Kept → LocatedParts → Call → Type 0
-PutsOutLocation verb.Locate c origins plan kept r call = IsPutInFile c (absolute_of r) call
-PutsOutLocation verb.Bin c origins plan kept r call = MakesOutFile c (raw_image c.fill r.runs) call
-PutsOutLocation verb.Txt c origins plan kept r call = MakesOutFile c (txt_text r.runs) call
-PutsOutLocation verb.Dump c origins plan kept r call = PrintsText (image_text r) call
-PutsOutLocation verb.Addr c origins plan kept r call = PrintsText (hit_text r.maus (hit_at r.debug c.at)) call
-PutsOutLocation verb.Map c origins plan kept r call = PrintsText (map_text (mapped_kept origins plan kept r)) call
-PutsOutLocation _ c origins plan kept r call = ⊥
+abbrev pub PutsOutLocation : Product → List Origin → Plan → Kept → LocatedParts → Call → Type 0
+PutsOutLocation (product.Absolute out) origins plan kept r call = IsPutInFile out (absolute_of r) call
+PutsOutLocation (product.Raw fill out) origins plan kept r call = MakesFile out (raw_image fill r.runs) call
+PutsOutLocation (product.TiTxt out) origins plan kept r call = MakesFile out (txt_text r.runs) call
+PutsOutLocation product.Image origins plan kept r call = PrintsText (image_text r) call
+PutsOutLocation (product.Hit at) origins plan kept r call = PrintsText (hit_text r.maus (hit_at r.debug at)) call
+PutsOutLocation product.Map origins plan kept r call = PrintsText (map_text (mapped_kept origins plan kept r)) call
 
 -- The output of a run over a list of modules is a location, by the plan, of what is kept of the list. Without `--keep`, that is the list
 -- itself; with it, it is one module: the part of the list's link that the named public symbol needs.
@@ -55,47 +59,50 @@ PutsOutLocation _ c origins plan kept r call = ⊥
 -- of sections and commons; each loaded address holds the byte of the literal or field that is loaded there; nothing else is loaded.
 --
 -- Located alone, by a plan without regions, the absolute module of the location gives the same location.
-pub record IsPutOut (c : Command) (origins : List Origin) (plan : Plan) (list : List Parts) (call : Call) : Type 0 where
+pub record IsPutOut (keep : Option (List ℕ)) (p : Product) (origins : List Origin) (plan : Plan) (list : List Parts) (call : Call) : Type 0 where
   pub kept : Kept
-  pub keeps : kept_of c.keep list (gives kept)
+  pub keeps : kept_of keep list (gives kept)
   pub location : LocatedParts
   pub is_location : IsLocation kept.modules plan location
   pub itself : IsLocation (absolute_of location ∷ []) no_regions location
-  pub puts_out : PutsOutLocation c.verb c origins plan kept location call
+  pub puts_out : PutsOutLocation p origins plan kept location call
 
 -- The raw image that `bin` would make of the list is not too long for a file. This is always true for the other commands, which have no such limit.
-abbrev pub IsNotTooLong : Command → Plan → List Parts → Type 0
-IsNotTooLong c plan list = (kept : Kept) (r : LocatedParts) → kept_of c.keep list (gives kept) → IsLocation kept.modules plan r → MayPutOut c.verb c r
+abbrev pub IsNotTooLong : Option (List ℕ) → Product → Plan → List Parts → Type 0
+IsNotTooLong keep p plan list = (kept : Kept) (r : LocatedParts) → kept_of keep list (gives kept) → IsLocation kept.modules plan r → MayPutOut p r
 
 -- The result of the run is that of locating this list. It is `Done` if and only if the list can be linked, what is kept of it can be located, and the
 -- raw image of `bin` is not too long; the output is then the location. If the list can be linked but what is kept of it cannot be located, the run is
 -- refused with the first error of locating it. A raw image that is too long is refused with its length in bytes.
-pub record HasLocated (c : Command) (origins : List Origin) (plan : Plan) (call : Call) (result : Outcome) (list : List Parts) : Type 0 where
-  pub done : (result ≡ outcome.Done) ↔ (HasNoFact c.keep list plan × IsNotTooLong c plan list)
-  pub output : result ≡ outcome.Done → IsPutOut c origins plan list call
-  pub refused : (kept : Kept) (f : LocateFact) → link_answer list ≡ None → kept_of c.keep list (gives kept)
+pub record HasLocated (keep : Option (List ℕ)) (p : Product) (origins : List Origin) (plan : Plan) (call : Call) (result : Outcome) (list : List Parts)
+    : Type 0 where
+  pub done : (result ≡ outcome.Done) ↔ (HasNoFact keep list plan × IsNotTooLong keep p plan list)
+  pub output : result ≡ outcome.Done → IsPutOut keep p origins plan list call
+  pub refused : (kept : Kept) (f : LocateFact) → link_answer list ≡ None → kept_of keep list (gives kept)
       → locate_answer kept.modules plan ≡ Some f → result ≡ outcome.Refused (refusal.Locate (locate_refusal f) (maus_of kept.modules))
-  pub too_long : (kept : Kept) (r : LocatedParts) → link_answer list ≡ None → kept_of c.keep list (gives kept) → IsLocation kept.modules plan r
-      → c.verb ≡ verb.Bin → MOST_FILE_BYTES < length (raw_image c.fill r.runs)
-      → result ≡ outcome.Refused (refusal.Bin (length (raw_image c.fill r.runs)))
+  pub too_long : (kept : Kept) (r : LocatedParts) (fill : ℕ) (out : List ℕ) → link_answer list ≡ None → kept_of keep list (gives kept)
+      → IsLocation kept.modules plan r → p ≡ product.Raw fill out → MOST_FILE_BYTES < length (raw_image fill r.runs)
+      → result ≡ outcome.Refused (refusal.Bin (length (raw_image fill r.runs)))
 
 -- The result of the run is that of locating the flat list of its modules. If earlier runs made these modules from another list by partial
 -- links, in any number of stages, it is also the result of locating that list.
 --
 -- `modules` are those of the files, in their order. `files` are the modules of the flat list, each with the number of its file. A map names
 -- these modules and files for the other list too, since a partial link does not keep the names of the modules that it was made of.
-pub record LocatesAll (c : Command) (plan : Plan) (call : Call) (result : Outcome) (modules flat : List Parts) : Type 0 where
+pub record LocatesAll (inputs : Inputs) (keep : Option (List ℕ)) (p : Product) (plan : Plan) (call : Call) (result : Outcome) (modules flat : List Parts)
+    : Type 0 where
   pub files : List FileModule
-  pub are_files : AreFlatFiles (tree_of c.marks) modules files
-  pub located : HasLocated c (origins_of files) plan call result flat
-  pub staged : (leaves : List Parts) → CameByStages flat leaves → HasLocated c (origins_of files) plan call result leaves
+  pub are_files : AreFlatFiles (tree_of inputs.marks) modules files
+  pub located : HasLocated keep p (origins_of files) plan call result flat
+  pub staged : (leaves : List Parts) → CameByStages flat leaves → HasLocated keep p (origins_of files) plan call result leaves
 
 -- For all arguments, files and plans: if no I/O call failed, the run did not run out of memory, and the plan and the files were accepted,
 -- then `locate`, `bin`, `txt`, `dump`, `addr` and `map` locate the flat list of the modules, and each list from which that was linked in
 -- stages.
 abbrev pub TheHeadline : Type 0
 TheHeadline =
-    (words : List (List ℕ)) (files : List NamedFile) (call : Call) (result : Outcome) (c : Command) (plan : Plan) (flat : List Parts)
+    (words : List (List ℕ)) (files : List NamedFile) (call : Call) (result : Outcome) (c : Command) (inputs : Inputs) (keep : Option (List ℕ)) (p : Product)
+    (plan : Plan) (flat : List Parts)
     → Answers words call result → IsUndisturbed files call result
-    → answer_of words ≡ Ok c → IsLocating c.verb → (accepts : Accepts files c plan flat)
-    → LocatesAll c plan call result accepts.modules flat
+    → answer_of words ≡ Ok c → request_of c ≡ request.Run (task.Locate inputs keep p) → (accepts : Accepts files inputs plan flat)
+    → LocatesAll inputs keep p plan call result accepts.modules flat

@@ -3,7 +3,6 @@ use Rattle.std.specs.Prelude.{◌≡◌, ◌≤◌, ℕ, ◌*◌, List, [], ◌�
 use Rattle.mufom_numbers.specs.declared.limits.TheConstants.{MOST_FILE_BYTES}
 use Rattle.mufom_host.specs.World.{NamedFile, file_named}
 use Rattle.mufom_words.specs.declared.command.Command.{Command}
-use Rattle.mufom_words.specs.declared.command.Verb.TheVariants as verb
 use Rattle.mufom_words.specs.Answer.{answer_of}
 use Rattle.mufom_words.specs.Tree.{empty, file, tree_of}
 use Rattle.mufom_module.specs.Written.{written}
@@ -12,45 +11,43 @@ use Rattle.mufom_titxt.specs.TextModules.{text_parts}
 use Rattle.mufom_titxt.specs.Texts.{IsTxtOf}
 use Rattle.mufom_titxt.specs.Written.{txt_text}
 use Rattle.mufom_groups.specs.Work.{gives}
-use Rattle.mufom_command.specs.declared.outcome.Outcome.{Outcome}
-use Rattle.mufom_command.specs.declared.outcome.Outcome.TheVariants as outcome
-use Rattle.mufom_command.specs.Commands.{made, work_of}
+use Rattle.mufom_outcome.specs.declared.outcome.Outcome.{Outcome}
+use Rattle.mufom_outcome.specs.declared.outcome.Outcome.TheVariants as outcome
+use Rattle.mufom_task.specs.declared.task.Inputs.{Inputs}
+use Rattle.mufom_task.specs.declared.task.Product.TheVariants as product
+use Rattle.mufom_task.specs.declared.task.Request.TheVariants as request
+use Rattle.mufom_task.specs.declared.task.Task.{Task}
+use Rattle.mufom_task.specs.declared.task.Task.TheVariants as task
+use Rattle.mufom_task.specs.Calls.{Call}
+use Rattle.mufom_task.specs.Tasks.{request_of}
+use Rattle.mufom_command.specs.Works.{made, work_of}
 use Rattle.mufom_command.specs.Contract.{Answers}
-use Rattle.mufom_command.specs.Run.{Call, MakesFile}
-use Rattle.mufom_command.specs.RunLaws.{IsUndisturbed}
+use Rattle.mufom_command.specs.Run.{MakesFile}
+use Rattle.mufom_run_laws.specs.RunLaws.{IsUndisturbed}
 use Rattle.mufom_headline.specs.ReadBack.{IsReadBack}
 
--- `fromtxt` with this file name, this number of addressable units to an address, and this name after `-o`
-pub record IsFromTxt (c : Command) (units : ℕ) (name out : List ℕ) : Type 0 where
-  pub does : c.verb ≡ verb.FromTxt
-  pub files : c.files ≡ name ∷ []
-  pub maus : c.maus ≡ units
-  pub puts_out : c.out ≡ Some out
+-- the inputs are this file alone, without a plan
+pub record IsFileAlone (inputs : Inputs) (name : List ℕ) : Type 0 where
+  pub files : inputs.files ≡ name ∷ []
+  pub marks : tree_of inputs.marks ≡ file 0 empty
+  pub plan : inputs.plan ≡ None
 
--- `txt` with this file name alone, with this name after `-o`, and without `--plan` and `--keep`
-pub record IsTxtAlone (c : Command) (name out : List ℕ) : Type 0 where
-  pub does : c.verb ≡ verb.Txt
-  pub files : c.files ≡ name ∷ []
-  pub marks : tree_of c.marks ≡ file 0 empty
-  pub plan : c.plan ≡ None
-  pub keep : c.keep ≡ None
-  pub puts_out : c.out ≡ Some out
-
--- The work of the command over these files has a file with this name and these bytes as its output. A run of the command is `Done`, and makes this
+-- The work of the task over these files has a file with this name and these bytes as its output. A run that asks for the task is `Done`, and makes this
 -- file and nothing else, if no I/O call failed and it did not run out of memory.
-pub record Makes (files : List NamedFile) (c : Command) (name bytes : List ℕ) : Type 0 where
-  pub work : work_of c.verb files c (gives (made name bytes))
-  pub run : (words : List (List ℕ)) (call : Call) (result : Outcome) → Answers words call result → IsUndisturbed files call result
-      → answer_of words ≡ Ok c → (result ≡ outcome.Done) × MakesFile name bytes call
+pub record Makes (files : List NamedFile) (t : Task) (name bytes : List ℕ) : Type 0 where
+  pub work : work_of t files (gives (made name bytes))
+  pub run : (words : List (List ℕ)) (call : Call) (result : Outcome) (c : Command) → Answers words call result → IsUndisturbed files call result
+      → answer_of words ≡ Ok c → request_of c ≡ request.Run t → (result ≡ outcome.Done) × MakesFile name bytes call
 
--- Given the text, `fromtxt` makes the file of the module of the runs, from which a later run reads that module. Given this file, `txt` makes the text
--- of the runs, which is again a text of them.
+-- Given the text, `fromtxt` makes the file of the module of the runs, from which a later run reads that module. Given this file, `txt` without `--keep`
+-- makes the text of the runs, which is again a text of them.
 pub record ComesBack (text : List ℕ) (maus : ℕ) (runs : List Run) : Type 0 where
-  pub module_file : (files : List NamedFile) (c : Command) (name out : List ℕ) → IsFromTxt c maus name out
-      → file_named name files ≡ Some text → Makes files c out (written (text_parts maus runs))
+  pub module_file : (files : List NamedFile) (inputs : Inputs) (name out : List ℕ) → inputs.files ≡ name ∷ [] → file_named name files ≡ Some text
+      → Makes files (task.FromTxt inputs maus out) out (written (text_parts maus runs))
   pub read_back : IsReadBack (text_parts maus runs)
-  pub text_file : (files : List NamedFile) (c : Command) (name out : List ℕ) → IsTxtAlone c name out
-      → file_named name files ≡ Some (written (text_parts maus runs)) → Makes files c out (txt_text runs)
+  pub text_file : (files : List NamedFile) (inputs : Inputs) (name out : List ℕ) → IsFileAlone inputs name
+      → file_named name files ≡ Some (written (text_parts maus runs))
+      → Makes files (task.Locate inputs None (product.TiTxt out)) out (txt_text runs)
   pub same_runs : IsTxtOf (txt_text runs) (8 * maus) runs
 
 -- A text without an error comes back, if it and the file of its module are not too long.

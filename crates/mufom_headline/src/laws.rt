@@ -1,12 +1,12 @@
 //! Laws of whole runs, each the contract of a function that does nothing.
 
 ghost use Rattle.mufom_headline.specs.Headline.{TheHeadline};
-ghost use Rattle.mufom_headline.specs.Linking.{LinkingIsDone, LinksArePutOut, StagedMapsAreFlat, StagedRunsAreFlat};
+ghost use Rattle.mufom_headline.specs.Linking.{LinkingIsDone, LinksArePutOut, StagedRunsAreFlat};
 ghost use Rattle.mufom_headline.specs.ReadBack.{WrittenFilesAreReadBack};
 ghost use Rattle.mufom_headline.specs.Texts.{TextsComeBack};
 
 /// If no I/O call failed, the run did not run out of memory, and the plan and the files were accepted,
-/// a command that locates is `Done` if and only if the flat list of the modules can be linked, what is
+/// a task that locates is `Done` if and only if the flat list of the modules can be linked, what is
 /// kept of it can be located, and the raw image of `bin` is not too long. The output is then that
 /// location, as a file or as a text, and nothing else. If earlier runs made the modules from another
 /// list in stages, the same holds of that list; its map names the modules of the files.
@@ -27,16 +27,10 @@ pub fn links_are_put_out()
     ensures { LinksArePutOut }
 {}
 
-/// The work of a command whose files were linked in stages is its work over the list that the stages
-/// began with, whether or not that list can be linked.
+/// The work of a task whose files were linked in stages is its work over the list that the stages began
+/// with, whether or not that list can be linked. A map names the modules of the files.
 pub fn staged_runs_are_flat()
     ensures { StagedRunsAreFlat }
-{}
-
-/// The result of `map` over files that were linked in stages is the map of the list that the stages began
-/// with, which names the modules of the files, or the same link error.
-pub fn staged_maps_are_flat()
-    ensures { StagedMapsAreFlat }
 {}
 
 /// A later run reads exactly this module from the file of a module, if the file is not too long.

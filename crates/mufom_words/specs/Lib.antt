@@ -7,4 +7,3 @@ pub mod Explain
 pub mod Answer
 pub mod Faulty
 pub mod Sound
-pub mod Alike

@@ -1,6 +1,7 @@
 -- What holds for each command that arguments give.
 use Rattle.std.specs.Prelude.{◌≡◌, ℕ, zero, suc, ◌≤◌, List, [], ◌∷◌, length, true, false, Some, None, Ok, IfSome, IsSome}
 use Rattle.mufom_words.specs.declared.command.Command.{Command}
+use Rattle.mufom_words.specs.declared.command.Mark.{Mark}
 use Rattle.mufom_words.specs.declared.form.Form.{Form}
 use Rattle.mufom_words.specs.Options.{Text, keeps_what_is_needed, makes_file, makes_modules, names_module, prints_help, reads_files, reads_plan, takes_one_file}
 use Rattle.mufom_numbers.specs.declared.limits.TheConstants.{MOST_MODULES, MOST_STRING_BYTES}
@@ -12,11 +13,11 @@ abbrev pub numbers_from : ℕ → ℕ → List ℕ
 numbers_from n zero = []
 numbers_from n (suc count) = n ∷ numbers_from (suc n) count
 
--- The marks are those of a tree of files. Its leaves are the first of the files, in their order.
-pub record HasTree (c : Command) : Type 0 where
-  pub spelled : spelling (tree_of c.marks) ≡ c.marks
-  pub numbered : leaves (tree_of c.marks) ≡ numbers_from 0 (length (leaves (tree_of c.marks)))
-  pub within : length (leaves (tree_of c.marks)) ≤ length c.files
+-- The marks are those of a tree of files. Its leaves are the first of this many files, in their order.
+pub record HasTree (marks : List Mark) (count : ℕ) : Type 0 where
+  pub spelled : spelling (tree_of marks) ≡ marks
+  pub numbered : leaves (tree_of marks) ≡ numbers_from 0 (length (leaves (tree_of marks)))
+  pub within : length (leaves (tree_of marks)) ≤ count
 
 -- If the command reads files, the tree has a file; otherwise there are no files. A command for one file has exactly one, and there are
 -- no more files than a run may have.
@@ -42,7 +43,7 @@ pub record HasOptions (c : Command) : Type 0 where
   pub help : prints_help c.verb ≡ true → IsSome c.help
 
 pub record IsSound (c : Command) : Type 0 where
-  pub tree : HasTree c
+  pub tree : HasTree c.marks (length c.files)
   pub files : HasFiles c
   pub options : HasOptions c
 

@@ -56,7 +56,7 @@ impl HelpText {
     ghost use Rattle.std.specs.Prelude.{◌≡◌};
 
     /// The text as a value of its own.
-    pub(crate) fn new(text: &'static str) -> HelpText
+    pub fn new(text: &'static str) -> HelpText
         ensures { result ≡ text.now }
     {
         HelpText { text }

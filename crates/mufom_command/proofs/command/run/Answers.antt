@@ -2,7 +2,7 @@ use Rattle.std.proofs.Common.{ℕ, List, map}
 use Rattle.std.specs.String.{string_bytes}
 use Rattle.mufom_host.specs.World.{Faults, Meaning}
 use Rattle.mufom_words.specs.Answer.{answer_of}
-use Rattle.mufom_command.specs.Run.{Call, call_of}
+use Rattle.mufom_task.specs.Calls.{Call, call_of}
 use Rattle.mufom_command.proofs.AnswerLaws.{IsAnswered, answered, err-before, line-since}
 use Rattle.mufom_command.proofs.MakeLaws.{never-lacks}
 use Rattle.mufom_command.proofs.Runs.{answers-complete}

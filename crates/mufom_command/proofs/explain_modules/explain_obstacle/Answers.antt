@@ -1,45 +1,48 @@
-use Rattle.std.proofs.Common.{◌≡◌, ◌∙◌, rules, List, [], ◌∷◌, ℕ, map, sym, ap, subst}
-use Rattle.std.specs.String.{string_bytes}
-use Rattle.mufom_explain.specs.Details.{locate_details}
-use Rattle.mufom_explain.specs.Explained.{locate_text}
+use Rattle.std.proofs.Common.{None, ap, refl, subst, sym, ◌∙◌, ◌≡◌}
+use Rattle.mufom_command.proofs.KeptFlat.{told-ends, told-flat, told-kept}
+use Rattle.mufom_command.specs.FlatFiles.{files_with}
+use Rattle.mufom_command.specs.Locations.{HasPlan, IsObstacle}
+use Rattle.mufom_command.specs.RunParts.{AreReadFrom}
 use Rattle.mufom_explain.specs.Flat.{flat_of}
-use Rattle.mufom_command.specs.declared.outcome.Outcome.{Outcome}
-use Rattle.mufom_command.specs.declared.outcome.Outcome.TheVariants as outcome
-use Rattle.mufom_command.specs.declared.outcome.Refusal.TheVariants as refusal
-use Rattle.mufom_command.specs.Commands.{located}
-use Rattle.mufom_command.specs.RunParts.{EndsOver}
-use Rattle.mufom_command.specs.WorkEnds.{EndsAt}
-use Rattle.mufom_command.proofs.ToldEnds.{is-met, obstacle-over, own_explained}
-use Rattle.mufom_command.proofs.ToldLaws.{told-nothing, told-printed}
+use Rattle.mufom_outcome.specs.Outcomes.{outcome_of_prune}
+use Rattle.mufom_plan.specs.declared.plan.Plan.{Plan}
+use Rattle.mufom_words.specs.Tree.{tree_of}
+use Rattle.mufom_task.specs.declared.task.Task.TheVariants as task
 use Rattle.mufom_command.proofs.explain_modules.explain_obstacle.Goals as goal
 
-pub returns-in_default : goal.returns-in_default
-returns-in_default g c = λ files ms kept is keeps.
-    told-nothing (map (λ word. string_bytes word) c.args.words.now) c.args.command.now files (g.H.World.meaning c.args.host.now)
-    (g.H.World.faults c.args.host.now)
-
-pub explain_locate-requires-clause-met : goal.explain_locate-requires-clause-met
-explain_locate-requires-clause-met g c =
-    let plan = c.args.plan.now in let object = c.args.part.now.object in let refused = c.in-Refused-Locate.refusal in
-    let maus = c.in-Refused-Locate.field-0-1 in
-    let known : c.args.answer.now ≡ outcome.Refused (refusal.Locate refused maus)
-    = search (rules, c.in-Refused-Locate.is, c.in-Refused-Locate.field-0-is) in
-    is-met plan (object ∷ []) refused maus (subst (λ (o : Outcome). EndsAt (located plan (object ∷ [])) o) known c.requires.stops)
+pub returns-in-Unlinked : goal.returns-in-Unlinked
+returns-in-Unlinked g c = λ files plan made read planned.
+    let inputs = c.args.inputs.now in let keep = c.args.keep.now in let ms = c.args.modules.now in
+    let tree = tree_of inputs.marks in let linkable = c.requires.linkable in
+    let is = subst (IsObstacle tree keep ms) c.in-Unlinked.is c.requires.obstacle in
+    c.explain_unlinked.ensures files plan (task.Locate inputs keep made) None read (refl, refl) is
 
 pub returns-in-Ok : goal.returns-in-Ok
-returns-in-Ok g c = λ files ms kept is keeps.
-    let words : List (List ℕ) = map (λ word. string_bytes word) c.args.words.now in
-    let command = c.args.command.now in let answer = c.args.answer.now in let flat = flat_of c.args.flat.now in
-    let plan = c.args.plan.now in let object = c.args.part.now.object in let origins = c.args.part.now.origins in
-    let refused = c.in-Refused-Locate.refusal in let maus = c.in-Refused-Locate.field-0-1 in
-    let known : answer ≡ outcome.Refused (refusal.Locate refused maus)
-    = search (rules, c.in-Refused-Locate.is, c.in-Refused-Locate.field-0-is) in
-    let text : List ℕ = locate_text c.in-Ok.details in
-    told-printed words command files (g.H.World.meaning c.args.host.now) (g.H.World.meaning c.print_explanation.new.host)
-    (g.H.World.faults c.args.host.now) (g.H.World.faults c.print_explanation.new.host) c.print_explanation.ensures.only answer text
-    c.print_explanation.result c.print_explanation.ensures.answer
-    (subst (λ (o : Outcome). EndsOver files command o text) (sym known)
-    (obstacle-over files command plan ms flat is object origins kept keeps refused maus text
-    (subst (λ (o : Outcome). EndsAt (located plan (object ∷ [])) o) known c.requires.stops)
-    (c.in-Ok.ensures
-    ∙ ap (λ (names : List (List ℕ)). locate_details (record (own_explained command plan flat origins object) { names = names }) refused) c.as_slice.ensures)))
+returns-in-Ok g c = λ files plan made read planned.
+    let inputs = c.args.inputs.now in let keep = c.args.keep.now in let ms = c.args.modules.now in
+    let tree = tree_of inputs.marks in let linkable = c.requires.linkable in
+    let is = subst (IsObstacle tree keep ms) c.in-Unkept.is c.requires.obstacle in
+    let places = c.in-Unkept.places in let flat = flat_of c.deref.result.now in
+    let are : flat ≡ files_with tree ms places.chosen = ap flat_of c.deref.ensures.value ∙ c.in-Ok.ensures.flat in
+    c.explain_unkept.ensures files plan ms keep made (record {
+      linked = told-flat tree linkable.sound.tree.numbered ms linkable.valid keep places is.whole is.link flat are files inputs refl plan read;
+      ends = told-ends tree linkable.sound.tree.numbered ms linkable.valid keep places is.whole is.link flat are (outcome_of_prune c.in-Unkept.refusal)
+          is.ends;
+    })
+
+pub returns-in-Ok-flat_list : goal.returns-in-Ok-flat_list
+returns-in-Ok-flat_list g c = λ files plan made read planned.
+    let inputs = c.args.inputs.now in let keep = c.args.keep.now in let ms = c.args.modules.now in
+    let tree = tree_of inputs.marks in let linkable = c.requires.linkable in
+    let is = subst (IsObstacle tree keep ms) c.in-Unlocated.is c.requires.obstacle in
+    let places = c.in-Unlocated.places in let flat = flat_of c.deref-in-Unlocated.result.now in
+    let are : flat ≡ files_with tree ms places.chosen = ap flat_of c.deref-in-Unlocated.ensures.value ∙ c.in-Ok-flat_list.ensures.flat in
+    let own = c.in-Unlocated.plan in let part = c.in-Unlocated.part in
+    let same : own ≡ plan = subst (HasPlan plan) c.in-Unlocated.is planned in
+    let kept = told-kept tree linkable.sound.tree.numbered ms linkable.valid keep places is.whole is.link flat are own part is.kept in
+    c.explain_unlocated.ensures files ms keep made (record {
+      linked = told-flat tree linkable.sound.tree.numbered ms linkable.valid keep places is.whole is.link flat are files inputs refl own
+          (subst (λ (x : Plan). AreReadFrom files inputs x ms) (sym same) read);
+      kept = kept.0;
+      keeps = kept.1;
+    })

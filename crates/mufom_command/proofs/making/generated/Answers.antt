@@ -1,8 +1,9 @@
 use Rattle.std.proofs.Common.{ℕ, sym, ap, subst, ◌∙◌}
 use Rattle.mufom_make.specs.Generated.{made_modules, made_plan}
-use Rattle.mufom_command.specs.declared.outcome.Outcome.{Outcome}
-use Rattle.mufom_command.specs.Commands.{located}
-use Rattle.mufom_command.specs.WorkEnds.{EndsAt, outcome_of_locate}
+use Rattle.mufom_outcome.specs.declared.outcome.Outcome.{Outcome}
+use Rattle.mufom_command.specs.Works.{located}
+use Rattle.mufom_command.specs.WorkEnds.{EndsAt}
+use Rattle.mufom_outcome.specs.Outcomes.{outcome_of_locate}
 use Rattle.mufom_command.proofs.EndLaws.{is-located, locate-ends}
 use Rattle.mufom_command.proofs.MakeLaws.{made-units}
 use Rattle.mufom_command.proofs.making.generated.Goals as goal

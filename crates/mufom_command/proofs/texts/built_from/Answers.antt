@@ -1,6 +1,6 @@
 use Rattle.std.proofs.Common.{Err, ap, inr, refl}
 use Rattle.mufom_build.specs.declared.refusal.BuildRefusal.TheVariants as build
-use Rattle.mufom_command.specs.Stop.{listing_refused}
+use Rattle.mufom_outcome.specs.Stop.{listing_refused}
 use Rattle.mufom_command.proofs.texts.built_from.Goals as goal
 
 pub returns-in-Err-Module-clause-stops : goal.returns-in-Err-Module-clause-stops

@@ -1,5 +1,5 @@
 use Rattle.std.proofs.Common.{Err, ap}
-use Rattle.mufom_command.proofs.TextRuns.{text-refusal}
+use Rattle.mufom_command.proofs.TextLaws.{text-refusal}
 use Rattle.mufom_command.proofs.texts.runs_of.Goals as goal
 
 pub returns-in-Err-Refused-clause-stops : goal.returns-in-Err-Refused-clause-stops

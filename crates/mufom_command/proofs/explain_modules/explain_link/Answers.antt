@@ -1,0 +1,35 @@
+use Rattle.std.proofs.Common.{List, arith, map, refl, subst, sym, ℕ}
+use Rattle.std.specs.String.{string_bytes}
+use Rattle.mufom_command.proofs.ExplainReading.{inputs-end, unread-explains}
+use Rattle.mufom_command.proofs.ToldLaws.{told-all}
+use Rattle.mufom_command.proofs.WorkLaws.{linking-begins}
+use Rattle.mufom_command.specs.RunParts.{AreReadFrom}
+use Rattle.mufom_command.specs.Told.{told_text}
+use Rattle.mufom_command.specs.Works.{linked_file}
+use Rattle.mufom_module.specs.declared.module.Parts.{Parts}
+use Rattle.mufom_task.specs.InputsRead.{inputs_in}
+use Rattle.mufom_task.specs.declared.task.Task.TheVariants as task
+use Rattle.mufom_command.proofs.explain_modules.explain_link.Goals as goal
+
+pub returns-in-Ok : goal.returns-in-Ok
+returns-in-Ok g c =
+    let words : List (List ℕ) = map (λ word. string_bytes word) c.args.words.now in
+    let old = g.H.World.meaning c.args.host.now in let before = g.H.World.faults c.args.host.now in
+    let mid = g.H.World.meaning c.read_inputs.new.host in let between = g.H.World.faults c.read_inputs.new.host in
+    let new = g.H.World.meaning c.explain_linked.new.host in let now = g.H.World.faults c.explain_linked.new.host in
+    let read = c.in-Ok.ensures in let inputs = c.args.inputs.now in let name = c.args.name.now in let out = c.args.out.now in
+    told-all words (task.Link inputs name out) c.requires.asks old mid new before between now read.only read.all c.explain_linked.result
+    (c.explain_linked.ensures old.files c.in-Ok.loaded.plan
+    (subst (λ (l : List Parts). AreReadFrom old.files inputs c.in-Ok.loaded.plan l) (sym c.as_slice-modules.ensures) read.read))
+
+pub returns-in-Err : goal.returns-in-Err
+returns-in-Err g c =
+    let words : List (List ℕ) = map (λ word. string_bytes word) c.args.words.now in
+    let old = g.H.World.meaning c.args.host.now in let before = g.H.World.faults c.args.host.now in
+    let mid = g.H.World.meaning c.read_inputs.new.host in let between = g.H.World.faults c.read_inputs.new.host in
+    let new = g.H.World.meaning c.print_explanation.new.host in let now = g.H.World.faults c.print_explanation.new.host in
+    let read = c.in-Err.ensures in let inputs = c.args.inputs.now in let name = c.args.name.now in let out = c.args.out.now in
+    let put = c.print_explanation.ensures in let some = c.requires.sound.some in let within = c.requires.sound.tree.within in
+    unread-explains words (task.Link inputs name out) c.requires.asks old mid before between read.only new now put.only (λ fs. inputs_in fs inputs)
+    (inputs-end inputs) (linking-begins (λ ms plan flat. linked_file name out flat) inputs) refl (omega (arith, some, within)) c.in-Err.answer read.stops read.opened read.named
+    (told_text c.input_details-details.result) c.input_details-details.ensures c.print_explanation.result put.answer put.told

@@ -1,7 +1,0 @@
-use Rattle.mufom_command.proofs.InputLaws.{HaveRead}
-use Rattle.mufom_command.proofs.inputs.read_files.Given as goal
-
-abbrev pub invariant-loop-number : goal.invariant-loop-number
-invariant-loop-number g l =
-    HaveRead l.reads_debug l.names l.number l.modules l.room (g.H.World.meaning l.initial.host) (g.H.World.meaning l.host)
-    (g.H.World.faults l.initial.host) (g.H.World.faults l.host)

@@ -1,5 +1,0 @@
-use Rattle.mufom_command.proofs.MadeLaws.{absolute-files-stand}
-use Rattle.mufom_command.proofs.laws.absolute_files_stand.Goals as goal
-
-pub returns : goal.returns
-returns c = absolute-files-stand

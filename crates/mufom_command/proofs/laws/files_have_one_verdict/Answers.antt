@@ -1,5 +1,0 @@
-use Rattle.mufom_command.proofs.Runs.{one-verdict}
-use Rattle.mufom_command.proofs.laws.files_have_one_verdict.Goals as goal
-
-pub returns : goal.returns
-returns c = one-verdict

@@ -1,5 +1,0 @@
-use Rattle.mufom_command.proofs.ExplainSingle.{run_of-single}
-use Rattle.mufom_command.proofs.laws.runs_are_single.Goals as goal
-
-pub returns : goal.returns
-returns c = run_of-single

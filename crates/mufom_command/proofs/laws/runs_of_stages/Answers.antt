@@ -1,5 +1,0 @@
-use Rattle.mufom_command.proofs.StageLaws.{runs-of-stages}
-use Rattle.mufom_command.proofs.laws.runs_of_stages.Goals as goal
-
-pub returns : goal.returns
-returns c = runs-of-stages

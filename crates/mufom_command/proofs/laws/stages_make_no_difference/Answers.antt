@@ -1,5 +1,0 @@
-use Rattle.mufom_command.proofs.StageLaws.{stages-alike}
-use Rattle.mufom_command.proofs.laws.stages_make_no_difference.Goals as goal
-
-pub returns : goal.returns
-returns c = stages-alike

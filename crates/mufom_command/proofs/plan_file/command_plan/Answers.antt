@@ -1,8 +1,0 @@
-use Rattle.std.proofs.Common.{List, sym, subst}
-use Rattle.mufom_plan.specs.declared.plan.Region.{Region}
-use Rattle.mufom_image.specs.Placements.{IsSoundPlan}
-use Rattle.mufom_command.proofs.PlanLaws.{no-regions-sound}
-use Rattle.mufom_command.proofs.plan_file.command_plan.Goals as goal
-
-pub returns-in-None-clause-sound : goal.returns-in-None-clause-sound
-returns-in-None-clause-sound g c = subst (λ (l : List Region). IsSoundPlan (record { regions = l })) (sym c.new.ensures) no-regions-sound

@@ -1,0 +1,43 @@
+-- An output that is complete up to the calls that print or write it.
+use Rattle.std.specs.Prelude.{◌≡◌, flat_map, length}
+use Rattle.mufom_host.specs.World.{OnlyPrints}
+use Rattle.mufom_map.specs.MapText.{map_text}
+use Rattle.mufom_module.specs.Written.{written}
+use Rattle.mufom_outcome.specs.declared.outcome.Outcome.{Outcome}
+use Rattle.mufom_task.specs.Calls.{Call}
+use Rattle.mufom_text.specs.Image.{image_text}
+use Rattle.mufom_text.specs.Show.{text_of}
+use Rattle.mufom_titxt.specs.Written.{txt_text}
+use Rattle.mufom_write.specs.Raw.{raw_image}
+use Rattle.mufom_command.specs.declared.ready.Ready.{Ready}
+use Rattle.mufom_command.specs.declared.ready.Ready.TheVariants as ready
+use Rattle.mufom_command.specs.Locations.{AreLocated, shown_of}
+use Rattle.mufom_command.specs.Making.{IsMadeAlone, IsPrinted}
+use Rattle.mufom_command.specs.Works.{Output, made, printed}
+
+-- the output
+abbrev pub ready_output : Ready → Output
+ready_output (ready.Lines bytes) = printed bytes.items
+ready_output (ready.Help text) = printed text.now
+ready_output (ready.Listing ms form) = printed (flat_map (text_of form) ms)
+ready_output (ready.File out object) = made out.now (written object)
+ready_output (ready.Raw out fill r) = made out.now (raw_image fill r.runs)
+ready_output (ready.TiTxt out r) = made out.now (txt_text r.runs)
+ready_output (ready.Image r) = printed (image_text r)
+ready_output (ready.Map m) = printed (map_text (shown_of m))
+
+-- there is one module whose text is printed, and a map is of a module that is located
+abbrev pub IsReady : Ready → Type 0
+IsReady (ready.Listing ms form) = length ms ≡ 1
+IsReady (ready.Map m) = AreLocated m
+IsReady _ = Unit {0}
+
+-- the output is a text of the program
+abbrev pub IsHelp : Ready → Type 0
+IsHelp (ready.Help text) = Unit {0}
+IsHelp _ = ⊥
+
+-- The effect of putting the output out, and nothing else.
+abbrev pub IsPutOut : Output → Call → Outcome → Type 0
+IsPutOut (printed text) call result = IsPrinted text call result × OnlyPrints call.old call.new call.before call.now
+IsPutOut (made name bytes) call result = IsMadeAlone name bytes call result

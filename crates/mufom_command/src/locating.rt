@@ -1,0 +1,238 @@
+//! Links and locates the modules of a task.
+
+ghost use Rattle.std.specs.Prelude.{◌≡◌, ◌<◌, ◌+◌, ◌^◌, None, Some, IfErr, IfOk};
+ghost use Rattle.mufom_image.specs.Placements.{IsSoundPlan};
+ghost use Rattle.mufom_names.specs.Names.{names_of, AreDistinct};
+ghost use Rattle.mufom_module.specs.Written.{weight};
+ghost use Rattle.mufom_meaning.specs.Absolute.{absolute_of};
+ghost use Rattle.mufom_words.specs.Tree.{tree_of};
+ghost use Rattle.mufom_groups.specs.Groups.{most_weight, StopsWork};
+ghost use Rattle.mufom_groups.specs.Linked.{linked_module};
+ghost use Rattle.mufom_origins.specs.Origins.{origins_left};
+ghost use Rattle.mufom_outcome.specs.Outcomes.{outcome_of_prune as of_prune};
+ghost use Rattle.mufom_command.specs.Locations.{outcome_of_obstacle as of_obstacle, AreLinkable, AreMapped, HasPlan, IsKeptPart, IsObstacle, IsTracedLink};
+ghost use Rattle.mufom_command.specs.Locations.{IsUnlocatedPart, LocatesPart};
+ghost use Rattle.mufom_command.specs.WorkEnds.{own_kept, EndsAt};
+
+use mufom_groups::link_with_members;
+use mufom_image::{LocateRefusal, Located, locate};
+use mufom_link::LinkRefusal;
+use mufom_module::Module;
+use mufom_numbers::{Bytes, List, NoMemory};
+use mufom_origins::Origins;
+use mufom_outcome::{Outcome, outcome_of_link, outcome_of_locate, outcome_of_prune};
+use mufom_plan::Plan;
+use mufom_prune::{PruneRefusal, Pruned, prune_with_marks};
+use mufom_task::{Inputs, Loaded};
+use std::alloc::Global;
+
+/// A module with the origins of its entries.
+#[derive(Drop)]
+pub(crate) struct TracedModule {
+    /// The modules of the flat list, with their files and the numbers of their entries that the module has.
+    pub(crate) origins: Origins,
+    /// The link of the flat list, or what is kept of it.
+    pub(crate) object: Module,
+}
+
+/// The files of a flat list.
+#[derive(Drop)]
+pub(crate) struct Places {
+    /// The number of files of the tree, which come first.
+    pub(crate) roots: usize,
+    /// The positions of the members that were selected, among the files after those of the tree.
+    pub(crate) chosen: List<u32>,
+}
+
+/// A location, with all that is made of it.
+#[derive(Drop)]
+pub(crate) struct Location {
+    /// The modules of the flat list, as in [`TracedModule`].
+    pub(crate) origins: Origins,
+    /// The module that is located.
+    pub(crate) object: Module,
+    pub(crate) plan: Plan,
+    pub(crate) located: Located,
+}
+
+/// What keeps modules from being located; or memory ran out, with the variant of the layer that lacked it.
+#[derive(Drop)]
+pub(crate) enum Obstacle {
+    /// A list of the modules cannot be linked.
+    Unlinked(LinkRefusal),
+    /// Nothing can be kept of their link.
+    Unkept {
+        refusal: PruneRefusal,
+        places: Places,
+    },
+    /// The link, or what is kept of it, cannot be located.
+    Unlocated {
+        refusal: LocateRefusal,
+        part: TracedModule,
+        plan: Plan,
+        places: Places,
+    },
+}
+
+/// The outcome of a run that this ends.
+pub(crate) fn outcome_of_obstacle(obstacle: Obstacle) -> Outcome
+    ensures { result ≡ of_obstacle obstacle }
+{
+    match obstacle {
+        Obstacle::Unlinked(refusal) => outcome_of_link(refusal),
+        Obstacle::Unkept { refusal, .. } => outcome_of_prune(refusal),
+        Obstacle::Unlocated { refusal, part, .. } => {
+            outcome_of_locate(part.object.parts().maus, refusal)
+        }
+    }
+}
+
+// Links the modules of a task into one, and returns it with the origins of its entries and the places of its
+// files.
+fn traced_link(
+    alloc: Global,
+    inputs: &Inputs,
+    modules: List<Module>,
+) -> Result<(TracedModule, Places), LinkRefusal>
+    requires linkable { AreLinkable inputs.now modules }
+    ensures ok { IfOk result (λ both. IsTracedLink (tree_of inputs.now.marks) modules both.1 both.0) }
+    ensures light { IfOk result (λ both. weight both.0.object < most_weight + 2 ^ 16) }
+    ensures refused { IfErr result (λ e. StopsWork (linked_module (tree_of inputs.now.marks) None modules) e) }
+{
+    let Ok(origins) = Origins::of(alloc, modules.as_slice()) else {
+        return Err(LinkRefusal::NoMemory);
+    };
+    let linked = match link_with_members(alloc, inputs.marks.as_slice(), &None, modules) {
+        Ok(linked) => linked,
+        Err(refusal) => return Err(refusal),
+    };
+    let _ = linked.module.parts();
+    let Ok(origins) = origins.selected(alloc, linked.roots, linked.chosen.as_slice()) else {
+        return Err(LinkRefusal::NoMemory);
+    };
+    Ok((
+        TracedModule {
+            origins,
+            object: linked.module,
+        },
+        Places {
+            roots: linked.roots,
+            chosen: linked.chosen,
+        },
+    ))
+}
+
+// The origins of what is left of a module, given those of the module.
+fn left_origins(alloc: Global, origins: &Origins, left: &Pruned) -> Result<Origins, PruneRefusal>
+    ensures ok { IfOk result (λ few. few ≡ origins_left left.now.sections.items left.now.publics.items origins.now) }
+    ensures err { IfErr result (λ e. e ≡ PruneRefusal.NoMemory) }
+{
+    match origins.left(alloc, left.sections.as_slice(), left.publics.as_slice()) {
+        Ok(few) => Ok(few),
+        Err(NoMemory) => Err(PruneRefusal::NoMemory),
+    }
+}
+
+// What remains of a module for the public symbol with a name, with the origins of what remains.
+fn pruned_part(
+    alloc: Global,
+    whole: &TracedModule,
+    name: &[u8],
+) -> Result<TracedModule, PruneRefusal>
+    requires names { AreDistinct (names_of whole.now.object.names.publics) }
+    requires light { weight whole.now.object < most_weight + 2 ^ 16 }
+    ensures ok { IfOk result (IsKeptPart (Some name.now) whole.now) }
+    ensures names { IfOk result (λ part. AreDistinct (names_of part.object.names.publics)) }
+    ensures light { IfOk result (λ part. weight part.object < most_weight + 2 ^ 16) }
+    ensures stops { IfErr result (λ e. EndsAt (own_kept (Some name.now) whole.now.object) (of_prune e)) }
+{
+    let left = match prune_with_marks(alloc, &whole.object, name) {
+        Ok(left) => left,
+        Err(refusal) => return Err(refusal),
+    };
+    match left_origins(alloc, &whole.origins, &left) {
+        Ok(origins) => Ok(TracedModule {
+            origins,
+            object: left.module,
+        }),
+        Err(refusal) => Err(refusal),
+    }
+}
+
+// The module, or what remains of it if a public symbol is named that should be kept.
+fn kept_part(
+    alloc: Global,
+    keep: &Option<Bytes>,
+    whole: TracedModule,
+) -> Result<TracedModule, PruneRefusal>
+    requires names { AreDistinct (names_of whole.object.names.publics) }
+    requires light { weight whole.object < most_weight + 2 ^ 16 }
+    ensures ok { IfOk result (IsKeptPart keep.now whole) }
+    ensures names { IfOk result (λ part. AreDistinct (names_of part.object.names.publics)) }
+    ensures light { IfOk result (λ part. weight part.object < most_weight + 2 ^ 16) }
+    ensures stops { IfErr result (λ e. EndsAt (own_kept keep.now whole.object) (of_prune e)) }
+{
+    match keep {
+        Some(name) => pruned_part(alloc, &whole, name.as_slice()),
+        None => Ok(whole),
+    }
+}
+
+// Locates a module by a plan.
+fn locate_part(
+    alloc: Global,
+    part: TracedModule,
+    plan: Plan,
+    places: Places,
+) -> Result<Location, Obstacle>
+    requires names { AreDistinct (names_of part.object.names.publics) }
+    requires plan { IsSoundPlan plan }
+    requires light { weight part.object < most_weight + 2 ^ 16 }
+    ensures ok { IfOk result (LocatesPart part plan) }
+    ensures light { IfOk result (λ location. weight (absolute_of location.located) < 2 ^ 32) }
+    ensures refused { IfErr result (IsUnlocatedPart part plan places) }
+{
+    match locate(alloc, &part.object, &plan) {
+        Ok(located) => {
+            let TracedModule { origins, object } = part;
+            Ok(Location {
+                origins,
+                object,
+                plan,
+                located,
+            })
+        }
+        Err(refusal) => Err(Obstacle::Unlocated {
+            refusal,
+            part,
+            plan,
+            places,
+        }),
+    }
+}
+
+/// Links the modules of a task, and locates the link, or what remains of it if a public symbol is named that
+/// should be kept. Returns the location, or what keeps the modules from having one.
+pub(crate) fn locate_modules(
+    alloc: Global,
+    inputs: &Inputs,
+    keep: &Option<Bytes>,
+    loaded: Loaded,
+) -> Result<Location, Obstacle>
+    requires linkable { AreLinkable inputs.now loaded.modules }
+    requires plan { IsSoundPlan loaded.plan }
+    ensures ok { IfOk result (AreMapped (tree_of inputs.now.marks) keep.now loaded.plan loaded.modules) }
+    ensures light { IfOk result (λ location. weight (absolute_of location.located) < 2 ^ 32) }
+    ensures obstacle { IfErr result (IsObstacle (tree_of inputs.now.marks) keep.now loaded.modules) }
+    ensures planned { IfErr result (HasPlan loaded.plan) }
+{
+    let Loaded { plan, modules } = loaded;
+    let (whole, places) = match traced_link(alloc, inputs, modules) {
+        Ok(link) => link,
+        Err(refusal) => return Err(Obstacle::Unlinked(refusal)),
+    };
+    match kept_part(alloc, keep, whole) {
+        Ok(part) => locate_part(alloc, part, plan, places),
+        Err(refusal) => Err(Obstacle::Unkept { refusal, places }),
+    }
+}

@@ -1,0 +1,215 @@
+//! The output of a task, complete up to the calls that print or write it.
+
+ghost use Rattle.std.specs.Prelude.{◌≡◌, ◌<◌, ◌^◌, flat_map, length, IfErr, IfOk};
+ghost use Rattle.mufom_host.specs.World.{OnlyPrints};
+ghost use Rattle.mufom_map.specs.MapText.{map_text};
+ghost use Rattle.mufom_module.specs.Written.{weight};
+ghost use Rattle.mufom_meaning.specs.Absolute.{absolute_of};
+ghost use Rattle.mufom_text.specs.Image.{image_text};
+ghost use Rattle.mufom_text.specs.Show.{text_of};
+ghost use Rattle.mufom_titxt.specs.Written.{txt_text};
+ghost use Rattle.mufom_write.specs.Raw.{raw_image};
+ghost use Rattle.mufom_groups.specs.Work.{gives};
+ghost use Rattle.mufom_task.specs.Calls.{call_of};
+ghost use Rattle.mufom_command.specs.Locations.{shown_of, AreLocated};
+ghost use Rattle.mufom_command.specs.Making.{IsMadeAlone, IsPrinted};
+ghost use Rattle.mufom_command.specs.Ready.{ready_output, IsHelp, IsPutOut, IsReady};
+ghost use Rattle.mufom_command.specs.RunParts.{NeedsNoMemory};
+ghost use Rattle.mufom_command.specs.WorkEnds.{EndsAt};
+ghost use Rattle.mufom_command.specs.Works.{product_of, raw_file as raw_file_of, writes_module};
+
+use crate::locating::Location;
+use crate::query::lines_at;
+use crate::writing::{make_file, make_raw_file, make_text_file};
+use mufom_host::{Failed, Host};
+use mufom_image::{Located, absolute};
+use mufom_map::print_map;
+use mufom_module::Module;
+use mufom_numbers::limits::MOST_FILE_BYTES;
+use mufom_numbers::{List, NoMemory, Text};
+use mufom_outcome::{Outcome, Refusal};
+use mufom_task::Product;
+use mufom_text::{PrintStop, TextForm, print_image, print_text};
+use mufom_words::HelpText;
+use mufom_write::raw_length;
+use std::alloc::Global;
+
+/// The output of a task, complete up to the calls that print or write it.
+#[derive(Drop)]
+pub(crate) enum Ready<'a> {
+    /// A text in memory.
+    Lines(Vec<u8>),
+    /// A text of the program.
+    Help(&'a HelpText),
+    /// The text of one module, in this form.
+    Listing {
+        modules: List<Module>,
+        form: TextForm,
+    },
+    /// The file of a module.
+    File { out: &'a Text, object: Module },
+    /// The file of the raw bytes of an image, which are not too many.
+    Raw {
+        out: &'a Text,
+        fill: u8,
+        located: Located,
+    },
+    /// The file of the TI-TXT text of an image.
+    TiTxt { out: &'a Text, located: Located },
+    /// The text of an image.
+    Image(Located),
+    /// The text of a map.
+    Map(Location),
+}
+
+// ---- what is made of a location
+
+// The file of the absolute module of a location.
+fn absolute_file<'a>(alloc: Global, out: &'a Text, located: Located) -> Result<Ready<'a>, Outcome>
+    requires { weight (absolute_of located) < 2 ^ 32 }
+    ensures ok { IfOk result (λ ready. writes_module out.now (absolute_of located) (gives (ready_output ready))) }
+    ensures ready { IfOk result IsReady }
+    ensures err { IfErr result (λ stop. stop ≡ Outcome.NoMemory) }
+{
+    match absolute(alloc, &located) {
+        Ok(object) => {
+            let _ = object.parts();
+            Ok(Ready::File { out, object })
+        }
+        Err(_) => Err(Outcome::NoMemory),
+    }
+}
+
+// The file of the raw image of a location, unless it has more bytes than a file may have.
+fn raw_file<'a>(out: &'a Text, fill: u8, located: Located) -> Result<Ready<'a>, Outcome>
+    ensures ok { IfOk result (λ ready. raw_file_of fill out.now located (gives (ready_output ready))) }
+    ensures ready { IfOk result IsReady }
+    ensures stops { IfErr result (EndsAt (raw_file_of fill out.now located)) }
+{
+    let count = raw_length(located.parts().runs.as_slice());
+    if count > MOST_FILE_BYTES as u128 {
+        Err(Outcome::Refused(Refusal::Bin(count)))
+    } else {
+        Ok(Ready::Raw { out, fill, located })
+    }
+}
+
+/// What is made of a location, complete up to the calls that print or write it; or the outcome of the run, if
+/// a raw image is too long or memory runs out.
+pub(crate) fn ready_of<'a>(
+    alloc: Global,
+    product: &'a Product,
+    location: Location,
+) -> Result<Ready<'a>, Outcome>
+    requires located { AreLocated location }
+    requires light { weight (absolute_of location.located) < 2 ^ 32 }
+    ensures ok { IfOk result (λ ready. product_of product.now (shown_of location) location.located (gives (ready_output ready))) }
+    ensures ready { IfOk result IsReady }
+    ensures stops { IfErr result (EndsAt (product_of product.now (shown_of location) location.located)) }
+{
+    match product {
+        Product::Absolute { out } => absolute_file(alloc, out, location.located),
+        Product::Raw { fill, out } => raw_file(out, *fill, location.located),
+        Product::TiTxt { out } => Ok(Ready::TiTxt {
+            out,
+            located: location.located,
+        }),
+        Product::Image => Ok(Ready::Image(location.located)),
+        Product::Map => Ok(Ready::Map(location)),
+        Product::Hit { address } => match lines_at(alloc, &location.located, *address) {
+            Ok(text) => Ok(Ready::Lines(text)),
+            Err(NoMemory) => Err(Outcome::NoMemory),
+        },
+    }
+}
+
+// ---- putting it out
+
+// Prints a text in memory. Returns the outcome, whose error line is not printed yet.
+fn print_bytes<H: Host>(text: &[u8], host: &mut H) -> Outcome
+    ensures answer { IsPrinted text.now (call_of H.meaning H.faults host.old host.new) result }
+    ensures only { OnlyPrints (H.meaning host.old) (H.meaning host.new) (H.faults host.old) (H.faults host.new) }
+    ensures memory { NeedsNoMemory result }
+{
+    match host.print(text) {
+        Ok(()) => Outcome::Done,
+        Err(Failed) => Outcome::WriteFault,
+    }
+}
+
+// Prints the text of one module.
+fn print_one<H: Host>(alloc: Global, form: TextForm, modules: &[Module], host: &mut H) -> Outcome
+    requires { length modules.now ≡ 1 }
+    ensures answer { IsPrinted (flat_map (text_of form) modules.now) (call_of H.meaning H.faults host.old host.new) result }
+    ensures only { OnlyPrints (H.meaning host.old) (H.meaning host.new) (H.faults host.old) (H.faults host.new) }
+{
+    match print_text(alloc, host, form, &modules[0]) {
+        Ok(()) => Outcome::Done,
+        Err(PrintStop::Fault) => Outcome::WriteFault,
+        Err(PrintStop::NoMemory) => Outcome::NoMemory,
+    }
+}
+
+// Prints the image of a location.
+fn print_located<H: Host>(alloc: Global, located: &Located, host: &mut H) -> Outcome
+    ensures answer { IsPrinted (image_text located.now) (call_of H.meaning H.faults host.old host.new) result }
+    ensures only { OnlyPrints (H.meaning host.old) (H.meaning host.new) (H.faults host.old) (H.faults host.new) }
+{
+    match print_image(alloc, host, located) {
+        Ok(()) => Outcome::Done,
+        Err(PrintStop::Fault) => Outcome::WriteFault,
+        Err(PrintStop::NoMemory) => Outcome::NoMemory,
+    }
+}
+
+// Prints the map of a location.
+fn print_mapped<H: Host>(alloc: Global, location: &Location, host: &mut H) -> Outcome
+    requires { AreLocated location.now }
+    ensures answer { IsPrinted (map_text (shown_of location.now)) (call_of H.meaning H.faults host.old host.new) result }
+    ensures only { OnlyPrints (H.meaning host.old) (H.meaning host.new) (H.faults host.old) (H.faults host.new) }
+{
+    let Location {
+        origins,
+        object,
+        plan,
+        located,
+    } = location;
+    match print_map(alloc, host, origins, object, plan, located) {
+        Ok(()) => Outcome::Done,
+        Err(PrintStop::Fault) => Outcome::WriteFault,
+        Err(PrintStop::NoMemory) => Outcome::NoMemory,
+    }
+}
+
+// Writes the TI-TXT text of a location to a file with this name.
+fn make_text<H: Host>(name: &str, located: &Located, host: &mut H) -> Outcome
+    ensures { IsMadeAlone name.now (txt_text located.now.runs) (call_of H.meaning H.faults host.old host.new) result }
+{
+    make_text_file(name, located.parts().runs.as_slice(), host)
+}
+
+// Writes the raw image of a location to a file with this name.
+fn make_raw<H: Host>(name: &str, fill: u8, located: &Located, host: &mut H) -> Outcome
+    ensures { IsMadeAlone name.now (raw_image fill located.now.runs) (call_of H.meaning H.faults host.old host.new) result }
+{
+    make_raw_file(name, located.parts().runs.as_slice(), fill, host)
+}
+
+/// Prints or writes an output. Returns the outcome, whose error line is not printed yet: `Done`, or a write
+/// fault; or out of memory if there is none for the page of a text, and then nothing is printed.
+pub(crate) fn put_out<H: Host>(alloc: Global, ready: &Ready<'_>, host: &mut H) -> Outcome
+    requires { IsReady ready.now }
+    ensures puts { IsPutOut (ready_output ready.now) (call_of H.meaning H.faults host.old host.new) result }
+    ensures memory { IsHelp ready.now → NeedsNoMemory result }
+{
+    match ready {
+        Ready::Lines(text) => print_bytes(text, host),
+        Ready::Help(text) => print_bytes(text.as_str().as_bytes(), host),
+        Ready::Listing { modules, form } => print_one(alloc, *form, modules.as_slice(), host),
+        Ready::File { out, object } => make_file(out.as_str(), object, host),
+        Ready::Raw { out, fill, located } => make_raw(out.as_str(), *fill, located, host),
+        Ready::TiTxt { out, located } => make_text(out.as_str(), located, host),
+        Ready::Image(located) => print_located(alloc, located, host),
+        Ready::Map(location) => print_mapped(alloc, location, host),
+    }
+}

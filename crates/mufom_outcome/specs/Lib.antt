@@ -1,0 +1,5 @@
+pub mod Outcomes
+pub mod Stop
+pub mod LocateRefusals
+pub mod Complaint
+pub mod Topic

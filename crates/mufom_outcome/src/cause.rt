@@ -1,0 +1,19 @@
+//! An outcome whose error is borrowed.
+
+use crate::outcome::Outcome;
+use mufom_image::LocateRefusal;
+use mufom_link::LinkRefusal;
+use mufom_numbers::Bytes;
+
+/// The outcome of a run, or the error of a layer that would end it.
+#[derive(Clone, Copy, Debug)]
+pub enum Cause<'a> {
+    /// This outcome.
+    Outcome(&'a Outcome),
+    /// Files cannot be linked.
+    Link(&'a LinkRefusal),
+    /// No public symbol has this name, which should be kept.
+    Keep(&'a Bytes),
+    /// Files cannot be located. The number is the length of an address in units.
+    Locate(&'a LocateRefusal, u8),
+}

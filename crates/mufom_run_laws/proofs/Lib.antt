@@ -1,0 +1,9 @@
+pub mod SameWorks
+pub mod Plain
+pub mod Calm
+pub mod Determined
+pub mod Accepted
+pub mod LocatingDone
+pub mod MakeDone
+pub mod MadeLaws
+pub mod StageLaws

@@ -1,0 +1,103 @@
+-- Locating accepted files is done exactly where no fact stands against their flat list.
+use Rattle.std.proofs.Common.{◌≡◌, ◌⊎◌, ◌≤◌, ℕ, Bool, false, true, nat_lt, List, length, Option, Some, None, refl, sym, subst, arith, inl, inr}
+use Rattle.std.proofs.lemmas.Bool.{ltb-true}
+use Rattle.mufom_numbers.specs.declared.limits.TheConstants.{MOST_FILE_BYTES}
+use Rattle.mufom_host.specs.World.{HoldBytes, NamedFile}
+use Rattle.mufom_map.specs.Mapped.{Mapped}
+use Rattle.mufom_module.specs.declared.module.Parts.{Parts}
+use Rattle.mufom_plan.specs.declared.plan.Plan.{Plan}
+use Rattle.mufom_words.specs.Tree.{tree_of}
+use Rattle.mufom_meaning.specs.declared.located.LocatedParts.{LocatedParts}
+use Rattle.mufom_meaning.specs.Facts.{LocateFact}
+use Rattle.mufom_meaning.specs.LinkAnswer.{link_answer}
+use Rattle.mufom_meaning.specs.LocateAnswer.{locate_answer}
+use Rattle.mufom_meaning.specs.Location.{IsLocation}
+use Rattle.mufom_write.specs.Raw.{raw_image}
+use Rattle.mufom_groups.specs.Work.{gives, stops, Work}
+use Rattle.mufom_groups.proofs.Works.{value-same}
+use Rattle.mufom_outcome.specs.Stop.{Stop}
+use Rattle.mufom_task.specs.declared.task.Inputs.{Inputs}
+use Rattle.mufom_task.specs.declared.task.Product.{Product}
+use Rattle.mufom_task.specs.declared.task.Product.TheVariants as product
+use Rattle.mufom_task.specs.declared.task.Task.TheVariants as task
+use Rattle.mufom_command.specs.Works.{Kept, Output, kept_of, located_unless, locating_kept, producing, product_of, raw_file, unless_too_long, work_of}
+use Rattle.mufom_command.proofs.EndLaws.{location-of}
+use Rattle.mufom_command.proofs.Runs.{kept_of-single, of-files}
+use Rattle.mufom_run_laws.specs.RunLaws.{Accepts, HasNoFact, LocatingIsDone, MayPutOut}
+use Rattle.mufom_run_laws.proofs.Accepted.{EndsAtFact, accepted-gives, accepted-stops, no-link-fact}
+use Rattle.mufom_run_laws.proofs.Calm.{done-comes, never-done}
+use Rattle.mufom_run_laws.proofs.Plain.{plain-answers}
+
+-- ---- what is put out of a list
+
+module _ (output : Kept → LocatedParts → Work Stop Output) (keep : Option (List ℕ)) (plan : Plan) (list : List Parts) where
+  -- no fact stands against a list of which there is an output
+  pub no-fact-there : (o : Output) → link_answer list ≡ None → locating_kept output keep plan list (gives o) → HasNoFact keep list plan
+  no-fact-there o links (kept, is_kept, (r, is_located, puts)) =
+      record { links = links; kept = kept; keeps = is_kept; locates = (location-of plan kept.modules r is_located).locates }
+
+  -- where no fact stands, the work comes to no end, unless the output of a location does
+  pub no-end : ((kept : Kept) (r : LocatedParts) → kept_of keep list (gives kept) → IsLocation kept.modules plan r → (s : Stop)
+      → output kept r (stops s) → ⊥)
+      → HasNoFact keep list plan
+      → (s : Stop) → locating_kept output keep plan list (stops s) → ⊥
+  no-end never none s (inl ends) =
+      let same : stops s ≡ gives none.kept = kept_of-single keep list (stops s) (gives none.kept) ends none.keeps in absurd cc
+  no-end never none s (inr (kept, is_kept, inl ends)) =
+      let same : kept ≡ none.kept = value-same kept none.kept (kept_of-single keep list (gives kept) (gives none.kept) is_kept none.keeps) in
+      let locates : locate_answer kept.modules plan ≡ None = subst (λ (k : Kept). locate_answer k.modules plan ≡ None) (sym same) none.locates in
+      subst (λ (o : Option LocateFact). located_unless o plan kept.modules (stops s)) locates ends
+  no-end never none s (inr (kept, is_kept, inr (r, is_located, ends))) = never kept r is_kept (location-of plan kept.modules r is_located) s ends
+
+-- ---- what is made of a location has no end
+
+raw-never : (fill : ℕ) (out : List ℕ) (r : LocatedParts) → length (raw_image fill r.runs) ≤ MOST_FILE_BYTES → (s : Stop)
+    → raw_file fill out r (stops s) → ⊥
+raw-never fill out r few s = by (nat_lt MOST_FILE_BYTES (length (raw_image fill r.runs))) refl where
+  by : (b : Bool) → nat_lt MOST_FILE_BYTES (length (raw_image fill r.runs)) ≡ b → unless_too_long b out (raw_image fill r.runs) (stops s) → ⊥
+  by true is ends = absurd (omega (arith, few, ltb-true MOST_FILE_BYTES (length (raw_image fill r.runs)) is))
+  by false is ends = ends
+
+pub product-never : (p : Product) (shown : Mapped) (r : LocatedParts) → MayPutOut p r → (s : Stop) → product_of p shown r (stops s) → ⊥
+product-never (product.Absolute out) shown r may s (held, never) = never
+product-never (product.Raw fill out) shown r may s ends = raw-never fill out r may s ends
+product-never (product.TiTxt out) shown r may s never = never
+product-never product.Image shown r may s never = never
+product-never product.Map shown r may s never = never
+product-never (product.Hit at) shown r may s never = never
+
+-- ---- the work of a task that locates
+
+module _ (files : List NamedFile) (c : Inputs) (keep : Option (List ℕ)) (p : Product) (plan : Plan) (flat : List Parts) (bytes : HoldBytes files)
+    (accepts : Accepts files c plan flat) where
+  abbrev work : List Parts → Plan → List Parts → Work Stop Output
+  work ms plan flat = locating_kept (producing p (tree_of c.marks) ms plan) keep plan flat
+
+  -- no fact stands where there is an output
+  exact-there : (o : Output) → work_of (task.Locate c keep p) files (gives o) → HasNoFact keep flat plan
+  exact-there o is =
+      let (links, is_put) = accepted-gives files c plan flat bytes accepts work o is in
+      no-fact-there (producing p (tree_of c.marks) accepts.modules plan) keep plan flat o links is_put
+
+  -- and where none stands the work has no end
+  exact-back : ((kept : Kept) (r : LocatedParts) → kept_of keep flat (gives kept) → IsLocation kept.modules plan r → MayPutOut p r)
+      → HasNoFact keep flat plan → (s : Stop) → work_of (task.Locate c keep p) files (stops s) → ⊥
+  exact-back may none s ends = by (accepted-stops files c plan flat bytes accepts work s ends) where
+    never : (kept : Kept) (r : LocatedParts) → kept_of keep flat (gives kept) → IsLocation kept.modules plan r → (s : Stop)
+        → producing p (tree_of c.marks) accepts.modules plan kept r (stops s) → ⊥
+    never kept r keeps there s (inl nothing) = nothing
+    never kept r keeps there s (inr (own, are, ends)) = product-never p _ r (may kept r keeps there) s ends
+
+    by : EndsAtFact flat s ⊎ ((link_answer flat ≡ None) × work accepts.modules plan flat (stops s)) → ⊥
+    by (inl fact) = no-link-fact flat plan s none.links fact
+    by (inr (links, ends)) = no-end (producing p (tree_of c.marks) accepts.modules plan) keep plan flat never none s ends
+
+-- Locating is done exactly where no fact stands against the flat list.
+pub locating-done : LocatingIsDone
+locating-done words files call result c inputs keep p plan flat is calm named asks accepts may =
+    let bytes : HoldBytes files = of-files call files calm.known HoldBytes calm.revealed.bytes in
+    let answer = plain-answers words c named (task.Locate inputs keep p) asks call result is in (
+      (λ done. let came = done-comes files call (task.Locate inputs keep p) result answer calm done in
+          exact-there files inputs keep p plan flat bytes accepts came.output came.comes),
+      (λ none. never-done files call (task.Locate inputs keep p) result answer calm (exact-back files inputs keep p plan flat bytes accepts may none)),
+    )

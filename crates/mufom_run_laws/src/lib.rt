@@ -1,0 +1,14 @@
+//! Laws of the runs of the program.
+//!
+//! Each law is the contract of a function that does nothing. The laws are about runs as `mufom_command`
+//! states them: what a run gives depends only on its arguments and files, a task that locates is done exactly
+//! if no error applies, and files that were linked in stages have the outputs of the list that the stages
+//! began with.
+#![tactic(auto)]
+
+mod laws;
+
+pub use laws::{
+    absolute_files_stand, answers_are_determined, files_have_one_verdict, linked_files_stand,
+    locating_is_done, make_is_done, runs_are_single, runs_of_stages, stages_make_no_difference,
+};
