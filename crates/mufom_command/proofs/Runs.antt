@@ -96,7 +96,7 @@ reached_by (refused n r) = stops (file_refused n r)
 reached_by (past n) = stops (past_limit n)
 
 abbrev ByVerdict : List NamedFile → Inputs → Reached Stop (List Parts) → Type 0
-ByVerdict files c x = (v : Verdict) × ComeTo (not c.no_debug) files c.files v × (reached_by v ≡ x)
+ByVerdict files c x = (v : Verdict) × ComeTo c.options files c.files v × (reached_by v ≡ x)
 
 by_verdict : (files : List NamedFile) (c : Inputs) (x : Reached Stop (List Parts)) → modules_in files c x → ByVerdict files c x
 by_verdict files c (gives ms) is = (accepted ms, is, refl)
@@ -119,7 +119,7 @@ pub modules_in-single : (files : List NamedFile) → HoldBytes files → (c : In
 modules_in-single files bytes c x y is_x is_y =
     let (v, comes_v, is_v) = by_verdict files c x is_x in
     let (w, comes_w, is_w) = by_verdict files c y is_y in
-    let same : v ≡ w = one-verdict (not c.no_debug) files c.files v w bytes comes_v comes_w in
+    let same : v ≡ w = one-verdict c.options files c.files v w bytes comes_v comes_w in
     sym is_v ∙ (ap reached_by same ∙ is_w)
 
 -- ---- the outputs

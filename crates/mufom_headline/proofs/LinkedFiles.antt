@@ -1,5 +1,6 @@
 -- The result of `link` is that of linking its flat list, and each list from which that was linked in stages.
 use Rattle.std.proofs.Common.{◌≡◌, Bool, not, ℕ, List, [], ◌∷◌, length, Option, None, unwrap_or, refl, sym, subst, ◌∙◌}
+use Rattle.mufom_records.specs.declared.options.ReadOptions.{ReadOptions}
 use Rattle.mufom_host.specs.World.{HoldBytes, NamedFile}
 use Rattle.mufom_words.specs.Tree.{leaves as files_in, tree_of}
 use Rattle.mufom_module.specs.declared.module.Parts.{Parts}
@@ -31,15 +32,15 @@ use Rattle.mufom_headline.proofs.ReadBack.{held-read-back}
 
 -- ---- modules of accepted files have no defect
 
-modules-valid : (reads_debug : Bool) (contents : List (List ℕ)) (ms : List Parts) → AreModules reads_debug contents ms → AreValid ms
-modules-valid reads_debug [] [] are = tt
-modules-valid reads_debug [] (m ∷ ms) are = absurd are
-modules-valid reads_debug (bytes ∷ contents) [] are = absurd are
-modules-valid reads_debug (bytes ∷ contents) (m ∷ ms) are = (are.0.4, modules-valid reads_debug contents ms are.1)
+modules-valid : (options : ReadOptions) (contents : List (List ℕ)) (ms : List Parts) → AreModules options contents ms → AreValid ms
+modules-valid options [] [] are = tt
+modules-valid options [] (m ∷ ms) are = absurd are
+modules-valid options (bytes ∷ contents) [] are = absurd are
+modules-valid options (bytes ∷ contents) (m ∷ ms) are = (are.0.4, modules-valid options contents ms are.1)
 
 pub flat-valid : (files : List NamedFile) (c : Inputs) (plan : Plan) (flat : List Parts) → Accepts files c plan flat → AreValid flat
 flat-valid files c plan flat accepts =
-    let all : AreValid accepts.modules = modules-valid (not c.no_debug) accepts.read.0 accepts.modules accepts.read.1.modules in
+    let all : AreValid accepts.modules = modules-valid c.options accepts.read.0 accepts.modules accepts.read.1.modules in
     let chosen = accepts.is_flat.0 in
     let rest : AreValid (members (tree_of c.marks) accepts.modules) = valid-drop (length (files_in (tree_of c.marks))) accepts.modules all in
     subst AreValid (sym accepts.is_flat.2)

@@ -1,8 +1,9 @@
 -- A later run reads a module from the file that it was written to.
-use Rattle.std.proofs.Common.{◌≡◌, ◌≤◌, ℕ, zero, suc, Bool, true, false, not, List, [], ◌∷◌, length, Option, Some}
+use Rattle.std.proofs.Common.{◌≡◌, ◌≤◌, ℕ, zero, suc, Bool, true, List, [], ◌∷◌, length, Option, Some}
 use Rattle.std.proofs.Common.{sym, ap, subst, ◌∙◌, arith}
 use Rattle.std.specs.Prelude.{slice_get}
 use Rattle.std.proofs.lemmas.List.Sums.{sum_by-cons}
+use Rattle.mufom_records.specs.declared.options.ReadOptions.{ReadOptions}
 use Rattle.mufom_numbers.specs.declared.limits.TheConstants.{MOST_FILE_BYTES}
 use Rattle.mufom_host.specs.World.{NamedFile, file_named}
 use Rattle.mufom_module.specs.declared.module.Parts.{Parts}
@@ -18,47 +19,51 @@ use Rattle.mufom_command.specs.Works.{IsHeld}
 use Rattle.mufom_run_laws.proofs.MadeLaws.{is-read-back}
 use Rattle.mufom_headline.specs.ReadBack.{IsReadBack, WrittenFilesAreReadBack}
 
-module _ (m : Parts) (is : IsModule true (written m) m) (few : length (written m) ≤ MOST_FILE_BYTES) where
-  only : (n : Parts) → IsModule true (written m) n → n ≡ m
-  only n other = one_module n m (written m) true other is
+-- the debug part is read; the forms of GNU binutils are accepted or not
+abbrev with_debug : Bool → ReadOptions
+with_debug gnu = record { debug = true; gnu = gnu }
+
+module _ (m : Parts) (is : (gnu : Bool) → IsModule (with_debug gnu) (written m) m) (few : length (written m) ≤ MOST_FILE_BYTES) where
+  only : (gnu : Bool) (n : Parts) → IsModule (with_debug gnu) (written m) n → n ≡ m
+  only gnu n other = one_module n m (written m) (with_debug gnu) other (is gnu)
 
   -- the module at the place of the file
-  module-at : (files : List NamedFile) (names contents : List (List ℕ)) (ms : List Parts) (k : ℕ) (name : List ℕ) → file_named name files ≡ Some (written m)
-      → HaveBytes files names contents → AreModules true contents ms → slice_get names k ≡ Some name → slice_get ms k ≡ Some m
-  module-at files [] contents ms k name there have are here = absurd cc
-  module-at files (first ∷ names) [] ms k name there have are here = absurd cc
-  module-at files (first ∷ names) (bytes ∷ contents) [] k name there have are here = absurd are
-  module-at files (first ∷ names) (bytes ∷ contents) (n ∷ ms) zero name there have are here =
+  module-at : (gnu : Bool) (files : List NamedFile) (names contents : List (List ℕ)) (ms : List Parts) (k : ℕ) (name : List ℕ) → file_named name files ≡ Some (written m)
+      → HaveBytes files names contents → AreModules (with_debug gnu) contents ms → slice_get names k ≡ Some name → slice_get ms k ≡ Some m
+  module-at gnu files [] contents ms k name there have are here = absurd cc
+  module-at gnu files (first ∷ names) [] ms k name there have are here = absurd cc
+  module-at gnu files (first ∷ names) (bytes ∷ contents) [] k name there have are here = absurd are
+  module-at gnu files (first ∷ names) (bytes ∷ contents) (n ∷ ms) zero name there have are here =
       let same : first ≡ name = cc in
       let found : file_named first files ≡ Some bytes = cc in
       let both : Some (written m) ≡ Some bytes = sym there ∙ (ap (λ (l : List ℕ). file_named l files) (sym same) ∙ found) in
       let own : bytes ≡ written m = cc in
-      ap (λ (x : Parts). Some x) (only n (subst (λ (l : List ℕ). IsModule true l n) own are.0))
-  module-at files (first ∷ names) (bytes ∷ contents) (n ∷ ms) (suc k) name there have are here =
-      let more : HaveBytes files names contents = cc in module-at files names contents ms k name there more are.1 here
+      ap (λ (x : Parts). Some x) (only gnu n (subst (λ (l : List ℕ). IsModule (with_debug gnu) l n) own are.0))
+  module-at gnu files (first ∷ names) (bytes ∷ contents) (n ∷ ms) (suc k) name there have are here =
+      let more : HaveBytes files names contents = cc in module-at gnu files names contents ms k name there more are.1 here
 
   in-place : (files : List NamedFile) (c : Inputs) (ms : List Parts) (k : ℕ) (name : List ℕ) → file_named name files ≡ Some (written m)
-      → c.no_debug ≡ false → slice_get c.files k ≡ Some name → modules_in files c (gives ms) → slice_get ms k ≡ Some m
+      → c.options.debug ≡ true → slice_get c.files k ≡ Some name → modules_in files c (gives ms) → slice_get ms k ≡ Some m
   in-place files c ms k name there debug here (contents, all) =
-      module-at files c.files contents ms k name there all.bytes
-      (subst (λ (b : Bool). AreModules (not b) contents ms) debug all.modules) here
+      module-at c.options.gnu files c.files contents ms k name there all.bytes
+      (subst (λ (b : Bool). AreModules (record { debug = b; gnu = c.options.gnu }) contents ms) debug all.modules) here
 
   -- the file alone is accepted
-  alone : (files : List NamedFile) (c : Inputs) (name : List ℕ) → file_named name files ≡ Some (written m) → c.no_debug ≡ false → c.files ≡ name ∷ []
+  alone : (files : List NamedFile) (c : Inputs) (name : List ℕ) → file_named name files ≡ Some (written m) → c.options.debug ≡ true → c.files ≡ name ∷ []
       → modules_in files c (gives (m ∷ []))
   alone files c name there debug names =
-      subst (λ (b : Bool). ComeTo (not b) files c.files (accepted (m ∷ []))) (sym debug)
-      (subst (λ (l : List (List ℕ)). ComeTo true files l (accepted (m ∷ []))) (sym names) (written m ∷ [], all)) where
-        all : AreAccepted true files (name ∷ []) (written m ∷ []) (m ∷ [])
+      subst (λ (b : Bool). ComeTo (record { debug = b; gnu = c.options.gnu }) files c.files (accepted (m ∷ []))) (sym debug)
+      (subst (λ (l : List (List ℕ)). ComeTo (with_debug c.options.gnu) files l (accepted (m ∷ []))) (sym names) (written m ∷ [], all)) where
+        all : AreAccepted (with_debug c.options.gnu) files (name ∷ []) (written m ∷ []) (m ∷ [])
         all = record {
           bytes = ap (λ (o : Option (List ℕ)). o ∷ []) there;
-          modules = (is, tt);
+          modules = (is c.options.gnu, tt);
           within = let total = sum_by-cons length (written m) [] in omega (arith, few, total);
         }
 
   pub read-back : IsReadBack m
   read-back = record {
-    file = λ n. (only n, (λ same. subst (λ (x : Parts). IsModule true (written m) x) (sym same) is));
+    file = λ gnu n. (only gnu n, (λ same. subst (λ (x : Parts). IsModule (with_debug gnu) (written m) x) (sym same) (is gnu)));
     place = in-place;
     alone = alone;
   }

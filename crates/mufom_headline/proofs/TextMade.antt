@@ -5,13 +5,17 @@ use Rattle.std.specs.List.{AllByRecursion}
 use Rattle.std.proofs.Math.Nat.{pow-le-pow_right}
 use Rattle.std.proofs.lemmas.List.Elements.{All-from_recursion, All-nil}
 use Rattle.std.proofs.lemmas.List.Sums.{sum_by-cons}
-use Rattle.mufom_numbers.specs.declared.limits.TheConstants.{MOST_FILE_BYTES}
+use Rattle.mufom_numbers.specs.declared.limits.TheConstants.{MOST_FILE_BYTES, MOST_STRING_BYTES}
+use Rattle.mufom_records.specs.declared.options.ReadOptions.{ReadOptions}
 use Rattle.mufom_numbers.specs.Spelling.{AreBytes}
 use Rattle.mufom_numbers.proofs.SpellingLaws.{AreBytes-take}
 use Rattle.mufom_host.specs.World.{NamedFile, file_named}
 use Rattle.mufom_loads.specs.declared.load.Load.{Load}
 use Rattle.mufom_module.specs.Made.{IsMade, IsMadeLoad, IsMadeMark, IsMadePublic, IsMadeReference, IsMadeSection}
-use Rattle.mufom_module.specs.Grammar.{IsCutInto}
+use Rattle.mufom_module.specs.Grammar.{AreWhole, IsCutInto, IsPart}
+use Rattle.mufom_module.specs.RecordParts.{Part, opens_items}
+use Rattle.mufom_module.specs.SpelledRecords.{SpelledRecord}
+use Rattle.mufom_module.proofs.GnuLaws.{plain-gnu, plainly}
 use Rattle.mufom_module.specs.Written.{written}
 use Rattle.mufom_module.specs.declared.module.Parts.{Parts}
 use Rattle.mufom_write.proofs.CutFile.{IsFittingModule, cut, file_of}
@@ -52,7 +56,7 @@ made-literals zero [] are = tt
 made-literals zero (b ∷ bytes) are = tt
 made-literals (suc most) [] are = tt
 made-literals (suc most) (b ∷ bytes) are =
-    (AreBytes-take 65535 (b ∷ bytes) are, made-literals most (drop 65535 (b ∷ bytes)) (AreBytes-drop 65535 (b ∷ bytes) are))
+    (AreBytes-take MOST_STRING_BYTES (b ∷ bytes) are, made-literals most (drop MOST_STRING_BYTES (b ∷ bytes)) (AreBytes-drop MOST_STRING_BYTES (b ∷ bytes) are))
 
 made-loads : (section : ℕ) (runs : List Run) → section + length runs ≤ 33554432 → AllByRecursion (λ (run : Run). AreBytes run.bytes) runs
     → AllByRecursion IsMadeLoad (loads_from section runs)
@@ -87,6 +91,16 @@ text-held maus runs low high h t = record { valid = text_is_valid maus runs low 
 
 -- ---- its file
 
+-- the records of a part are the same if the debug part is skipped
+skipped-records : (items : Bool) (records : List SpelledRecord) (after : List ℕ) → AreWhole (plainly true) items records after
+    → AreWhole (plainly false) items records after
+skipped-records items [] after are = tt
+skipped-records items (p ∷ records) after are = (are.0, skipped-records (opens_items p.row) records after are.1)
+
+skipped-part : (part : Part) (records : List SpelledRecord) (after : List ℕ) → IsPart (plainly true) part records after
+    → IsPart (plainly false) part records after
+skipped-part part records after is = record { are_whole = skipped-records false records after is.are_whole; own = is.own }
+
 module _ (maus : ℕ) (runs : List Run) (low : 1 ≤ maus) (high : maus ≤ 8) (h : HaveModule (8 * maus) runs) (t : HaveText (8 * maus) runs)
     (few : length (written (text_parts maus runs)) ≤ MOST_FILE_BYTES) where
   abbrev m : Parts
@@ -101,7 +115,7 @@ module _ (maus : ℕ) (runs : List Run) (low : 1 ≤ maus) (high : maus ≤ 8) (
   inside : IsInside (text_parts maus runs)
   inside = inside_module m held.valid
 
-  cut-into : (reads_debug : Bool) → IsCutInto (written (text_parts maus runs)) reads_debug (file_of (text_parts maus runs))
+  cut-into : (debug : Bool) → IsCutInto (written (text_parts maus runs)) (plainly debug) (file_of (text_parts maus runs))
   cut-into true = cut m fits few
   cut-into false =
       let read = cut m fits few in record {
@@ -109,24 +123,31 @@ module _ (maus : ℕ) (runs : List Run) (low : 1 ≤ maus) (high : maus ≤ 8) (
         limit = read.limit;
         header = read.header;
         offsets = read.offsets;
-        sections = read.sections;
-        externals = read.externals;
-        debug = read.debug;
+        sections = skipped-part _ _ _ read.sections;
+        externals = skipped-part _ _ _ read.externals;
+        debug = skipped-part _ _ _ read.debug;
         debug_read = refl;
-        loads = read.loads;
-        trailer = read.trailer;
+        loads = skipped-part _ _ _ read.loads;
+        trailer = skipped-part _ _ _ read.trailer;
       }
 
-  pub text-is-module : (reads_debug : Bool) → IsModule reads_debug (written (text_parts maus runs)) (text_parts maus runs)
-  text-is-module reads_debug = (file_of m, cut-into reads_debug, has-names m fits inside (loads-placed m held.valid), states m fits inside, held.valid)
+  text-plain : (debug : Bool) → IsModule (plainly debug) (written (text_parts maus runs)) (text_parts maus runs)
+  text-plain debug = (file_of m, cut-into debug, has-names m fits inside (loads-placed m held.valid), states m fits inside, held.valid)
+
+  text-read : (debug gnu : Bool) → IsModule (record { debug = debug; gnu = gnu }) (written (text_parts maus runs)) (text_parts maus runs)
+  text-read debug false = text-plain debug
+  text-read debug true = plain-gnu debug (text_parts maus runs) (written (text_parts maus runs)) (text-plain debug)
+
+  pub text-is-module : (options : ReadOptions) → IsModule options (written (text_parts maus runs)) (text_parts maus runs)
+  text-is-module options = text-read options.debug options.gnu
 
   -- the file alone is accepted
-  pub text-accepted : (reads_debug : Bool) (files : List NamedFile) (name : List ℕ) → file_named name files ≡ Some (written (text_parts maus runs))
-      → ComeTo reads_debug files (name ∷ []) (accepted (text_parts maus runs ∷ []))
-  text-accepted reads_debug files name there = (written m ∷ [], all) where
-    all : AreAccepted reads_debug files (name ∷ []) (written (text_parts maus runs) ∷ []) (text_parts maus runs ∷ [])
+  pub text-accepted : (options : ReadOptions) (files : List NamedFile) (name : List ℕ) → file_named name files ≡ Some (written (text_parts maus runs))
+      → ComeTo options files (name ∷ []) (accepted (text_parts maus runs ∷ []))
+  text-accepted options files name there = (written m ∷ [], all) where
+    all : AreAccepted options files (name ∷ []) (written (text_parts maus runs) ∷ []) (text_parts maus runs ∷ [])
     all = record {
       bytes = ap (λ (o : Option (List ℕ)). o ∷ []) there;
-      modules = (text-is-module reads_debug, tt);
+      modules = (text-is-module options, tt);
       within = let total = sum_by-cons length (written m) [] in omega (arith, few, total);
     }

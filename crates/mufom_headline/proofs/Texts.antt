@@ -104,8 +104,8 @@ module _ (text : List ℕ) (maus : ℕ) (runs : List Run) (low : 1 ≤ maus) (hi
       is-planned = subst (λ (o : Option (List ℕ)). plan_in files o (gives no_regions)) (sym does.plan) refl
 
       is-in : modules_in files c (gives (text_parts maus runs ∷ []))
-      is-in = subst (λ (names : List (List ℕ)). ComeTo (not c.no_debug) files names (accepted (text_parts maus runs ∷ []))) (sym does.files)
-          (text-accepted maus runs low high has-module has-text few (not c.no_debug) files name there)
+      is-in = subst (λ (names : List (List ℕ)). ComeTo c.options files names (accepted (text_parts maus runs ∷ []))) (sym does.files)
+          (text-accepted maus runs low high has-module has-text few c.options files name there)
 
       text-file : r.runs ≡ runs → work_of (task.Locate c None (product.TiTxt out)) files (gives (made out (txt_text runs)))
       text-file same =

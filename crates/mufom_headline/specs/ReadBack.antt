@@ -1,5 +1,5 @@
 -- Files of modules: what a later run reads from them, and their bytes.
-use Rattle.std.specs.Prelude.{◌≡◌, ◌↔◌, ◌≤◌, ℕ, false, true, List, [], ◌∷◌, length, slice_get, Some}
+use Rattle.std.specs.Prelude.{◌≡◌, ◌↔◌, ◌≤◌, ℕ, Bool, true, List, [], ◌∷◌, length, slice_get, Some}
 use Rattle.mufom_numbers.specs.declared.limits.TheConstants.{MOST_FILE_BYTES}
 use Rattle.mufom_host.specs.World.{NamedFile, file_named}
 use Rattle.mufom_module.specs.declared.module.Parts.{Parts}
@@ -13,15 +13,16 @@ use Rattle.mufom_task.specs.Calls.{Call}
 use Rattle.mufom_task.specs.Reading.{modules_in}
 use Rattle.mufom_command.specs.Run.{MakesFile}
 
--- The written form of the module is a file of this module, with its debug part, and of no other module. A task that does not skip debug parts and
+-- The written form of the module is a file of this module, with its debug part, and of no other module, whether or not the forms of GNU binutils are
+-- accepted. A task that does not skip debug parts and
 -- whose files are accepted reads this module from each file with these bytes. A task whose only file has these bytes accepts it.
 pub record IsReadBack (m : Parts) : Type 0 where
-  pub file : (n : Parts) → IsModule true (written m) n ↔ (n ≡ m)
+  pub file : (gnu : Bool) (n : Parts) → IsModule (record { debug = true; gnu = gnu }) (written m) n ↔ (n ≡ m)
   pub place : (files : List NamedFile) (c : Inputs) (ms : List Parts) (k : ℕ) (name : List ℕ)
-      → file_named name files ≡ Some (written m) → c.no_debug ≡ false → slice_get c.files k ≡ Some name → modules_in files c (gives ms)
+      → file_named name files ≡ Some (written m) → c.options.debug ≡ true → slice_get c.files k ≡ Some name → modules_in files c (gives ms)
       → slice_get ms k ≡ Some m
   pub alone : (files : List NamedFile) (c : Inputs) (name : List ℕ)
-      → file_named name files ≡ Some (written m) → c.no_debug ≡ false → c.files ≡ name ∷ [] → modules_in files c (gives (m ∷ []))
+      → file_named name files ≡ Some (written m) → c.options.debug ≡ true → c.files ≡ name ∷ [] → modules_in files c (gives (m ∷ []))
 
 -- Modules without a defect are read back if their files are not too long and their numbers and strings fit the types of a module. All values of the
 -- type `Module` are like that.

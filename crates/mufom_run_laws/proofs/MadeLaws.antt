@@ -1,5 +1,5 @@
 -- The files that are made stand for what they were made of.
-use Rattle.std.proofs.Common.{◌≤◌, true, length, unwrap_or}
+use Rattle.std.proofs.Common.{◌≤◌, Bool, true, length, unwrap_or}
 use Rattle.mufom_numbers.specs.declared.limits.TheConstants.{MOST_FILE_BYTES}
 use Rattle.mufom_module.specs.declared.module.Parts.{Parts}
 use Rattle.mufom_module.specs.Written.{written}
@@ -15,8 +15,9 @@ use Rattle.mufom_command.proofs.EndLaws.{location-of}
 use Rattle.mufom_command.proofs.KeptLaws.{kept-valid}
 
 -- the file of a module that is held is the file of that module
-pub is-read-back : (m : Parts) → IsHeld m → length (written m) ≤ MOST_FILE_BYTES → IsModule true (written m) m
-is-read-back m held few = stated m held.valid held.made few
+pub is-read-back : (m : Parts) → IsHeld m → length (written m) ≤ MOST_FILE_BYTES → (gnu : Bool)
+    → IsModule (record { debug = true; gnu = gnu }) (written m) m
+is-read-back m held few gnu = stated m held.valid held.made few gnu
 
 pub linked-files-stand : LinkedFilesStand
 linked-files-stand name out flat output valid (M, joined, (held, is)) = record {

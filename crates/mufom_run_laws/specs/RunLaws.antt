@@ -151,7 +151,7 @@ pub record IsFileOfLink (name : Option (List ℕ)) (out : List ℕ) (flat : List
   pub bytes : output ≡ made out (written link)
   pub joined : IsJoined link flat (unwrap_or name (first_name flat))
   pub stands : StandsFor link flat
-  pub read_back : length (written link) ≤ MOST_FILE_BYTES → IsModule true (written link) link
+  pub read_back : length (written link) ≤ MOST_FILE_BYTES → (gnu : Bool) → IsModule (record { debug = true; gnu = gnu }) (written link) link
 
 -- The output of `link` is the file of a module that can replace the flat list, in every context, and that is read back from the file.
 abbrev pub LinkedFilesStand : Type 0
@@ -168,7 +168,8 @@ pub record IsFileOfLocation (keep : Option (List ℕ)) (out : List ℕ) (plan : 
   pub keeps : kept_of keep flat (gives kept)
   pub located : IsLocation kept.modules plan location
   pub itself : IsLocation (absolute_of location ∷ []) no_regions location
-  pub read_back : length (written (absolute_of location)) ≤ MOST_FILE_BYTES → IsModule true (written (absolute_of location)) (absolute_of location)
+  pub read_back : length (written (absolute_of location)) ≤ MOST_FILE_BYTES → (gnu : Bool)
+      → IsModule (record { debug = true; gnu = gnu }) (written (absolute_of location)) (absolute_of location)
 
 -- The output of `locate` is the file of an absolute module that has the same location if it is located alone by the plan without regions, and that is
 -- read back from the file.

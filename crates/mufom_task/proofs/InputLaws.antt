@@ -3,6 +3,7 @@ use Rattle.std.proofs.Common.{◌≡◌, ℕ, ◌+◌, ◌*◌, ◌-◌, ◌<◌
 use Rattle.std.proofs.Common.{IfSome, OnSome, Err, refl, sym, ap, subst, ◌∙◌, arith, append_assoc}
 use Rattle.std.proofs.lemmas.List.{append-nil, drop_more, length-append, length-take-le, map-append, take-append-drop, take_all, take_more}
 use Rattle.std.proofs.lemmas.List.Sums.{sum_by-append}
+use Rattle.mufom_records.specs.declared.options.ReadOptions.{ReadOptions}
 use Rattle.mufom_host.specs.World.{Faults, Meaning, NamedFile, GrowsBy, KeepsAllButOpened, KeepsAllButReads, Rose, file_named}
 use Rattle.mufom_module.specs.declared.module.Parts.{Parts}
 use Rattle.mufom_module.specs.Defects.{IsValid}
@@ -63,9 +64,9 @@ pub grows_then : {T : Type 0} (a b c : Option (List T)) (xs ys : List T) → Gro
 grows_then a b None xs ys first second = tt
 grows_then a b (Some list) xs ys first second = grows_by_both a b (Some list) xs ys first second
 
-module _ (reads_debug : Bool) where
-  modules-append : (contents : List (List ℕ)) (ms : List Parts) (bytes : List ℕ) (m : Parts) → AreModules reads_debug contents ms
-      → IsModule reads_debug bytes m → AreModules reads_debug (contents ++ bytes ∷ []) (ms ++ m ∷ [])
+module _ (options : ReadOptions) where
+  modules-append : (contents : List (List ℕ)) (ms : List Parts) (bytes : List ℕ) (m : Parts) → AreModules options contents ms
+      → IsModule options bytes m → AreModules options (contents ++ bytes ∷ []) (ms ++ m ∷ [])
   modules-append [] [] bytes m them it = (it, tt)
   modules-append (first ∷ contents) (one_more ∷ ms) bytes m them it = (them.0, modules-append contents ms bytes m them.1 it)
   modules-append [] (one_more ∷ ms) bytes m them it = absurd them
@@ -75,14 +76,14 @@ module _ (reads_debug : Bool) where
   sum-more contents bytes = let sum = sum_by-append length contents (bytes ∷ []) in omega (arith, sum)
 
   -- nothing was read yet
-  pub none_accepted : (files : List NamedFile) → AreAccepted reads_debug files [] [] []
+  pub none_accepted : (files : List NamedFile) → AreAccepted options files [] [] []
   none_accepted files = record { bytes = refl; modules = tt; within = omega arith }
 
   -- one file more, within the room that the others left
   pub one_accepted : (files : List NamedFile) (names contents : List (List ℕ)) (ms : List Parts) (name bytes : List ℕ) (m : Parts)
-      → AreAccepted reads_debug files names contents ms
-      → file_named name files ≡ Some bytes → IsModule reads_debug bytes m → length bytes ≤ room_after contents
-      → AreAccepted reads_debug files (names ++ name ∷ []) (contents ++ bytes ∷ []) (ms ++ m ∷ [])
+      → AreAccepted options files names contents ms
+      → file_named name files ≡ Some bytes → IsModule options bytes m → length bytes ≤ room_after contents
+      → AreAccepted options files (names ++ name ∷ []) (contents ++ bytes ∷ []) (ms ++ m ∷ [])
   one_accepted files names contents ms name bytes m them there is fits = record {
     bytes = map-append (λ n. file_named n files) names (name ∷ []) ∙ (λ i. them.bytes i ++ there i ∷ []) ∙ sym (map-append (λ b. Some b) contents (bytes ∷ []));
     modules = modules-append contents ms bytes m them.modules is;
@@ -103,28 +104,28 @@ module _ (reads_debug : Bool) where
 
   pub file_read : (name : List ℕ) (limit : ℕ) (files : Option (List NamedFile)) (left after : Option (List ℕ)) (m : Parts) (count : ℕ)
       → IfSome files (λ fs. (all : List ℕ) × (file_named name fs ≡ Some all) × (left ≡ Some all))
-      → IfSome left (λ bytes. IsModule reads_debug bytes m × (count ≡ length bytes) × (length bytes ≤ limit) × (after ≡ Some []))
-      → FileHas name files (HasModule reads_debug limit m count)
+      → IfSome left (λ bytes. IsModule options bytes m × (count ≡ length bytes) × (length bytes ≤ limit) × (after ≡ Some []))
+      → FileHas name files (HasModule options limit m count)
   file_read name limit files left after m count opened holds =
-      file_left name (λ bytes. IsModule reads_debug bytes m × (count ≡ length bytes) × (length bytes ≤ limit)
-      × (after ≡ Some [])) (HasModule reads_debug limit m count) files left opened holds (λ bytes h. (h.0, h.1, h.2))
+      file_left name (λ bytes. IsModule options bytes m × (count ≡ length bytes) × (length bytes ≤ limit)
+      × (after ≡ Some [])) (HasModule options limit m count) files left opened holds (λ bytes h. (h.0, h.1, h.2))
 
   rose_since : (before between now : ℕ) → before ≤ between → Rose between now → Rose before now
   rose_since before between now later rose = omega (arith, later, rose)
 
   pub file_stopped : (name : List ℕ) (number limit : ℕ) (files : Option (List NamedFile)) (left after : Option (List ℕ)) (before between now : Faults)
       (s : SourceStop)
-      → IfSome files (λ fs. (all : List ℕ) × (file_named name fs ≡ Some all) × (left ≡ Some all)) → ReadsModule reads_debug limit left after (Err s)
+      → IfSome files (λ fs. (all : List ℕ) × (file_named name fs ≡ Some all) × (left ≡ Some all)) → ReadsModule options limit left after (Err s)
       → (s ≡ source.Fault → Rose between.reads now.reads) → before.reads ≤ between.reads
-      → FileStops reads_debug name number limit files before now (outcome_of_source_stop number s)
+      → FileStops options name number limit files before now (outcome_of_source_stop number s)
   file_stopped name number limit files left after before between now (source.Refused r) opened reads cause later = (
     refl,
-    file_left name (λ bytes. IsRefusedWithin reads_debug limit bytes r.offset r.reason)
-        (λ bytes. IsRefusedWithin reads_debug limit bytes r.offset r.reason) files left opened reads (λ bytes h. h),
+    file_left name (λ bytes. IsRefusedWithin options limit bytes r.offset r.reason)
+        (λ bytes. IsRefusedWithin options limit bytes r.offset r.reason) files left opened reads (λ bytes h. h),
   )
   file_stopped name number limit files left after before between now source.Limit opened reads cause later = (
     refl,
-    file_left name (λ bytes. IsPastLimit reads_debug limit bytes) (λ bytes. IsPastLimit reads_debug limit bytes) files left opened reads
+    file_left name (λ bytes. IsPastLimit options limit bytes) (λ bytes. IsPastLimit options limit bytes) files left opened reads
         (λ bytes h. h),
   )
   file_stopped name number limit files left after before between now source.Fault opened reads cause later =
@@ -135,7 +136,7 @@ module _ (reads_debug : Bool) where
 
   -- The first files, as many as are given, were accepted, and they alone were opened.
   pub record HaveRead (names : List (List ℕ)) (done : ℕ) (ms : List Parts) (room : ℕ) (old now : Meaning) (before after : Faults) : Type 0 where
-    pub files : IfSome old.files (λ fs. (contents : List (List ℕ)) × AreAccepted reads_debug fs (take done names) contents ms × (room ≡ room_after contents))
+    pub files : IfSome old.files (λ fs. (contents : List (List ℕ)) × AreAccepted options fs (take done names) contents ms × (room ≡ room_after contents))
     pub fits : room ≤ most_input_bytes
     pub opened : GrowsBy old.opened now.opened (take done names)
     pub stays : KeepsAllButOpened old now
@@ -146,7 +147,7 @@ module _ (reads_debug : Bool) where
     pub light : total_weight ms + 10 * room ≤ most_weight
 
   accepted_first : (files : Option (List NamedFile)) (names : List (List ℕ))
-      → IfSome files (λ fs. (contents : List (List ℕ)) × AreAccepted reads_debug fs (take 0 names) contents [] × (most_input_bytes ≡ room_after contents))
+      → IfSome files (λ fs. (contents : List (List ℕ)) × AreAccepted options fs (take 0 names) contents [] × (most_input_bytes ≡ room_after contents))
   accepted_first None names = tt
   accepted_first (Some fs) names = ([], none_accepted fs, refl)
 
@@ -165,13 +166,13 @@ module _ (reads_debug : Bool) where
 
   accepted_next : (files : Option (List NamedFile)) (prefix more : List (List ℕ)) (name : List ℕ) (ms : List Parts) (m : Parts) (room count : ℕ)
       → more ≡ prefix ++ name ∷ []
-      → IfSome files (λ fs. (contents : List (List ℕ)) × AreAccepted reads_debug fs prefix contents ms × (room ≡ room_after contents))
-      → FileHas name files (HasModule reads_debug room m count)
-      → IfSome files (λ fs. (contents : List (List ℕ)) × AreAccepted reads_debug fs more contents (ms ++ m ∷ []) × (room - count ≡ room_after contents))
+      → IfSome files (λ fs. (contents : List (List ℕ)) × AreAccepted options fs prefix contents ms × (room ≡ room_after contents))
+      → FileHas name files (HasModule options room m count)
+      → IfSome files (λ fs. (contents : List (List ℕ)) × AreAccepted options fs more contents (ms ++ m ∷ []) × (room - count ≡ room_after contents))
   accepted_next None prefix more name ms m room count is so_far next = tt
   accepted_next (Some fs) prefix more name ms m room count is (contents, them, left) (bytes, there, (read, size, fits)) = (
     contents ++ bytes ∷ [],
-    subst (λ (names : List (List ℕ)). AreAccepted reads_debug fs names (contents ++ bytes ∷ []) (ms ++ m ∷ [])) (sym is)
+    subst (λ (names : List (List ℕ)). AreAccepted options fs names (contents ++ bytes ∷ []) (ms ++ m ∷ [])) (sym is)
         (one_accepted fs prefix contents ms name bytes m them there read (subst (λ n. length bytes ≤ n) left fits)),
     (λ i. left i - size i) ∙ sym (room-more contents bytes),
   )
@@ -184,11 +185,11 @@ module _ (reads_debug : Bool) where
     files_same = ap (λ (m : Meaning). m.files) so_far.stays
 
     pub have_read_more : (m : Parts) (count : ℕ) → IsValid m → (weight m ≤ 10 * count) × (count ≤ room)
-        → FileHas name mid.files (HasModule reads_debug room m count) → GrowsBy mid.opened new.opened (name ∷ [])
+        → FileHas name mid.files (HasModule options room m count) → GrowsBy mid.opened new.opened (name ∷ [])
         → HaveRead names (number + 1) (ms ++ m ∷ []) (room - count) old new before now
     have_read_more m count valid weighs read opened = record {
       files = accepted_next old.files (take number names) (take (number + 1) names) name ms m room count next so_far.files
-          (subst (λ (o : Option (List NamedFile)). FileHas name o (HasModule reads_debug room m count)) files_same read);
+          (subst (λ (o : Option (List NamedFile)). FileHas name o (HasModule options room m count)) files_same read);
       fits = let fits = so_far.fits in omega (arith, fits);
       opened = subst (λ (l : List (List ℕ)). GrowsBy old.opened new.opened l) (sym next)
           (grows_by_both old.opened mid.opened new.opened (take number names) (name ∷ []) so_far.opened opened);
@@ -202,8 +203,8 @@ module _ (reads_debug : Bool) where
 
     at_file : (P : ℕ → List ℕ → Type 0) (i : ℕ) (files : Option (List NamedFile)) → names ≡ take number names ++ name ∷ drop (number + 1) names
         → length (take number names) ≡ number → i ≡ number
-        → IfSome files (λ fs. (contents : List (List ℕ)) × AreAccepted reads_debug fs (take number names) contents ms × (room ≡ room_after contents))
-        → FileHas name files (P room) → IfSome files (λ fs. StopsAt reads_debug fs names i P)
+        → IfSome files (λ fs. (contents : List (List ℕ)) × AreAccepted options fs (take number names) contents ms × (room ≡ room_after contents))
+        → FileHas name files (P room) → IfSome files (λ fs. StopsAt options fs names i P)
     at_file P i None split place is accepted_so holds = tt
     at_file P i (Some fs) split place is (contents, them, left) (bytes, there, holds) = record {
       before = take number names;
@@ -220,26 +221,26 @@ module _ (reads_debug : Bool) where
     }
 
     accepted_before : (i : ℕ) (files : Option (List NamedFile)) → i ≡ number
-        → IfSome files (λ fs. (contents : List (List ℕ)) × AreAccepted reads_debug fs (take number names) contents ms × (room ≡ room_after contents))
-        → IfSome files (λ fs. (ms : List Parts) × ComeTo reads_debug fs (take i names) (accepted ms))
+        → IfSome files (λ fs. (contents : List (List ℕ)) × AreAccepted options fs (take number names) contents ms × (room ≡ room_after contents))
+        → IfSome files (λ fs. (ms : List Parts) × ComeTo options fs (take i names) (accepted ms))
     accepted_before i None is them = tt
-    accepted_before i (Some fs) is (contents, them, left) = (ms, (contents, subst (λ n. AreAccepted reads_debug fs (take n names) contents ms) (sym is) them))
+    accepted_before i (Some fs) is (contents, them, left) = (ms, (contents, subst (λ n. AreAccepted options fs (take n names) contents ms) (sym is) them))
 
     -- why this file was not read is why not all were
     pub files_stop : (stop : Outcome) → names ≡ take number names ++ name ∷ drop (number + 1) names → length (take number names) ≡ number
-        → FileStops reads_debug name number room mid.files between now stop
-        → FilesStop reads_debug names (call_between old new before now) stop
+        → FileStops options name number room mid.files between now stop
+        → FilesStop options names (call_between old new before now) stop
     files_stop outcome.Done split place why = absurd why
     files_stop (outcome.Refused (refusal.Bin count)) split place why = absurd why
     files_stop (outcome.Refused (refusal.Keep kept)) split place why = absurd why
     files_stop (outcome.Refused (refusal.Text r)) split place why = absurd why
     files_stop (outcome.Refused (refusal.Build r)) split place why = absurd why
     files_stop (outcome.Refused (refusal.Read i r)) split place why =
-        at_file (λ limit bytes. IsRefusedWithin reads_debug limit bytes r.offset r.reason) i old.files split place why.0 so_far.files
-        (subst (λ (o : Option (List NamedFile)). FileHas name o (λ bytes. IsRefusedWithin reads_debug room bytes r.offset r.reason)) files_same why.1)
+        at_file (λ limit bytes. IsRefusedWithin options limit bytes r.offset r.reason) i old.files split place why.0 so_far.files
+        (subst (λ (o : Option (List NamedFile)). FileHas name o (λ bytes. IsRefusedWithin options room bytes r.offset r.reason)) files_same why.1)
     files_stop (outcome.Refused (refusal.InputLimit i)) split place why =
-        at_file (λ limit bytes. IsPastLimit reads_debug limit bytes) i old.files split place why.0 so_far.files
-        (subst (λ (o : Option (List NamedFile)). FileHas name o (λ bytes. IsPastLimit reads_debug room bytes)) files_same why.1)
+        at_file (λ limit bytes. IsPastLimit options limit bytes) i old.files split place why.0 so_far.files
+        (subst (λ (o : Option (List NamedFile)). FileHas name o (λ bytes. IsPastLimit options room bytes)) files_same why.1)
     files_stop (outcome.Refused (refusal.TooManyFiles count)) split place why = absurd why
     files_stop (outcome.Refused (refusal.TooDeep depth)) split place why = absurd why
     files_stop (outcome.Refused (refusal.Plan r)) split place why = absurd why
@@ -256,7 +257,7 @@ module _ (reads_debug : Bool) where
     opened_now opened = subst (λ (l : List (List ℕ)). OnSome new.opened (GrowsBy old.opened new.opened l)) (sym next)
         (grows_then old.opened mid.opened new.opened (take number names) (name ∷ []) so_far.opened opened)
 
-    opened_count : (stop : Outcome) → FileStops reads_debug name number room mid.files between now stop → IsFileCount stop (number + 1)
+    opened_count : (stop : Outcome) → FileStops options name number room mid.files between now stop → IsFileCount stop (number + 1)
     opened_count outcome.Done why = absurd why
     opened_count (outcome.Refused (refusal.Bin count)) why = absurd why
     opened_count (outcome.Refused (refusal.Keep kept)) why = absurd why
@@ -276,22 +277,22 @@ module _ (reads_debug : Bool) where
     opened_count outcome.NoMemory why = tt
 
     -- and none after it was opened
-    pub stop_opens : (stop : Outcome) → number < length names → FileStops reads_debug name number room mid.files between now stop
+    pub stop_opens : (stop : Outcome) → number < length names → FileStops options name number room mid.files between now stop
         → OnSome new.opened (GrowsBy mid.opened new.opened (name ∷ [])) → OpensFiles names (call_between old new before now) stop
     stop_opens stop inside why opened = record { count = number + 1; exact = opened_count stop why; within = omega (arith, inside); opened = opened_now opened }
 
   -- ---- all files
 
   accepted_all : (files : Option (List NamedFile)) (names : List (List ℕ)) (done : ℕ) (ms : List Parts) (room : ℕ) → take done names ≡ names
-      → IfSome files (λ fs. (contents : List (List ℕ)) × AreAccepted reads_debug fs (take done names) contents ms × (room ≡ room_after contents))
-      → IfSome files (λ fs. ComeTo reads_debug fs names (accepted ms))
+      → IfSome files (λ fs. (contents : List (List ℕ)) × AreAccepted options fs (take done names) contents ms × (room ≡ room_after contents))
+      → IfSome files (λ fs. ComeTo options fs names (accepted ms))
   accepted_all None names done ms room is them = tt
   accepted_all (Some fs) names done ms room is (contents, them, left) =
-      (contents, subst (λ (l : List (List ℕ)). AreAccepted reads_debug fs l contents ms) is them)
+      (contents, subst (λ (l : List (List ℕ)). AreAccepted options fs l contents ms) is them)
 
   pub all_read : (names : List (List ℕ)) (done : ℕ) (ms : List Parts) (room : ℕ) (old now : Meaning) (before after : Faults)
       → HaveRead names done ms room old now before after → length names ≤ done
-      → IfSome old.files (λ fs. ComeTo reads_debug fs names (accepted ms)) × GrowsBy old.opened now.opened names × (total_weight ms ≤ most_weight)
+      → IfSome old.files (λ fs. ComeTo options fs names (accepted ms)) × GrowsBy old.opened now.opened names × (total_weight ms ≤ most_weight)
   all_read names done ms room old now before after them enough =
       let is = take_all done names enough in
       let light = them.light in (

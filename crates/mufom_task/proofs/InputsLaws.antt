@@ -59,13 +59,13 @@ module _ (c : Inputs) (old mid : Meaning) (before between : Faults) (only : Only
 
   -- ---- all was read
 
-  pub inputs-read : (plan : Plan) (ms : List Parts) → planned plan → IfSome mid.files (λ fs. ComeTo (not c.no_debug) fs c.files (accepted ms))
+  pub inputs-read : (plan : Plan) (ms : List Parts) → planned plan → IfSome mid.files (λ fs. ComeTo c.options fs c.files (accepted ms))
       → IfSome old.files (λ fs. inputs_in fs c (gives (plan, ms)))
   inputs-read plan ms is come =
-      known-map (λ fs. plan_in fs c.plan (gives plan) × ComeTo (not c.no_debug) fs c.files (accepted ms)) (λ fs. inputs_in fs c (gives (plan, ms)))
+      known-map (λ fs. plan_in fs c.plan (gives plan) × ComeTo c.options fs c.files (accepted ms)) (λ fs. inputs_in fs c (gives (plan, ms)))
       old.files (λ fs both. (plan, both.0, (ms, both.1, refl)))
-      (known-both (λ fs. plan_in fs c.plan (gives plan)) (λ fs. ComeTo (not c.no_debug) fs c.files (accepted ms)) old.files is
-      (subst (λ (o : Option (List NamedFile)). IfSome o (λ fs. ComeTo (not c.no_debug) fs c.files (accepted ms))) files-same come))
+      (known-both (λ fs. plan_in fs c.plan (gives plan)) (λ fs. ComeTo c.options fs c.files (accepted ms)) old.files is
+      (subst (λ (o : Option (List NamedFile)). IfSome o (λ fs. ComeTo c.options fs c.files (accepted ms))) files-same come))
 
   pub all-opened : (new : Meaning) → GrowsBy old.opened mid.opened (option_to_list c.plan) → GrowsBy mid.opened new.opened c.files
       → GrowsBy old.opened new.opened (input_names c)
@@ -156,7 +156,7 @@ module _ (c : Inputs) (old mid : Meaning) (before between : Faults) (only : Only
   plan-named outcome.WriteFault why = tt
   plan-named outcome.NoMemory why = tt
 
-  pub files-named : (new : Meaning) (now : Faults) (stop : Outcome) → FilesStop (not c.no_debug) c.files (call_between mid new between now) stop
+  pub files-named : (new : Meaning) (now : Faults) (stop : Outcome) → FilesStop c.options c.files (call_between mid new between now) stop
       → NamesPlan c.plan stop
   files-named new now (outcome.Refused (refusal.Plan r)) why = absurd why
   files-named new now (outcome.ReadFault input.Plan) why = absurd why
@@ -189,7 +189,7 @@ module _ (c : Inputs) (old mid : Meaning) (before between : Faults) (only : Only
         (known-both (λ fs. plan_in fs c.plan (gives plan)) (λ fs. modules_in fs c (stops s)) old.files is_planned
         (subst (λ (o : Option (List NamedFile)). IfSome o (λ fs. modules_in fs c (stops s))) files-same why))
 
-    pub files-stops : (stop : Outcome) → FilesStop (not c.no_debug) c.files (call_between mid new between now) stop
+    pub files-stops : (stop : Outcome) → FilesStop c.options c.files (call_between mid new between now) stop
         → OpensFiles c.files (call_between mid new between now) stop
         → InputsStop c (call_between old new before now) stop
     files-stops (outcome.Refused (refusal.Read n r)) why opens =
@@ -200,12 +200,12 @@ module _ (c : Inputs) (old mid : Meaning) (before between : Faults) (only : Only
       (let same = ap (λ (f : Faults). f.reads) only.1 in let later = only.2 in omega (arith, rose, later)),
       (
         (let exact = opens.exact in let within = opens.within in omega (arith, exact, within)),
-        known-map (λ fs. plan_in fs c.plan (gives plan) × ((ms : List Parts) × ComeTo (not c.no_debug) fs (take n c.files) (accepted ms)))
-            (λ fs. ((p : Plan) × plan_in fs c.plan (gives p)) × ((ms : List Parts) × ComeTo (not c.no_debug) fs (take n c.files) (accepted ms)))
+        known-map (λ fs. plan_in fs c.plan (gives plan) × ((ms : List Parts) × ComeTo c.options fs (take n c.files) (accepted ms)))
+            (λ fs. ((p : Plan) × plan_in fs c.plan (gives p)) × ((ms : List Parts) × ComeTo c.options fs (take n c.files) (accepted ms)))
             old.files (λ fs both. ((plan, both.0), both.1))
             (known-both (λ fs. plan_in fs c.plan (gives plan)) (λ fs. (ms : List Parts)
-            × ComeTo (not c.no_debug) fs (take n c.files) (accepted ms)) old.files is_planned
-            (subst (λ (o : Option (List NamedFile)). IfSome o (λ fs. (ms : List Parts) × ComeTo (not c.no_debug) fs (take n c.files) (accepted ms)))
+            × ComeTo c.options fs (take n c.files) (accepted ms)) old.files is_planned
+            (subst (λ (o : Option (List NamedFile)). IfSome o (λ fs. (ms : List Parts) × ComeTo c.options fs (take n c.files) (accepted ms)))
             files-same them)),
       ),
     )

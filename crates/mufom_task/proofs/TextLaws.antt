@@ -3,6 +3,7 @@ use Rattle.std.proofs.Common.{◌≡◌, ◌⊎◌, ℕ, ◌+◌, ◌<◌, ◌�
 use Rattle.std.proofs.Common.{IfSome, OnSome, option_to_list, refl, sym, ap, subst, ◌∙◌, inl, inr, arith}
 use Rattle.std.proofs.lemmas.Bool.{lt-ltb, ltb-true}
 use Rattle.std.proofs.lemmas.List.{length-append}
+use Rattle.mufom_records.specs.declared.options.ReadOptions.{ReadOptions}
 use Rattle.mufom_numbers.specs.declared.limits.TheConstants.{MOST_FILE_BYTES}
 use Rattle.mufom_host.specs.World.{Faults, Meaning, NamedFile, GrowsBy, Rose}
 use Rattle.mufom_module.specs.declared.module.Parts.{Parts}
@@ -73,10 +74,10 @@ no-plan-read : (files : List NamedFile) (plan : Option (List ℕ)) → plan ≡ 
 no-plan-read files None is = (no_regions, refl)
 no-plan-read files (Some name) is = absurd cc
 
-no-files-read : (reads_debug : Bool) (files : List NamedFile) (names : List (List ℕ)) (n : ℕ) → n ≡ 0 → (ms : List Parts)
-    × ComeTo reads_debug files (take n names) (accepted ms)
-no-files-read reads_debug files names n is = subst (λ (k : ℕ). (ms : List Parts)
-    × ComeTo reads_debug files (take k names) (accepted ms)) (sym is) ([], ([], none_accepted reads_debug files))
+no-files-read : (options : ReadOptions) (files : List NamedFile) (names : List (List ℕ)) (n : ℕ) → n ≡ 0 → (ms : List Parts)
+    × ComeTo options files (take n names) (accepted ms)
+no-files-read options files names n is = subst (λ (k : ℕ). (ms : List Parts)
+    × ComeTo options files (take k names) (accepted ms)) (sym is) ([], ([], none_accepted options files))
 
 module _ (c : Inputs) (name : List ℕ) (no_plan : c.plan ≡ None) (one : c.files
     ≡ name ∷ []) (old mid : Meaning) (before between : Faults) where
@@ -103,8 +104,8 @@ module _ (c : Inputs) (name : List ℕ) (no_plan : c.plan ≡ None) (one : c.fil
     (
       (let count = ap (λ (l : List (List ℕ)). length l) one in omega (arith, zero, count)),
       to-all (λ (fs : List NamedFile). ((p : Plan) × plan_in fs c.plan (gives p))
-          × ((ms : List Parts) × ComeTo (not c.no_debug) fs (take n c.files) (accepted ms)))
-          old.files (λ fs. (no-plan-read fs c.plan no_plan, no-files-read (not c.no_debug) fs c.files n zero)),
+          × ((ms : List Parts) × ComeTo c.options fs (take n c.files) (accepted ms)))
+          old.files (λ fs. (no-plan-read fs c.plan no_plan, no-files-read c.options fs c.files n zero)),
     ),
   )
   reading-stops (outcome.ReadFault input.Plan) why = absurd why

@@ -58,4 +58,4 @@ abbrev pub IsInputReached : Option (List NamedFile) → Inputs → Input → Typ
 IsInputReached files inputs input.Plan = IsSome inputs.plan
 IsInputReached files inputs (input.File n) = (n < length inputs.files)
     × IfSome files (λ fs. ((plan : Plan) × plan_in fs inputs.plan (gives plan))
-    × ((ms : List Parts) × ComeTo (not inputs.no_debug) fs (take n inputs.files) (accepted ms)))
+    × ((ms : List Parts) × ComeTo inputs.options fs (take n inputs.files) (accepted ms)))

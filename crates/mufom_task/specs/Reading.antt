@@ -31,9 +31,9 @@ plan_in files (Some name) = do
 
 -- the modules of the files
 abbrev pub modules_in : List NamedFile → Inputs → Work Stop (List Parts)
-modules_in files inputs (gives ms) = ComeTo (not inputs.no_debug) files inputs.files (accepted ms)
-modules_in files inputs (stops (file_refused n r)) = ComeTo (not inputs.no_debug) files inputs.files (refused n r)
-modules_in files inputs (stops (past_limit n)) = ComeTo (not inputs.no_debug) files inputs.files (past n)
+modules_in files inputs (gives ms) = ComeTo inputs.options files inputs.files (accepted ms)
+modules_in files inputs (stops (file_refused n r)) = ComeTo inputs.options files inputs.files (refused n r)
+modules_in files inputs (stops (past_limit n)) = ComeTo inputs.options files inputs.files (past n)
 modules_in files inputs (stops _) = ⊥
 
 -- the bytes of a text, unless there are too many

@@ -1,5 +1,5 @@
 -- What the arguments of a run ask for: a task, or an explanation of other arguments.
-use Rattle.std.specs.Prelude.{Bool, true, false, List, ℕ, [], ◌++◌, Option, None, Some, option_to_list, unwrap_or}
+use Rattle.std.specs.Prelude.{Bool, true, false, not, List, ℕ, [], ◌++◌, Option, None, Some, option_to_list, unwrap_or}
 use Rattle.mufom_words.specs.declared.command.Command.{Command}
 use Rattle.mufom_words.specs.declared.command.Verb.{Verb}
 use Rattle.mufom_words.specs.declared.command.Verb.TheVariants as verb
@@ -15,7 +15,7 @@ use Rattle.mufom_task.specs.declared.task.Task.TheVariants as task
 
 -- the inputs that a command names
 abbrev pub inputs_named : Command → Inputs
-inputs_named c = record { plan = c.plan; files = c.files; marks = c.marks; no_debug = c.no_debug }
+inputs_named c = record { plan = c.plan; files = c.files; marks = c.marks; options = record { debug = not c.no_debug; gnu = c.gnu } }
 
 -- the name of the file that a command writes; the empty name if it has none, which no arguments give
 abbrev pub out_named : Command → List ℕ
@@ -49,7 +49,7 @@ request_of c = request_by c.verb c
 
 -- a task that reads nothing
 abbrev pub no_inputs : Inputs
-no_inputs = record { plan = None; files = []; marks = []; no_debug = false }
+no_inputs = record { plan = None; files = []; marks = []; options = record { debug = true; gnu = false } }
 
 -- what the task reads
 abbrev pub inputs_of : Task → Inputs

@@ -23,7 +23,7 @@ use mufom_numbers::limits::MOST_FILE_BYTES;
 use mufom_numbers::{List, NoMemory, Text};
 use mufom_outcome::{Input, Outcome, Refusal};
 use mufom_plan::Plan;
-use mufom_read::{SourceStop, read_module};
+use mufom_read::{ReadOptions, SourceStop, read_module};
 use std::alloc::Global;
 
 // The greatest total length of the module files of a run, in bytes.
@@ -47,15 +47,15 @@ fn read_file<H: Host>(
     name: &str,
     file: u32,
     limit: u64,
-    reads_debug: bool,
+    options: ReadOptions,
     host: &mut H,
 ) -> Result<(Module, u64), Outcome>
     requires { limit ≤ most_input_bytes }
-    ensures read { IfOk result (λ read. FileHas name.now (H.meaning host.old).files (HasModule reads_debug limit read.0 read.1)) }
+    ensures read { IfOk result (λ read. FileHas name.now (H.meaning host.old).files (HasModule options limit read.0 read.1)) }
     ensures valid { IfOk result (λ read. IsValid read.0) }
     ensures weighs { IfOk result (λ read. (weight read.0 ≤ 10 * read.1) × (read.1 ≤ limit)) }
     ensures stops { IfErr result
-        (λ stop. FileStops reads_debug name.now file limit (H.meaning host.old).files (H.faults host.old) (H.faults host.new) stop) }
+        (λ stop. FileStops options name.now file limit (H.meaning host.old).files (H.faults host.old) (H.faults host.new) stop) }
     ensures opened { OnSome (H.meaning host.new).opened (GrowsBy (H.meaning host.old).opened (H.meaning host.new).opened (name.now ∷ [])) }
     ensures opens { IfOk result (λ read. GrowsBy (H.meaning host.old).opened (H.meaning host.new).opened (name.now ∷ [])) }
     ensures only { OnlyOpens (H.meaning host.old) (H.meaning host.new) (H.faults host.old) (H.faults host.new) }
@@ -63,7 +63,7 @@ fn read_file<H: Host>(
     let Ok(()) = host.open(name) else {
         return Err(Outcome::ReadFault(Input::File(file)));
     };
-    match read_module(alloc, host, limit, reads_debug) {
+    match read_module(alloc, host, limit, options) {
         Ok((entry, length)) => {
             let _ = entry.parts();
             Ok((entry, length))
@@ -76,16 +76,16 @@ fn read_file<H: Host>(
 fn read_files<H: Host>(
     alloc: Global,
     names: &[Text],
-    reads_debug: bool,
+    options: ReadOptions,
     host: &mut H,
 ) -> Result<List<Module>, Outcome>
     requires { length names.now < 2 ^ 32 }
-    ensures read { IfOk result (λ modules. IfSome (H.meaning host.old).files (λ files. ComeTo reads_debug files names.now (accepted modules))) }
+    ensures read { IfOk result (λ modules. IfSome (H.meaning host.old).files (λ files. ComeTo options files names.now (accepted modules))) }
     ensures count { IfOk result (λ modules. length modules ≡ length names.now) }
     ensures all { IfOk result (λ modules. GrowsBy (H.meaning host.old).opened (H.meaning host.new).opened names.now) }
     ensures valid { IfOk result AreValid }
     ensures light { IfOk result (λ modules. total_weight modules ≤ most_weight) }
-    ensures stops { IfErr result (λ stop. FilesStop reads_debug names.now (call_of H.meaning H.faults host.old host.new) stop) }
+    ensures stops { IfErr result (λ stop. FilesStop options names.now (call_of H.meaning H.faults host.old host.new) stop) }
     ensures opened { IfErr result (λ stop. OpensFiles names.now (call_of H.meaning H.faults host.old host.new) stop) }
     ensures only { OnlyOpens (H.meaning host.old) (H.meaning host.new) (H.faults host.old) (H.faults host.new) }
 {
@@ -98,7 +98,7 @@ fn read_files<H: Host>(
             name,
             number as u32,
             room,
-            reads_debug,
+            options,
             host,
         ) {
             Ok(read) => read,
@@ -146,7 +146,7 @@ pub fn read_inputs<H: Host>(
         Ok(plan) => plan,
         Err(stop) => return Err(stop),
     };
-    match read_files(alloc, inputs.files.as_slice(), !inputs.no_debug, host) {
+    match read_files(alloc, inputs.files.as_slice(), inputs.options, host) {
         Ok(modules) => Ok(Loaded { plan, modules }),
         Err(stop) => Err(stop),
     }

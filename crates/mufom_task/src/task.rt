@@ -7,6 +7,7 @@ ghost use Rattle.mufom_task.specs.Sound.{IsSoundRequest};
 ghost use Rattle.mufom_task.specs.Tasks.{inputs_named as inputs, locating, request_by, request_of as request};
 
 use mufom_numbers::{Bytes, List, NoMemory, Text};
+use mufom_read::ReadOptions;
 use mufom_words::{Command, HelpText, Mark, Verb};
 use std::alloc::Global;
 
@@ -19,8 +20,8 @@ pub struct Inputs {
     pub files: List<Text>,
     /// The files that are not members, with the brackets around groups.
     pub marks: List<Mark>,
-    /// The debug parts are skipped.
-    pub no_debug: bool,
+    /// How the module files are read.
+    pub options: ReadOptions,
 }
 
 /// What is made of a location.
@@ -88,7 +89,10 @@ fn inputs_named(command: Command) -> Inputs
         plan: command.plan,
         files: command.files,
         marks: command.marks,
-        no_debug: command.no_debug,
+        options: ReadOptions {
+            debug: !command.no_debug,
+            gnu: command.gnu,
+        },
     }
 }
 

@@ -8,7 +8,7 @@ returns-in-Err-clause-stops g c =
     let names = c.args.names.now in let i = c.loop-number.number in let d = c.index-names-number.result in
     let name = c.as_str-name.result.now in let inside = c.loop-number-test.true in
     let is : name ≡ get_or names i name = c.as_str-name.ensures ∙ c.index-names-number.is ∙ ap (get_or names i) (sym c.as_str-name.ensures) in
-    files_stop c.args.reads_debug names i name _ c.loop-number.room (g.H.World.meaning c.args.host.now) (g.H.World.meaning c.loop-number.host)
+    files_stop c.args.options names i name _ c.loop-number.room (g.H.World.meaning c.args.host.now) (g.H.World.meaning c.loop-number.host)
     (g.H.World.meaning c.read_file.new.host)
     (g.H.World.faults c.args.host.now) (g.H.World.faults c.loop-number.host) (g.H.World.faults c.read_file.new.host) c.loop-number.invariant
     (names_more names i name inside is) c.read_file.ensures.only.0 c.read_file.ensures.only.1 c.read_file.ensures.only.2
@@ -19,7 +19,7 @@ returns-in-Err-clause-opened g c =
     let names = c.args.names.now in let i = c.loop-number.number in let d = c.index-names-number.result in
     let name = c.as_str-name.result.now in let inside = c.loop-number-test.true in
     let is : name ≡ get_or names i name = c.as_str-name.ensures ∙ c.index-names-number.is ∙ ap (get_or names i) (sym c.as_str-name.ensures) in
-    stop_opens c.args.reads_debug names i name _ c.loop-number.room (g.H.World.meaning c.args.host.now) (g.H.World.meaning c.loop-number.host)
+    stop_opens c.args.options names i name _ c.loop-number.room (g.H.World.meaning c.args.host.now) (g.H.World.meaning c.loop-number.host)
     (g.H.World.meaning c.read_file.new.host)
     (g.H.World.faults c.args.host.now) (g.H.World.faults c.loop-number.host) (g.H.World.faults c.read_file.new.host) c.loop-number.invariant
     (names_more names i name inside is) c.read_file.ensures.only.0 c.read_file.ensures.only.1 c.read_file.ensures.only.2
@@ -30,7 +30,7 @@ returns-in-Err-push-clause-opened g c =
     let names = c.args.names.now in let i = c.loop-number.number in let d = c.index-names-number.result in
     let name = c.as_str-name.result.now in let inside = c.loop-number-test.true in
     let is : name ≡ get_or names i name = c.as_str-name.ensures ∙ c.index-names-number.is ∙ ap (get_or names i) (sym c.as_str-name.ensures) in
-    stop_opens c.args.reads_debug names i name _ c.loop-number.room (g.H.World.meaning c.args.host.now) (g.H.World.meaning c.loop-number.host)
+    stop_opens c.args.options names i name _ c.loop-number.room (g.H.World.meaning c.args.host.now) (g.H.World.meaning c.loop-number.host)
     (g.H.World.meaning c.read_file.new.host)
     (g.H.World.faults c.args.host.now) (g.H.World.faults c.loop-number.host) (g.H.World.faults c.read_file.new.host) c.loop-number.invariant
     (names_more names i name inside is) c.read_file.ensures.only.0 c.read_file.ensures.only.1 c.read_file.ensures.only.2
@@ -42,7 +42,7 @@ loop-number-preserved g c =
     let name = c.as_str-name.result.now in let inside = c.loop-number-test.true in
     let is : name ≡ get_or names i name = c.as_str-name.ensures ∙ c.index-names-number.is ∙ ap (get_or names i) (sym c.as_str-name.ensures) in
     rw (c.in-Ok-push.ensures.ok, c.saturating_sub-room.ensures)
-    (have_read_more c.args.reads_debug names i name c.loop-number.modules c.loop-number.room (g.H.World.meaning c.args.host.now)
+    (have_read_more c.args.options names i name c.loop-number.modules c.loop-number.room (g.H.World.meaning c.args.host.now)
     (g.H.World.meaning c.loop-number.host) (g.H.World.meaning c.read_file.new.host)
     (g.H.World.faults c.args.host.now) (g.H.World.faults c.loop-number.host) (g.H.World.faults c.read_file.new.host) c.loop-number.invariant
     (names_more names i name inside is) c.read_file.ensures.only.0 c.read_file.ensures.only.1 c.read_file.ensures.only.2

@@ -3,5 +3,5 @@ use Rattle.mufom_task.proofs.inputs.read_files.Given as goal
 
 abbrev pub invariant-loop-number : goal.invariant-loop-number
 invariant-loop-number g l =
-    HaveRead l.reads_debug l.names l.number l.modules l.room (g.H.World.meaning l.initial.host) (g.H.World.meaning l.host)
+    HaveRead l.options l.names l.number l.modules l.room (g.H.World.meaning l.initial.host) (g.H.World.meaning l.host)
     (g.H.World.faults l.initial.host) (g.H.World.faults l.host)
