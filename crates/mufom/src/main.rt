@@ -10,8 +10,9 @@ ghost use Rattle.std.specs.Prelude.{◌≡◌, ◌<◌, ◌^◌, drop, length, m
 ghost use Rattle.std.specs.Process.{exit_status};
 ghost use Rattle.std.specs.String.{string_bytes};
 ghost use Rattle.mufom_command.specs.Contract.{IsRun};
-ghost use Rattle.mufom_command.specs.Run.{call_of, status_of};
-ghost use Rattle.mufom_command.specs.declared.outcome.Outcome.{Outcome};
+ghost use Rattle.mufom_outcome.specs.Complaint.{status_of};
+ghost use Rattle.mufom_outcome.specs.declared.outcome.Outcome.{Outcome};
+ghost use Rattle.mufom_task.specs.Calls.{call_of};
 
 use mufom_command::run;
 use mufom_host::{Host, RealHost};

@@ -17,7 +17,7 @@ ghost use Rattle.mufom_command.specs.WorkEnds.{own_kept, EndsAt};
 use mufom_groups::link_with_members;
 use mufom_image::{LocateRefusal, Located, locate};
 use mufom_link::LinkRefusal;
-use mufom_module::Module;
+use mufom_module::{Module, a_module_is_valid};
 use mufom_numbers::{Bytes, List, NoMemory};
 use mufom_origins::Origins;
 use mufom_outcome::{Outcome, outcome_of_link, outcome_of_locate, outcome_of_prune};
@@ -106,7 +106,7 @@ fn traced_link(
         Ok(linked) => linked,
         Err(refusal) => return Err(refusal),
     };
-    let _ = linked.module.parts();
+    a_module_is_valid(&linked.module);
     let Ok(origins) = origins.selected(alloc, linked.roots, linked.chosen.as_slice()) else {
         return Err(LinkRefusal::NoMemory);
     };

@@ -25,7 +25,7 @@ use crate::texts::{built_from, module_of};
 use mufom_groups::link_modules;
 use mufom_host::Host;
 use mufom_link::LinkRefusal;
-use mufom_module::Module;
+use mufom_module::{Module, a_module_is_valid};
 use mufom_numbers::{Bytes, List, NoMemory, Text};
 use mufom_outcome::{Outcome, outcome_of_link};
 use mufom_task::{Inputs, Product, Task, read_inputs, read_text};
@@ -100,7 +100,7 @@ pub(crate) fn link_file<'a>(
 {
     match link_modules(alloc, inputs.marks.as_slice(), name, modules) {
         Ok(object) => {
-            let _ = object.parts();
+            a_module_is_valid(&object);
             Ok(Ready::File { out, object })
         }
         Err(refusal) => Err(refusal),
@@ -180,7 +180,7 @@ fn prepare_text<'a, H: Host>(
     };
     match module_of(alloc, text.as_slice(), maus) {
         Ok(object) => {
-            let _ = object.parts();
+            a_module_is_valid(&object);
             Ok(Ready::File { out, object })
         }
         Err(stop) => Err(stop),
@@ -205,7 +205,7 @@ fn prepare_listing<'a, H: Host>(
     };
     match built_from(alloc, text.as_slice()) {
         Ok(object) => {
-            let _ = object.parts();
+            a_module_is_valid(&object);
             Ok(Ready::File { out, object })
         }
         Err(stop) => Err(stop),

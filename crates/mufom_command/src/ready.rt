@@ -24,7 +24,7 @@ use crate::writing::{make_file, make_raw_file, make_text_file};
 use mufom_host::{Failed, Host};
 use mufom_image::{Located, absolute};
 use mufom_map::print_map;
-use mufom_module::Module;
+use mufom_module::{Module, a_module_is_valid};
 use mufom_numbers::limits::MOST_FILE_BYTES;
 use mufom_numbers::{List, NoMemory, Text};
 use mufom_outcome::{Outcome, Refusal};
@@ -73,7 +73,7 @@ fn absolute_file<'a>(alloc: Global, out: &'a Text, located: Located) -> Result<R
 {
     match absolute(alloc, &located) {
         Ok(object) => {
-            let _ = object.parts();
+            a_module_is_valid(&object);
             Ok(Ready::File { out, object })
         }
         Err(_) => Err(Outcome::NoMemory),

@@ -18,7 +18,7 @@ ghost use Rattle.mufom_task.specs.Tasks.{input_names};
 use crate::plan_file::read_plan_of;
 use crate::task::Inputs;
 use mufom_host::{Failed, Host};
-use mufom_module::Module;
+use mufom_module::{Module, a_module_is_valid};
 use mufom_numbers::limits::MOST_FILE_BYTES;
 use mufom_numbers::{List, NoMemory, Text};
 use mufom_outcome::{Input, Outcome, Refusal};
@@ -65,7 +65,7 @@ fn read_file<H: Host>(
     };
     match read_module(alloc, host, limit, options) {
         Ok((entry, length)) => {
-            let _ = entry.parts();
+            a_module_is_valid(&entry);
             Ok((entry, length))
         }
         Err(stop) => Err(outcome_of_source_stop(file, stop)),

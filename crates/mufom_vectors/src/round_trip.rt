@@ -5,7 +5,7 @@ ghost use Rattle.mufom_module.specs.Written.{written};
 ghost use Rattle.mufom_module.specs.Grammar.{file_limit};
 ghost use Rattle.mufom_read.specs.Reader.{HasRead, options_of};
 
-use mufom_module::Module;
+use mufom_module::{Module, a_module_is_valid};
 use mufom_read::{ReadStop, Reader};
 
 /// The answer of a reader that has read, in chunks of any size, what `mufom_write::write_module` writes
@@ -16,6 +16,6 @@ pub fn read_back(reader: Reader, module: &Module) -> Result<Module, ReadStop>
     requires short { length (written «module».now) ≤ file_limit }
     ensures { result ≢ Err ReadStop.NoMemory → result ≡ Ok «module».now }
 {
-    let _ = module.parts();
+    a_module_is_valid(module);
     reader.finish()
 }

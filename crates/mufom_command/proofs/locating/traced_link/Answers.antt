@@ -21,7 +21,7 @@ returns-clause-ok c =
     let same = c.as_slice-2.ensures in
     record {
       links = subst (λ (marks : List Mark). linked_module (tree_of marks) None ms (gives linked.«module»)) same is.ok;
-      valid = c.parts.ensures.valid;
+      valid = c.a_module_is_valid.ensures.valid;
       has = record {
         counted = subst (λ (marks : List Mark). linked.roots ≡ length (leaves (tree_of marks))) same is.count;
         selected = subst (λ (marks : List Mark). IsSelected (roots (tree_of marks) ms) (members (tree_of marks) ms) linked.chosen) same is.chosen;

@@ -11,7 +11,7 @@ returns-in-Ok-clause-ok c = record {
   object = c.in-Ok.object;
   links = subst (λ (marks : List Mark). linked_module (tree_of marks) c.args.name.now c.args.modules (gives c.in-Ok.object)) c.as_slice.ensures
       c.in-Ok.ensures.ok;
-  held = record { valid = c.parts.ensures.valid; made = c.parts.ensures.made };
+  held = record { valid = c.a_module_is_valid.ensures.valid; made = c.a_module_is_valid.ensures.made };
   output = refl;
   is = tt;
 }

@@ -27,7 +27,7 @@ returns-in-Ok-built_from-clause-ok g c =
     (ready.File c.args.out object) refl
     (λ fs is. text-gives parts_of_listing out inputs bytes fs is object
     (subst (λ (text : List ℕ). parts_of_listing text (gives object)) c.as_slice.ensures.value c.in-Ok-built_from.ensures.ok)
-    (record { valid = c.parts.ensures.valid; made = c.parts.ensures.made })) tt
+    (record { valid = c.a_module_is_valid.ensures.valid; made = c.a_module_is_valid.ensures.made })) tt
 
 pub returns-clause-err : goal.returns-clause-err
 returns-clause-err g c =

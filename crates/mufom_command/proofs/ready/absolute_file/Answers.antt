@@ -6,6 +6,6 @@ use Rattle.mufom_command.proofs.ready.absolute_file.Goals as goal
 
 pub returns-in-Ok-clause-ok : goal.returns-in-Ok-clause-ok
 returns-in-Ok-clause-ok c = (
-  subst IsHeld c.in-Ok.ensures.absolute (record { valid = c.parts.ensures.valid; made = c.parts.ensures.made }),
+  subst IsHeld c.in-Ok.ensures.absolute (record { valid = c.a_module_is_valid.ensures.valid; made = c.a_module_is_valid.ensures.made }),
   ap (λ (m : Parts). made c.args.out.now (written m)) c.in-Ok.ensures.absolute,
 )
