@@ -161,20 +161,20 @@ module _ (c : Inputs) (name : List ℕ) (no_plan : c.plan ≡ None) (one : c.fil
 
 -- no plan is named
 pub text-names : (plan : Option (List ℕ)) (name : List ℕ) (call : Call) (stop : Outcome) → TextStops name call stop → NamesPlan plan stop
-text-names plan name call (outcome.Refused (refusal.Plan r)) why = absurd why
-text-names plan name call (outcome.Refused (refusal.Read n r)) why = tt
-text-names plan name call (outcome.Refused (refusal.InputLimit n)) why = tt
-text-names plan name call (outcome.Refused (refusal.TooManyFiles n)) why = tt
-text-names plan name call (outcome.Refused (refusal.TooDeep n)) why = tt
-text-names plan name call (outcome.Refused (refusal.Link l)) why = tt
-text-names plan name call (outcome.Refused (refusal.Locate l maus)) why = tt
-text-names plan name call (outcome.Refused (refusal.Keep kept)) why = tt
-text-names plan name call (outcome.Refused (refusal.Bin count)) why = tt
-text-names plan name call (outcome.Refused (refusal.Text r)) why = tt
-text-names plan name call (outcome.Refused (refusal.Build r)) why = tt
-text-names plan name call (outcome.ReadFault input.Plan) why = absurd why
-text-names plan name call (outcome.ReadFault (input.File n)) why = tt
+text-names plan name told (outcome.Refused (refusal.Plan r)) why = absurd why
+text-names plan name told (outcome.Refused (refusal.Read n r)) why = tt
+text-names plan name told (outcome.Refused (refusal.InputLimit n)) why = tt
+text-names plan name told (outcome.Refused (refusal.TooManyFiles n)) why = tt
+text-names plan name told (outcome.Refused (refusal.TooDeep n)) why = tt
+text-names plan name told (outcome.Refused (refusal.Link l)) why = tt
+text-names plan name told (outcome.Refused (refusal.Locate l maus)) why = tt
+text-names plan name told (outcome.Refused (refusal.Keep kept)) why = tt
+text-names plan name told (outcome.Refused (refusal.Bin count)) why = tt
+text-names plan name told (outcome.Refused (refusal.Text r)) why = tt
+text-names plan name told (outcome.Refused (refusal.Build r)) why = tt
+text-names plan name told (outcome.ReadFault input.Plan) why = absurd why
+text-names plan name told (outcome.ReadFault (input.File n)) why = tt
 text-names plan name call outcome.Done why = tt
-text-names plan name call (outcome.Usage f) why = tt
+text-names plan name told (outcome.Usage f) why = tt
 text-names plan name call outcome.WriteFault why = tt
 text-names plan name call outcome.NoMemory why = tt

@@ -1,7 +1,7 @@
 -- What holds for each task of arguments.
 use Rattle.std.specs.Prelude.{◌≡◌, ◌≤◌, ℕ, List, length, None, Option, IfSome}
-use Rattle.mufom_numbers.specs.declared.limits.TheConstants.{MOST_MODULES}
-use Rattle.mufom_words.specs.Answer.{longest_name, most_files}
+use Rattle.mufom_numbers.specs.declared.limits.TheConstants.{MOST_MODULES, MOST_STRING_BYTES}
+use Rattle.mufom_words.specs.Answer.{most_files}
 use Rattle.mufom_words.specs.Sound.{HasTree}
 use Rattle.mufom_words.specs.Tree.{leaves, tree_of}
 use Rattle.mufom_task.specs.declared.task.Inputs.{Inputs}
@@ -30,7 +30,7 @@ pub record IsSoundFile (inputs : Inputs) : Type 0 where
 abbrev pub IsSoundTask : Task → Type 0
 IsSoundTask (task.Show inputs listing) = IsSoundFile inputs
 IsSoundTask (task.Check inputs) = IsSoundFiles inputs
-IsSoundTask (task.Link inputs name out) = IsSoundInputs inputs × IfSome name (λ given. length given ≤ longest_name)
+IsSoundTask (task.Link inputs name out) = IsSoundInputs inputs × IfSome name (λ given. length given ≤ MOST_STRING_BYTES)
 IsSoundTask (task.Locate inputs keep p) = IsSoundInputs inputs
 IsSoundTask (task.FromTxt inputs maus out) = IsSoundFile inputs × (1 ≤ maus) × (maus ≤ 8)
 IsSoundTask (task.Build inputs out) = IsSoundFile inputs

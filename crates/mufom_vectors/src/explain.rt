@@ -582,7 +582,7 @@ fn names_without_a_value_are_explained(rt: HostRuntime) {
 }
 
 // How many bytes the longest name of a module has.
-const LONGEST: usize = 65_535;
+const LONGEST: usize = MOST_STRING_BYTES;
 
 // The first letters and the second letters of 200 names.
 const FIRSTS: &[u8] = b"abcdefghij";
