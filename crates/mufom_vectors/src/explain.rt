@@ -10,6 +10,7 @@ use crate::usage::deep;
 use mufom_command::run;
 use mufom_help::commands::command_topic;
 use mufom_help::{command_list, topic_text};
+use mufom_numbers::limits::MOST_STRING_BYTES;
 use std::alloc::Global;
 use std::process::Abort;
 
@@ -581,9 +582,6 @@ fn names_without_a_value_are_explained(rt: HostRuntime) {
     all_are_explained(&rt, rt.alloc(), &NAMES);
 }
 
-// How many bytes the longest name of a module has.
-const LONGEST: usize = MOST_STRING_BYTES;
-
 // The first letters and the second letters of 200 names.
 const FIRSTS: &[u8] = b"abcdefghij";
 
@@ -591,7 +589,7 @@ const SECONDS: &[u8] = b"abcdefghijklmnopqrst";
 
 // Adds the longest name to a file or a text.
 fn add_longest(rt: &impl Abort, text: &mut Vec<u8>) {
-    for _ in 0..LONGEST {
+    for _ in 0..MOST_STRING_BYTES {
         text.push(b'n').expect(rt, "memory");
     }
 }
