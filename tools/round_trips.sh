@@ -37,11 +37,6 @@ comes_back() {
 
 for file in "$top"/crates/mufom/data/*.695 "$top"/examples/*.695; do
   if ! flags=$(flags_for "$file"); then
-    # A field size without a comma needs --gnu.
-    if [ "$(basename "$file")" = main-pcrel.695 ] && ! "$program" check --gnu "$file" 2>&1 | grep -q '^refused'; then
-      echo "skipped: $file is not read without --gnu, which this program does not have"
-      continue
-    fi
     failed=$((failed + 1))
     echo "$file: not read with any flags"
   elif rm -f linked again built && comes_back "$flags" "$file"; then
