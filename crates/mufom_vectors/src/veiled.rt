@@ -1,6 +1,6 @@
 //! A host that reveals nothing, and that gives and takes as little as a host may.
 
-use mufom_host::{Failed, Host, MemHost, Sink, Source, World};
+use mufom_host::{Cause, Failed, Host, MemHost, Sink, Source, World};
 use std::marker::Model;
 
 /// Passes each call on to a host in memory, and reveals nothing of it. Where it goes by bytes, a read gives
@@ -66,5 +66,9 @@ impl Host for Veiled {
 
     fn complain(&mut self, text: &[u8]) -> Result<(), Failed> {
         self.inner.complain(text)
+    }
+
+    fn cause(&self) -> Cause {
+        self.inner.cause()
     }
 }
