@@ -147,7 +147,7 @@ fn explain_unknown<H: Host>(
     ensures { (files : option (list NamedFile)) (plan : Planned) (ms : list Parts) (keep : option (list ℕ)) (made : Made)
         → AreUnkept files inputs.now keep plan ms (flat_of flat.now) name.now
         → Tells (map (λ word. string_bytes word) words.now) (task_variants.Locate inputs.now keep made) files
-            (call_of H.meaning H.faults host.old host.new) result }
+        (call_of H.meaning H.faults host.old host.new) result }
 {
     match explain_name(alloc, inputs.files.as_slice(), flat, name.as_slice()) {
         Ok(details) => print_explanation(
@@ -174,7 +174,7 @@ fn explain_unkept<H: Host>(
     ensures { (files : option (list NamedFile)) (plan : Planned) (ms : list Parts) (keep : option (list ℕ)) (made : Made)
         → AreRefusedKept files inputs.now keep plan ms (flat_of flat.now) refusal.now
         → Tells (map (λ word. string_bytes word) words.now) (task_variants.Locate inputs.now keep made) files
-            (call_of H.meaning H.faults host.old host.new) result }
+        (call_of H.meaning H.faults host.old host.new) result }
 {
     match refusal {
         PruneRefusal::Unknown(name) => explain_unknown(alloc, words, inputs, flat, name, host),
@@ -202,7 +202,7 @@ fn explain_fact<H: Host>(
     ensures { (files : option (list NamedFile)) (ms : list Parts) (keep : option (list ℕ)) (made : Made)
         → AreUnlocated files inputs.now keep plan.now ms (flat_of flat.now) part.now.object part.now.origins
         → Tells (map (λ word. string_bytes word) words.now) (task_variants.Locate inputs.now keep made) files
-            (call_of H.meaning H.faults host.old host.new) result }
+        (call_of H.meaning H.faults host.old host.new) result }
 {
     let context = LocateContext {
         names: inputs.files.as_slice(),
@@ -241,7 +241,7 @@ fn explain_unlocated<H: Host>(
     ensures { (files : option (list NamedFile)) (ms : list Parts) (keep : option (list ℕ)) (made : Made)
         → AreUnlocated files inputs.now keep plan.now ms (flat_of flat.now) part.now.object part.now.origins
         → Tells (map (λ word. string_bytes word) words.now) (task_variants.Locate inputs.now keep made) files
-            (call_of H.meaning H.faults host.old host.new) result }
+        (call_of H.meaning H.faults host.old host.new) result }
 {
     match refusal {
         LocateRefusal::NoMemory => Outcome::NoMemory,
@@ -264,7 +264,7 @@ fn explain_obstacle<H: Host>(
     ensures { (files : option (list NamedFile)) (plan : Planned) (made : Made) → AreReadFrom files inputs.now plan modules.now
         → HasPlan plan obstacle.now
         → Tells (map (λ word. string_bytes word) words.now) (task_variants.Locate inputs.now keep.now made) files
-            (call_of H.meaning H.faults host.old host.new) result }
+        (call_of H.meaning H.faults host.old host.new) result }
 {
     match obstacle {
         Obstacle::Unlinked(refusal) => {
@@ -303,7 +303,7 @@ fn explain_product<H: Host>(
     ensures { (files : option (list NamedFile)) (inputs : Reads) (keep : option (list ℕ)) (plan : Planned) (ms : list Parts)
         → AreReadFrom files inputs plan ms → AreMapped (tree_of inputs.marks) keep plan ms location
         → Tells (map (λ word. string_bytes word) words.now) (task_variants.Locate inputs keep product.now) files
-            (call_of H.meaning H.faults host.old host.new) result }
+        (call_of H.meaning H.faults host.old host.new) result }
 {
     match ready_of(alloc, product, location) {
         Ok(_) => print_done(alloc, words, host),
@@ -332,7 +332,7 @@ fn explain_loaded<H: Host>(
     requires plan { IsSoundPlan loaded.plan }
     ensures { (files : option (list NamedFile)) → AreReadFrom files inputs.now loaded.plan loaded.modules
         → Tells (map (λ word. string_bytes word) words.now) (task_variants.Locate inputs.now keep.now product.now) files
-            (call_of H.meaning H.faults host.old host.new) result }
+        (call_of H.meaning H.faults host.old host.new) result }
 {
     let Loaded { plan, modules } = loaded;
     let Ok(spare) = copies(alloc, modules.as_slice()) else {
@@ -391,7 +391,7 @@ fn explain_linked<H: Host>(
     requires short { IfSome name.now (λ given. length given < 2 ^ 16) }
     ensures { (files : option (list NamedFile)) (plan : Planned) → AreReadFrom files inputs.now plan modules.now
         → Tells (map (λ word. string_bytes word) words.now) (task_variants.Link inputs.now name.now out.now) files
-            (call_of H.meaning H.faults host.old host.new) result }
+        (call_of H.meaning H.faults host.old host.new) result }
 {
     let Ok(spare) = copies(alloc, modules) else {
         return Outcome::NoMemory;

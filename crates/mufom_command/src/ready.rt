@@ -47,7 +47,10 @@ pub(crate) enum Ready<'a> {
         form: TextForm,
     },
     /// The file of a module.
-    File { out: &'a Text, object: Module },
+    File {
+        out: &'a Text,
+        object: Module,
+    },
     /// The file of the raw bytes of an image, which are not too many.
     Raw {
         out: &'a Text,
@@ -55,7 +58,10 @@ pub(crate) enum Ready<'a> {
         located: Located,
     },
     /// The file of the TI-TXT text of an image.
-    TiTxt { out: &'a Text, located: Located },
+    TiTxt {
+        out: &'a Text,
+        located: Located,
+    },
     /// The text of an image.
     Image(Located),
     /// The text of a map.

@@ -63,6 +63,7 @@ static ROWS: [(&str, &str); 52] = [
 
 // The error in the arguments.
 fn fault_in(rt: &impl Abort, alloc: Global, words: &[String], line: &str) -> UsageFault {
+    assert!(rt; words.len() < 1 << 32);
     match read_words(alloc, words) {
         Err(WordsStop::Usage(fault)) => fault,
         _ => panic!(rt; "{line} has no usage error"),

@@ -14,9 +14,7 @@ mod stops;
 mod topic;
 
 pub use cause::Cause;
-pub use error_lines::{
-    fault_line, keep_line, link_line, locate_line, refusal_line, usage_line,
-};
+pub use error_lines::{fault_line, keep_line, link_line, locate_line, refusal_line, usage_line};
 pub use locate_text::{push_at, push_quoted};
 pub use outcome::{Input, Outcome, Refusal};
 pub use stops::{outcome_of_link, outcome_of_locate, outcome_of_prune, outcome_of_stop};

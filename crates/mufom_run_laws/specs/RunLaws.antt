@@ -1,7 +1,7 @@
 -- Laws about runs. A run has at most one result, which is the outcome if no call failed and memory sufficed. Files that were linked in stages have
 -- the outcome of the list that the stages began with. Locating succeeds if and only if no error applies. The files that are written can replace the
 -- modules they were made from.
-use Rattle.std.specs.Prelude.{◌≡◌, ◌≢◌, ◌↔◌, ◌≤◌, ℕ, true, length, List, [], ◌∷◌, Option, Some, None, Ok, unwrap_or}
+use Rattle.std.specs.Prelude.{◌≡◌, ◌≢◌, ◌↔◌, ◌≤◌, ℕ, Bool, true, length, List, [], ◌∷◌, Option, Some, None, Ok, unwrap_or}
 use Rattle.mufom_host.specs.World.{NamedFile, HoldBytes, RevealsTogether, Rose}
 use Rattle.mufom_words.specs.declared.command.Command.{Command}
 use Rattle.mufom_words.specs.Answer.{answer_of}

@@ -93,14 +93,7 @@ fn read_files<H: Host>(
     let mut room = MOST_INPUT_BYTES;
     for number in 0..names.len() {
         let name = names[number].as_str();
-        let (module, length) = match read_file(
-            alloc,
-            name,
-            number as u32,
-            room,
-            options,
-            host,
-        ) {
+        let (module, length) = match read_file(alloc, name, number as u32, room, options, host) {
             Ok(read) => read,
             Err(stop) => return Err(stop),
         };
@@ -124,11 +117,7 @@ pub struct Loaded {
 
 /// Reads the inputs of a task: its plan, and then its files in their order. Returns the outcome of the run if
 /// one of them is refused or cannot be read, or if memory runs out; then no further input was opened.
-pub fn read_inputs<H: Host>(
-    alloc: Global,
-    inputs: &Inputs,
-    host: &mut H,
-) -> Result<Loaded, Outcome>
+pub fn read_inputs<H: Host>(alloc: Global, inputs: &Inputs, host: &mut H) -> Result<Loaded, Outcome>
     requires { length inputs.now.files < 2 ^ 32 }
     ensures read { IfOk result (λ loaded. IfSome (H.meaning host.old).files
         (λ files. inputs_in files inputs.now (gives (loaded.plan, loaded.modules)))) }

@@ -45,9 +45,14 @@ pub enum Product {
 #[derive(Debug, Drop)]
 pub enum Task {
     /// Prints the text of one module, as a listing or a summary.
-    Show { inputs: Inputs, listing: bool },
+    Show {
+        inputs: Inputs,
+        listing: bool,
+    },
     /// Prints a line for each module.
-    Check { inputs: Inputs },
+    Check {
+        inputs: Inputs,
+    },
     /// Links files, and writes the linked module to a file. It gets the given name, or that of its first
     /// module.
     Link {
@@ -63,13 +68,24 @@ pub enum Task {
         product: Product,
     },
     /// Reads a TI-TXT text, and writes a module that loads its bytes to a file. An address has `maus` units.
-    FromTxt { inputs: Inputs, maus: u8, out: Text },
+    FromTxt {
+        inputs: Inputs,
+        maus: u8,
+        out: Text,
+    },
     /// Reads the listing of a module, and writes the module to a file.
-    Build { inputs: Inputs, out: Text },
+    Build {
+        inputs: Inputs,
+        out: Text,
+    },
     /// Generates this many modules, links and locates them, and prints a summary.
-    Make { count: u32 },
+    Make {
+        count: u32,
+    },
     /// Prints a text of the program.
-    Help { text: HelpText },
+    Help {
+        text: HelpText,
+    },
 }
 
 /// What the arguments of a run ask for.

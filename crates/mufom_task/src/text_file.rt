@@ -26,11 +26,7 @@ fn only_file(inputs: &Inputs) -> &str
 
 // Reads the bytes of the text with this name, or returns the outcome of the run if they cannot be read or
 // are too many.
-fn read_named<H: Host>(
-    alloc: Global,
-    name: &str,
-    host: &mut H,
-) -> Result<Vec<u8>, Outcome>
+fn read_named<H: Host>(alloc: Global, name: &str, host: &mut H) -> Result<Vec<u8>, Outcome>
     ensures text { IfOk result (λ bytes. IfSome (H.meaning host.old).files (λ files. text_in files (name.now ∷ []) (gives bytes.items))) }
     ensures short { IfOk result (λ bytes. length bytes.items ≤ most) }
     ensures stops { IfErr result (λ stop. TextStops name.now (call_of H.meaning H.faults host.old host.new) stop) }
@@ -49,11 +45,7 @@ fn read_named<H: Host>(
 
 /// Reads the one file of a task as a text. Returns the outcome of the run if it cannot be read, is too long,
 /// or memory runs out.
-pub fn read_text<H: Host>(
-    alloc: Global,
-    inputs: &Inputs,
-    host: &mut H,
-) -> Result<Vec<u8>, Outcome>
+pub fn read_text<H: Host>(alloc: Global, inputs: &Inputs, host: &mut H) -> Result<Vec<u8>, Outcome>
     requires no_plan { inputs.now.plan ≡ None }
     requires one { length inputs.now.files ≡ 1 }
     ensures read { IfOk result (λ bytes. IfSome (H.meaning host.old).files (λ files. text_in files inputs.now.files (gives bytes.items))) }

@@ -45,5 +45,19 @@ returns-clause-few c =
     let few = selected-few (roots tree ms) (members tree ms) places.chosen c.requires.places.selected in
     let size = length-drop (length (leaves tree)) ms in
     if-ok-map c.flat_modules.result (λ flat. length flat.items ≤ length c.as_slice-2.result.now) (λ flat. length flat.items < 2 ^ 32)
-    (λ flat is. omega (arith, is, own, files, chosen, sum, first, second, few, size, c.requires.places.counted, linkable.count, linkable.sound.few,
-    linkable.sound.tree.within)) c.flat_modules.ensures.count
+    (λ flat is. omega (
+      arith,
+      is,
+      own,
+      files,
+      chosen,
+      sum,
+      first,
+      second,
+      few,
+      size,
+      c.requires.places.counted,
+      linkable.count,
+      linkable.sound.few,
+      linkable.sound.tree.within,
+    )) c.flat_modules.ensures.count
