@@ -160,8 +160,8 @@ texts-come-back text maus runs low high short is few = record {
   module_file = λ files inputs name out alone there.
       makes files (task.FromTxt inputs maus out) out (written (text_parts maus runs))
       (module-file text maus runs low high short is few files inputs name out alone there);
-  read_back = read-back (text_parts maus runs) (text-is-module maus runs low high (has-module text maus runs low high short is few)
-      (has-text text maus runs low high short is few) few true) few;
+  read_back = read-back (text_parts maus runs) (λ gnu. text-is-module maus runs low high (has-module text maus runs low high short is few)
+      (has-text text maus runs low high short is few) few (record { debug = true; gnu = gnu })) few;
   text_file = λ files inputs name out does there.
       let (r, is_location, same) = text_located maus runs (has-module text maus runs low high short is few) low high in
       makes files (task.Locate inputs None (product.TiTxt out)) out (txt_text runs)
