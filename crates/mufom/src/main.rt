@@ -37,7 +37,8 @@ fn after_name(arguments: &[String]) -> &[String]
 // Runs the arguments after the program's name, and returns the exit status of the outcome.
 fn program<H: Host>(alloc: Global, arguments: &[String], host: &mut H) -> ExitCode
     requires { length arguments.now < 2 ^ 32 }
-    ensures { (outcome : Outcome) × IsRun (map (λ word. string_bytes word) (drop 1 arguments.now)) (call_of H.meaning H.faults host.old host.new) outcome
+    ensures { (outcome : Outcome)
+        × IsRun (map (λ word. string_bytes word) (drop 1 arguments.now)) (call_of H.meaning H.faults host.old host.new) outcome
         × (exit_status result ≡ status_of outcome) }
 {
     let outcome = run(alloc, after_name(arguments), host);
