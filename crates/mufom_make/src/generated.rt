@@ -213,6 +213,7 @@ fn region(alloc: Global, count: u32) -> Result<Region, NoMemory>
         size: SECTION_SIZE * count as u64,
         sections: List::single(alloc, Bytes::from_slice(alloc, b"*")?)?,
         common: false,
+        load: None,
     })
 }
 
@@ -222,5 +223,7 @@ pub(crate) fn made_plan(alloc: Global, count: u32) -> Result<Plan, NoMemory>
 {
     Ok(Plan {
         regions: List::single(alloc, region(alloc, count)?)?,
+        symbols: List::new(alloc),
+        keep: List::new(alloc),
     })
 }

@@ -79,4 +79,4 @@ absolute_of r = record {
 
 -- the plan that has no region
 abbrev pub no_regions : Plan
-no_regions = record { regions = [] }
+no_regions = record { regions = []; symbols = []; keep = [] }

@@ -190,10 +190,10 @@ module _ (plan : Plan) (sections commons : List Section) where
 -- Overlap.
 
 -- two neighbours that overlap, in order
-abbrev Neighbours : List Extent → Extent → Extent → Type 0
+abbrev pub Neighbours : List Extent → Extent → Extent → Type 0
 Neighbours xs x y = StandsIn x xs × StandsIn y xs × Comes x y × (y.base < x.base + x.size)
 
-overlap_at : (xs : List Extent) → InOrder xs → (fact : PlaceRefusal) → first_overlap xs ≡ Some fact → (x : Extent) × (y : Extent) × Neighbours xs x y
+pub overlap_at : (xs : List Extent) → InOrder xs → (fact : PlaceRefusal) → first_overlap xs ≡ Some fact → (x : Extent) × (y : Extent) × Neighbours xs x y
     × (fact ≡ Overlap x.section y.section)
 overlap_at [] o fact e = absurd cc
 overlap_at (x ∷ []) o fact e = absurd cc
@@ -210,7 +210,7 @@ overlap_at (x ∷ y ∷ xs) o fact e = by_case (nat_lt y.base (x.base + x.size))
   )
 
 -- if no neighbours overlap, no two do
-apart : (xs : List Extent) → InOrder xs → first_overlap xs ≡ None → (x y : Extent) (i j : ℕ) → i < j → slice_get xs i ≡ Some x → slice_get xs j
+pub apart : (xs : List Extent) → InOrder xs → first_overlap xs ≡ None → (x y : Extent) (i j : ℕ) → i < j → slice_get xs i ≡ Some x → slice_get xs j
     ≡ Some y → x.base + x.size ≤ y.base
 apart [] o e x y i j less a b = absurd cc
 apart (u ∷ []) o e x y i zero less a b = absurd (omega arith)

@@ -7,3 +7,5 @@ pub mod ExtentSteps
 pub mod ExtentOrder
 pub mod AlignedLemmas
 pub mod FactLemmas
+pub mod FillingLemmas
+pub mod CopyLaws

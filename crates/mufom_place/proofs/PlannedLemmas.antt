@@ -6,10 +6,10 @@ use Rattle.std.proofs.Math.ListN.{set}
 use Rattle.mufom_place.specs.declared.placing.Placing.{Placing}
 use Rattle.mufom_place.specs.Bases.{last_of, placing_of}
 
-same_number : (m n : ℕ) → (m == n) ≡ true → m ≡ n
+pub same_number : (m n : ℕ) → (m == n) ≡ true → m ≡ n
 same_number m n e = search rules
 
-other_number : (m n : ℕ) → m ≢ n → (m == n) ≡ false
+pub other_number : (m n : ℕ) → m ≢ n → (m == n) ≡ false
 other_number m n differ = by_case (m == n) refl where
   by_case : (b : Bool) → (m == n) ≡ b → b ≡ false
   by_case true e = absurd (differ (same_number m n e))

@@ -11,7 +11,7 @@ use mufom_plan::{Plan, Region};
 use std::alloc::Global;
 
 /// The least multiple of an alignment that is not below an address.
-fn aligned_up(align: u64, address: u128) -> u128
+pub(crate) fn aligned_up(align: u64, address: u128) -> u128
     requires align { 1 ≤ align }
     requires room { address < 2 ^ 127 }
     ensures value { result ≡ least_multiple align address }

@@ -6,6 +6,8 @@
 #![tactic(auto)]
 
 mod bases;
+mod copied;
+mod copies;
 mod entries;
 mod fit;
 mod laws;
@@ -15,8 +17,10 @@ mod placing;
 mod refusal;
 mod regions;
 
-pub use laws::place_refusals_are_facts;
+pub use copied::region_copies;
+pub use copies::place_copies;
+pub use laws::{copies_move_nothing, fits_without_copies, place_refusals_are_facts};
 pub use placement::place;
-pub use placing::Placing;
+pub use placing::{Placing, RegionCopy};
 pub use refusal::PlaceRefusal;
 pub use regions::{all_placings, section_regions};

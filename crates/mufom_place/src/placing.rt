@@ -1,4 +1,6 @@
-//! Sections that wait for a base, and the bases that regions give.
+//! Sections that wait for a base, the bases that regions give, and copies of regions.
+
+use mufom_sections::Section;
 
 /// A section that waits for its base.
 #[derive(Clone, Copy, Debug, PartialEq, Eq)]
@@ -33,4 +35,15 @@ pub struct Extent {
     pub base: u64,
     pub section: u32,
     pub size: u64,
+}
+
+/// The copy of a region: the bytes of its sections where they are loaded, as one more section of another region.
+#[derive(Debug, Drop)]
+pub struct RegionCopy {
+    /// The position of the region whose bytes it has.
+    pub source: u32,
+    /// The position of the region that holds it.
+    pub holder: u32,
+    /// The section as which it is placed there. It has the name of the first region.
+    pub section: Section,
 }

@@ -12,13 +12,17 @@ use Rattle.toml.specs.Data.{Data, Members, get_member, as_str, as_table}
 use Rattle.mufom_plan.specs.declared.plan.Region.{Region}
 use Rattle.mufom_plan.specs.declared.plan.Plan.{Plan}
 use Rattle.mufom_plan.specs.declared.refusal.PlanField.TheVariants as field
+use Rattle.mufom_plan.specs.declared.refusal.PlanTable.TheVariants as at
 use Rattle.mufom_plan.specs.declared.refusal.PlanRefusal.{PlanRefusal}
 use Rattle.mufom_plan.specs.declared.refusal.PlanRefusal.TheVariants.{Shape, Beyond}
 use Rattle.mufom_plan.specs.Document.{has_only_keys, items_at, number_at, text_at, truth_at}
-use Rattle.mufom_plan.specs.Names.{AreDistinctNames, has_name, region_names, listed_names}
+use Rattle.mufom_plan.specs.Names.{AreDistinctNames, has_name, region_names, listed_names, symbol_names}
+use Rattle.mufom_plan.specs.Loads.{AreLoads, first_wrong_load}
+use Rattle.mufom_plan.specs.declared.plan.PlanSymbol.{PlanSymbol}
 use Rattle.mufom_plan.specs.Commons.{has_common, HasAtMostOneCommon}
-use Rattle.mufom_plan.specs.PlanText.{◌>>=◌, or_refuse, unless, in_prefix, region_keys, region_of, region_with, regions_of, regions_at, are_tables}
-use Rattle.mufom_plan.specs.PlanText.{plan_keys, plan_of_document, new_common, new_name, new_names, before_names}
+use Rattle.mufom_plan.specs.PlanText.{◌>>=◌, or_refuse, unless, in_prefix, region_keys, region_of, region_with, regions_of, tables_at, kept_names}
+use Rattle.mufom_plan.specs.PlanText.{plan_keys, plan_of_document, new_common, new_name, new_names, before_names, optional_text, with_loads, symbols_of}
+use Rattle.mufom_plan.proofs.SymbolLemmas.{symbols_of-distinct}
 
 in_prefix-append : (first : List Region) (region : Region) (more : Result (List Region) PlanRefusal) → in_prefix first (in_prefix (region ∷ []) more)
     ≡ in_prefix (first ++ region ∷ []) more
@@ -73,22 +77,24 @@ pub record IsRegionOf (sections : Option (List (List ℕ))) (common : Option Boo
   pub taken : common ≡ Some region.common
 
 is_region_of : (place : ℕ) (only : Bool) (name : Option (List ℕ)) (base size : Option ℕ) (sections : Option (List (List ℕ))) (common : Option Bool)
-    (region : Region)
-    → region_with place only name base size sections common ≡ Ok region → IsRegionOf sections common region
-is_region_of place false name base size sections common region e = absurd cc
-is_region_of place true None base size sections common region e = absurd cc
-is_region_of place true (Some name) None size sections common region e = absurd cc
-is_region_of place true (Some name) (Some base) None sections common region e = absurd cc
-is_region_of place true (Some name) (Some base) (Some size) None common region e = absurd cc
-is_region_of place true (Some name) (Some base) (Some size) (Some sections) None region e = absurd cc
-is_region_of place true (Some name) (Some base) (Some size) (Some sections) (Some common) region e = by_end (nat_lt 9223372036854775807 (base + size)) e where
-  by_end : (beyond : Bool) → (if beyond then Err (Beyond place)
-      else Ok (record { name = name; base = base; size = size; sections = sections; common = common })) ≡ Ok region
-      → IsRegionOf (Some sections) (Some common) region
-  by_end true e = absurd cc
-  by_end false e =
-      let same : record { name = name; base = base; size = size; sections = sections; common = common } ≡ region = cc in
-      record { listed = ap (λ (r : Region). Some r.sections) same; taken = ap (λ (r : Region). Some r.common) same }
+    (load : Option (Option (List ℕ))) (region : Region)
+    → region_with place only name base size sections common load ≡ Ok region → IsRegionOf sections common region
+is_region_of place false name base size sections common load region e = absurd cc
+is_region_of place true None base size sections common load region e = absurd cc
+is_region_of place true (Some name) None size sections common load region e = absurd cc
+is_region_of place true (Some name) (Some base) None sections common load region e = absurd cc
+is_region_of place true (Some name) (Some base) (Some size) None common load region e = absurd cc
+is_region_of place true (Some name) (Some base) (Some size) (Some sections) None load region e = absurd cc
+is_region_of place true (Some name) (Some base) (Some size) (Some sections) (Some common) None region e = absurd cc
+is_region_of place true (Some name) (Some base) (Some size) (Some sections) (Some common) (Some load) region e =
+    by_end (nat_lt 9223372036854775807 (base + size)) e where
+      by_end : (beyond : Bool) → (if beyond then Err (Beyond place)
+          else Ok (record { name = name; base = base; size = size; sections = sections; common = common; load = load })) ≡ Ok region
+          → IsRegionOf (Some sections) (Some common) region
+      by_end true e = absurd cc
+      by_end false e =
+          let same : record { name = name; base = base; size = size; sections = sections; common = common; load = load } ≡ region = cc in
+          record { listed = ap (λ (r : Region). Some r.sections) same; taken = ap (λ (r : Region). Some r.common) same }
 
 named_by : (listed : List (List ℕ)) (values : Option (List Data)) (names : List (List ℕ)) → option_and_then (new_names listed) values ≡ Some names
     → AreDistinctNames listed → AreDistinctNames (listed ++ names)
@@ -143,6 +149,7 @@ region_of-sound before table region e h =
     (number_at (get_member (codes "size") table))
     (option_and_then (new_names (listed_names before)) (items_at (get_member (codes "sections") table)))
     (option_and_then (new_common (has_common before)) (truth_at (get_member (codes "common") table)))
+    (optional_text (get_member (codes "load") table))
     region e in
     record {
       distinct = subst AreDistinctNames (sym (listed_names-append before region))
@@ -180,32 +187,81 @@ none_sound : IsSound []
 unfolding IsDistinct
 none_sound = record { distinct = tt; common = omega arith }
 
-at_regions : (value : Option Data) (regions : List Region) → regions_at value ≡ Ok regions → IsSound regions
-at_regions None regions e = let empty : [] ≡ regions = cc in subst IsSound empty none_sound
-at_regions (Some value) regions e = by_items (items_at (Some value)) e where
-  by_tables : (items : List Data) (test : Bool) → unless test (Shape None field.Region) (regions_of [] items) ≡ Ok regions → IsSound regions
-  by_tables items true h = regions_of-sound [] items regions h none_sound
-  by_tables items false h = absurd cc
+-- what a plan keeps: its regions are sound and loaded as they may be, and no symbol's name occurs twice
+pub record IsSoundPlan (plan : Plan) : Type 0 where
+  pub regions : IsSound plan.regions
+  pub loads : AreLoads plan.regions
+  pub symbols : AreDistinctNames (symbol_names plan.symbols)
 
-  by_items : (items : Option (List Data)) → or_refuse (Shape None field.Region)
-      items >>= (λ values. unless (are_tables values) (Shape None field.Region) (regions_of [] values)) ≡ Ok regions → IsSound regions
-  by_items None h = absurd cc
-  by_items (Some items) h = by_tables items (are_tables items) h
+none_named : AreDistinctNames (symbol_names [])
+unfolding IsDistinct
+none_named = tt
 
--- the regions of a plan that a document states are sound
-pub plan_of_document-sound : (document : Members) (plan : Plan) → plan_of_document document ≡ Ok plan → IsSound plan.regions
+-- the plan that a document states is sound
+pub plan_of_document-sound : (document : Members) (plan : Plan) → plan_of_document document ≡ Ok plan → IsSoundPlan plan
 plan_of_document-sound document plan e = by_keys (has_only_keys plan_keys document) e where
-  by_regions : (answer : Result (List Region) PlanRefusal) → regions_at (get_member (codes "region") document) ≡ answer
-      → answer >>= (λ regions. Ok (record { regions = regions })) ≡ Ok plan → IsSound plan.regions
-  by_regions (Err refusal) is h = absurd cc
-  by_regions (Ok regions) is h =
-      let whole : record { regions = regions } ≡ plan = cc in
-      subst IsSound (ap (λ (p : Plan). p.regions) whole) (at_regions (get_member (codes "region") document) regions is)
+  keep : Option (List (List ℕ))
+  keep = kept_names (get_member (codes "keep") document)
 
-  by_keys : (test : Bool) → unless test (Shape None field.Extra)
-      (regions_at (get_member (codes "region") document) >>= λ regions. Ok (record { regions = regions })) ≡ Ok plan
-      → IsSound plan.regions
-  by_keys true h = by_regions (regions_at (get_member (codes "region") document)) refl h
+  region_items : Result (List Data) PlanRefusal
+  region_items = tables_at field.Region (get_member (codes "region") document)
+
+  symbol_items : Result (List Data) PlanRefusal
+  symbol_items = tables_at field.Symbol (get_member (codes "symbol") document)
+
+  by_symbols : (read : List Region) (items : List Data) (kept : List (List ℕ)) (answer : Result (List PlanSymbol) PlanRefusal) → IsSound read → AreLoads read
+      → symbols_of (listed_names read) (region_names read) [] items ≡ answer
+      → answer >>= (λ symbols. Ok (record { regions = read; symbols = symbols; keep = kept })) ≡ Ok plan → IsSoundPlan plan
+  by_symbols read items kept (Err refusal) sound loads is h = absurd cc
+  by_symbols read items kept (Ok symbols) sound loads is h =
+      let whole : record { regions = read; symbols = symbols; keep = kept } ≡ plan = cc in
+      subst IsSoundPlan whole (record {
+        regions = sound;
+        loads = loads;
+        symbols = symbols_of-distinct (listed_names read) (region_names read) [] items symbols is none_named;
+      })
+
+  by_loads : (read : List Region) (items : List Data) (kept : List (List ℕ)) (wrong : Option ℕ) → IsSound read → first_wrong_load read ≡ wrong
+      → with_loads wrong read >>= (λ regions. symbols_of (listed_names regions) (region_names regions) [] items >>= λ symbols.
+      Ok (record { regions = regions; symbols = symbols; keep = kept })) ≡ Ok plan → IsSoundPlan plan
+  by_loads read items kept (Some place) sound is h = absurd cc
+  by_loads read items kept None sound is h =
+      by_symbols read items kept (symbols_of (listed_names read) (region_names read) [] items) sound is refl h
+
+  by_regions : (items more : List Data) (kept : List (List ℕ)) (answer : Result (List Region) PlanRefusal) → regions_of [] items ≡ answer
+      → answer >>= (λ read. with_loads (first_wrong_load read) read >>= λ regions.
+      symbols_of (listed_names regions) (region_names regions) [] more >>= λ symbols.
+      Ok (record { regions = regions; symbols = symbols; keep = kept })) ≡ Ok plan → IsSoundPlan plan
+  by_regions items more kept (Err refusal) is h = absurd cc
+  by_regions items more kept (Ok read) is h = by_loads read more kept (first_wrong_load read) (regions_of-sound [] items read is none_sound) refl h
+
+  by_keep : (items more : List Data) (kept : Option (List (List ℕ))) → or_refuse (Shape None field.Keep) kept >>= (λ k.
+      regions_of [] items >>= λ read. with_loads (first_wrong_load read) read >>= λ regions.
+      symbols_of (listed_names regions) (region_names regions) [] more >>= λ symbols.
+      Ok (record { regions = regions; symbols = symbols; keep = k })) ≡ Ok plan → IsSoundPlan plan
+  by_keep items more None h = absurd cc
+  by_keep items more (Some kept) h = by_regions items more kept (regions_of [] items) refl h
+
+  by_symbol_items : (items : List Data) (answer : Result (List Data) PlanRefusal) → answer >>= (λ more. or_refuse (Shape None field.Keep) keep >>= λ k.
+      regions_of [] items >>= λ read. with_loads (first_wrong_load read) read >>= λ regions.
+      symbols_of (listed_names regions) (region_names regions) [] more >>= λ symbols.
+      Ok (record { regions = regions; symbols = symbols; keep = k })) ≡ Ok plan → IsSoundPlan plan
+  by_symbol_items items (Err refusal) h = absurd cc
+  by_symbol_items items (Ok more) h = by_keep items more keep h
+
+  by_region_items : (answer : Result (List Data) PlanRefusal) → answer >>= (λ items. symbol_items >>= λ more. or_refuse (Shape None field.Keep) keep >>= λ k.
+      regions_of [] items >>= λ read. with_loads (first_wrong_load read) read >>= λ regions.
+      symbols_of (listed_names regions) (region_names regions) [] more >>= λ symbols.
+      Ok (record { regions = regions; symbols = symbols; keep = k })) ≡ Ok plan → IsSoundPlan plan
+  by_region_items (Err refusal) h = absurd cc
+  by_region_items (Ok items) h = by_symbol_items items symbol_items h
+
+  by_keys : (test : Bool) → unless test (Shape None field.Extra) (region_items >>= λ items. symbol_items >>= λ more.
+      or_refuse (Shape None field.Keep) keep >>= λ k.
+      regions_of [] items >>= λ read. with_loads (first_wrong_load read) read >>= λ regions.
+      symbols_of (listed_names regions) (region_names regions) [] more >>= λ symbols.
+      Ok (record { regions = regions; symbols = symbols; keep = k })) ≡ Ok plan → IsSoundPlan plan
+  by_keys true h = by_region_items region_items h
   by_keys false h = absurd cc
 
 -- one more region is common, or none is

@@ -7,7 +7,7 @@ ghost use Rattle.toml.specs.Data.{as_table};
 ghost use Rattle.toml.specs.View.{table_view, view};
 ghost use Rattle.mufom_plan.specs.Document.{document_of, number_at, text_at, items_at, truth_at, has_only_keys};
 ghost use Rattle.mufom_plan.specs.Names.{has_name};
-ghost use Rattle.mufom_plan.specs.PlanText.{are_tables as every_table, plan_keys, region_keys};
+ghost use Rattle.mufom_plan.specs.PlanText.{are_tables as every_table, plan_keys, region_keys, symbol_keys};
 
 use crate::PlanRefusal;
 use std::alloc::Global;
@@ -80,13 +80,21 @@ pub fn all_tables(values: &[Value]) -> bool
 fn is_plan_key(key: &str) -> bool
     ensures { result ≡ has_name plan_keys key.now }
 {
-    key == "region"
+    key == "region" || key == "symbol" || key == "keep"
 }
 
 fn is_region_key(key: &str) -> bool
     ensures { result ≡ has_name region_keys key.now }
 {
-    key == "name" || key == "base" || key == "size" || key == "sections" || key == "common"
+    let places = key == "name" || key == "base" || key == "size";
+    places || key == "sections" || key == "common" || key == "load"
+}
+
+fn is_symbol_key(key: &str) -> bool
+    ensures { result ≡ has_name symbol_keys key.now }
+{
+    let names = key == "name" || key == "value" || key == "start" || key == "end";
+    names || key == "load" || key == "region_end"
 }
 
 fn are_plan_keys(document: &Table) -> bool
@@ -101,7 +109,13 @@ fn are_region_keys(table: &Table) -> bool
     table.keys().all(|key| is_region_key(key.as_str()))
 }
 
-/// Whether the document has no key except `region`.
+fn are_symbol_keys(table: &Table) -> bool
+    ensures { result ≡ list_all (λ key. has_name symbol_keys (string_bytes key)) (keys table.now) }
+{
+    table.keys().all(|key| is_symbol_key(key.as_str()))
+}
+
+/// Whether the document has only the keys that a plan may have.
 pub fn has_plan_keys(document: &Table) -> bool
     ensures { result ≡ has_only_keys plan_keys (table_view document.now) }
 {
@@ -113,4 +127,11 @@ pub fn has_region_keys(table: &Table) -> bool
     ensures { result ≡ has_only_keys region_keys (table_view table.now) }
 {
     are_region_keys(table)
+}
+
+/// Whether the table has only keys that a symbol may have.
+pub fn has_symbol_keys(table: &Table) -> bool
+    ensures { result ≡ has_only_keys symbol_keys (table_view table.now) }
+{
+    are_symbol_keys(table)
 }

@@ -69,6 +69,13 @@ impl NameList {
         Ok(added)
     }
 
+    /// Whether a name is in the list. Does not allocate.
+    pub fn contains(&self, name: &[u8]) -> bool
+        ensures { result ≡ has_name self.now name.now }
+    {
+        self.names.contains(name)
+    }
+
     /// The position of a name, or `None` if it is not in the list. Does not allocate.
     pub fn position(&self, name: &[u8]) -> Option<usize>
         ensures { result ≡ position (bytes_eq name.now) self.now }

@@ -8,9 +8,10 @@ use thiserror::Error;
 pub enum PlanField {
     /// The key `region`, which is an array of tables.
     Region,
-    /// A key that a plan or a region may not have.
+    /// A key that a plan, a region or a symbol may not have.
     Extra,
-    /// The key `name`: a text that is not empty and is not the name of an earlier region.
+    /// The key `name`: a text that is not empty and is not the name of an earlier region, or of an earlier
+    /// symbol.
     Name,
     /// The key `base`: an integer that is not negative.
     Base,
@@ -20,6 +21,30 @@ pub enum PlanField {
     Sections,
     /// The key `common`: a truth value, true in at most one region.
     Common,
+    /// The key `symbol`, which is an array of tables.
+    Symbol,
+    /// The keys that say what a symbol's value is, of which it has exactly one.
+    Kind,
+    /// The key `value` of a symbol: an integer that is not negative.
+    Value,
+    /// The key `start` of a symbol: an entry of a region's list.
+    Start,
+    /// The key `end` of a symbol: an entry of a region's list.
+    End,
+    /// The key `load`. Of a region: the name of another region, which has no `load`. Of a symbol: an
+    /// entry of a region's list.
+    Load,
+    /// The key `region_end` of a symbol: the name of a region.
+    RegionEnd,
+    /// The key `keep`: an array of texts, none of which occurs twice.
+    Keep,
+}
+
+/// A table of a plan: a region or a symbol, by its position.
+#[derive(Clone, Copy, Debug, PartialEq, Eq)]
+pub enum PlanTable {
+    Region(u32),
+    Symbol(u32),
 }
 
 /// Why bytes are not a plan.
@@ -28,11 +53,11 @@ pub enum PlanRefusal {
     /// The bytes are not a TOML document.
     #[error("the plan is not a TOML document")]
     Syntax,
-    /// A key of the document, or of the region at this position, is missing, is unknown or does
-    /// not have the required value.
+    /// A key of the document, or of the table that is given, is missing, is unknown or does not have the
+    /// required value.
     #[error("the plan does not have the keys and values of a plan")]
     Shape {
-        region: Option<u32>,
+        table: Option<PlanTable>,
         field: PlanField,
     },
     /// The end of the region at this position is above 2^63 - 1.

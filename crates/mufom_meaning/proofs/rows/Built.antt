@@ -54,11 +54,11 @@ weak name size default = record { name = name; weak = Some (record { size = size
 
 -- a region for sections of these names
 abbrev pub region_at : ℕ → ℕ → List (List ℕ) → Region
-region_at base size sections = record { name = codes "rom"; base = base; size = size; sections = sections; common = false }
+region_at base size sections = record { name = codes "rom"; base = base; size = size; sections = sections; common = false; load = None }
 
 -- a plan of regions
 abbrev pub plan_of : List Region → Plan
-plan_of regions = record { regions = regions }
+plan_of regions = record { regions = regions; symbols = []; keep = [] }
 
 -- the cells of an image
 abbrev pub image_of : List Parts → Plan → List Cell

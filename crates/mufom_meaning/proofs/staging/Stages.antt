@@ -84,7 +84,7 @@ stays_linked d _ _ (linked leaves before group after M name stages m j stay) v k
     let composes = λ (N : Parts) (outer : List ℕ). joined_composes M N group before after name outer j so_far.valid
     (of_another d M own (before ++ (group ++ after)) so_far.descriptors) distinct in
     let first : first_header (before ++ (M ∷ after)) ≡ first_header leaves = same_first_header M group j.header before after stay ∙ so_far.first in
-    let link : link_answer (before ++ (M ∷ after)) ≡ link_answer leaves = (facts (record { regions = [] })).link_answers ∙ so_far.meaning.same_link in
+    let link : link_answer (before ++ (M ∷ after)) ≡ link_answer leaves = (facts (record { regions = []; symbols = []; keep = [] })).link_answers ∙ so_far.meaning.same_link in
     let locate : (plan : Plan) → locate_answer (before ++ (M ∷ after)) plan ≡ locate_answer leaves plan = λ plan. (facts plan).locate_answers
     ∙ so_far.meaning.same_locate plan in
     let read : (b : Bases) → readings (before ++ (M ∷ after)) b ≡ readings leaves b
@@ -100,7 +100,7 @@ stays_linked d _ _ (linked leaves before group after M name stages m j stay) v k
         same_joined = λ N outer.
             (λ h. (so_far.meaning.same_joined N outer).0 ((composes N outer).0 h), λ h. (composes N outer).1 ((so_far.meaning.same_joined N outer).1 h));
         same_link_facts = λ fact.
-            let own = (facts (record { regions = [] })).link_facts fact in
+            let own = (facts (record { regions = []; symbols = []; keep = [] })).link_facts fact in
             (λ h. (so_far.meaning.same_link_facts fact).0 (own.0 h), λ h. own.1 ((so_far.meaning.same_link_facts fact).1 h));
         same_locate_facts = λ plan fact.
             let own = (facts plan).locate_facts fact in

@@ -52,7 +52,7 @@ none_by_division ms plan v link before c site t at =
 
 -- if nothing is returned no fact holds
 pub no_link_fact : (ms : List Parts) → link_answer ms ≡ None → (fact : LinkFact) → ¬ LinkFactStands ms fact
-no_link_fact ms e = (answers_are_facts ms (record { regions = [] })).link_complete e
+no_link_fact ms e = (answers_are_facts ms (record { regions = []; symbols = []; keep = [] })).link_complete e
 
 pub no_fact_before : (ms : List Parts) (plan : Plan) → locate_answer ms plan ≡ None → (fact : LocateFact) → ¬ StandsBeforeWalk ms plan (placed ms plan) fact
 no_fact_before ms plan e fact h = (answers_are_facts ms plan).locate_complete e fact (inl h)
