@@ -21,7 +21,7 @@ use Rattle.mufom_meaning.specs.Flat.{is_common}
 use Rattle.mufom_plan.specs.Names.{has_name}
 use Rattle.mufom_meaning.proofs.Members.{In}
 use Rattle.mufom_prune.specs.Reached.{HasAll}
-use Rattle.mufom_prune.specs.Kept.{first_for, entry_of, mentions, all_mentions, load_trees, home, mentions_for, section_needs, based_from, named, needs, IsKept}
+use Rattle.mufom_prune.specs.Kept.{first_for, entry_of, mentions, all_mentions, load_trees, home, mentions_for, section_needs, staying_from, all_named, named, needs, IsKeptFor}
 use Rattle.mufom_prune.specs.Pruned.{remaining, new_positions, positions_of, new_variable, new_public, is_left, stays, remains, without_others}
 use Rattle.mufom_prune.specs.Pruned.{with_commons, remaining_names}
 use Rattle.mufom_prune.specs.Steps.{entry_count}
@@ -100,7 +100,7 @@ not_outside n k less = search rules
 
 -- ---- what is kept
 
-module _ (m : Parts) (keep : List ℕ) (marks : List Bool) (kept : IsKept m keep marks) where
+module _ (m : Parts) (names staying : List (List ℕ)) (marks : List Bool) (kept : IsKeptFor m names staying marks) where
   sized : length marks ≡ entry_count m
   sized = kept.sized ∙ length-needs m
 
@@ -249,5 +249,5 @@ module _ (m : Parts) (keep : List ℕ) (marks : List Bool) (kept : IsKept m keep
   -- what the start mentions is kept
   pub start_mentions : (t : Tree) → In t (option_to_list m.start) → HasAll (is_marked marks) (mentions m t)
   start_mentions t h =
-      let all = all_right (is_marked marks) (option_to_list (named m keep)) _ (all_right (is_marked marks) (based_from 0 m.sections) _ kept.closed.rooted) in
+      let all = all_right (is_marked marks) (all_named m names) _ (all_right (is_marked marks) (staying_from staying 0 m.sections) _ kept.closed.rooted) in
       all_at (is_marked marks) (mentions m) (option_to_list m.start) t all h

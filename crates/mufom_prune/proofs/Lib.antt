@@ -1,6 +1,7 @@
 pub mod Reaching
 pub mod RowLaws
 pub mod Rows
+mod NameSets
 pub mod NeedLaws
 pub mod RemainLaws
 pub mod KeptLaws

@@ -2,7 +2,8 @@
 use Rattle.std.proofs.Common.{◌≡◌, ℕ, zero, suc, ◌+◌, ◌<◌, ◌≤◌, ◌^◌, ◌||◌, List, [], ◌∷◌, ◌++◌, length, map, flat_map, set, get_or, replicate}
 use Rattle.std.proofs.Common.{option_to_list, Option, Some, None, Bool, true, false, if◌then◌else◌, eq-eqb, eqb-true, refl, sym, ap, ◌∙◌, append-nil}
 use Rattle.std.proofs.Common.{append_assoc, arith, rules}
-use Rattle.std.specs.Prelude.{nat_le, is_some, ◌==◌}
+use Rattle.std.specs.Prelude.{nat_le, is_none, is_some, not, ◌==◌}
+use Rattle.std.specs.List.{find}
 use Rattle.std.specs.Str.{bytes_eq}
 use Rattle.std.proofs.lemmas.List.{length-map}
 use Rattle.mufom_expr.specs.declared.token.Letter.{Letter}
@@ -26,9 +27,11 @@ use Rattle.mufom_module.proofs.WeightLaws.{weight-sum}
 use Rattle.mufom_module.proofs.EntryCounts.{counted}
 use Rattle.mufom_plan.specs.Names.{has_name}
 use Rattle.mufom_numbers.proofs.Choices.{of_not_le}
+use Rattle.mufom_meaning.specs.Flat.{public_names}
 use Rattle.mufom_meaning.proofs.NoDefects.{no_defect}
 use Rattle.mufom_prune.specs.Kept.{first_for, entry_of, mentions, all_mentions, load_trees, home, mentions_for, section_needs, named_from, named}
-use Rattle.mufom_prune.specs.Kept.{needs, based_from, roots}
+use Rattle.mufom_prune.specs.Kept.{needs, always_stays, staying_from, all_named, roots}
+use Rattle.mufom_prune.specs.Refusals.{first_unknown}
 use Rattle.mufom_prune.specs.Steps.{entry_count, with_names, with_more, with_loads, reference_needs}
 use Rattle.mufom_prune.specs.Underway.{AreBelow, AllBelow}
 
@@ -190,11 +193,12 @@ named-below k (p ∷ publics) name size low = by_case (bytes_eq name p.name) (na
   by_case true rest = (omega (arith, low), tt)
   by_case false rest = rest
 
-based-below : (k : ℕ) (sections : List Section) (size : ℕ) → k + length sections ≤ size → AreBelow size (based_from k sections)
-based-below k [] size low = tt
-based-below k (s ∷ sections) size low = by_case (is_some s.base) (based-below (suc k) sections size (omega (arith, low))) where
-  by_case : (b : Bool) → AreBelow size (based_from (suc k) sections)
-      → AreBelow size (if b then k ∷ based_from (suc k) sections else based_from (suc k) sections)
+staying-below : (stays : List (List ℕ)) (k : ℕ) (sections : List Section) (size : ℕ) → k + length sections ≤ size
+    → AreBelow size (staying_from stays k sections)
+staying-below stays k [] size low = tt
+staying-below stays k (s ∷ sections) size low = by_case (always_stays stays s) (staying-below stays (suc k) sections size (omega (arith, low))) where
+  by_case : (b : Bool) → AreBelow size (staying_from stays (suc k) sections)
+      → AreBelow size (if b then k ∷ staying_from stays (suc k) sections else staying_from stays (suc k) sections)
   by_case true rest = (omega (arith, low), rest)
   by_case false rest = rest
 
@@ -228,11 +232,41 @@ needs-inside m =
     (mapped-below (entry_count m) (λ (r : Reference). option_to_list (named m r.name))
     (λ r. named-below (length m.sections) m.names.publics r.name (entry_count m) (omega arith)) m.names.references))
 
-pub roots-inside : (m : Parts) (keep : List ℕ) → AreBelow (entry_count m) (roots m keep)
-roots-inside m keep =
-    below_join (entry_count m) (based_from 0 m.sections) _ (based-below 0 m.sections (entry_count m) (omega arith))
-    (below_join (entry_count m) (option_to_list (named m keep)) _ (named-below (length m.sections) m.names.publics keep (entry_count m) (omega arith))
-    (all_mentions-below m (option_to_list m.start)))
+all-named-below : (m : Parts) (names : List (List ℕ)) → AreBelow (entry_count m) (all_named m names)
+all-named-below m [] = tt
+all-named-below m (name ∷ names) =
+    below_join (entry_count m) (option_to_list (named m name)) _ (named-below (length m.sections) m.names.publics name (entry_count m) (omega arith))
+    (all-named-below m names)
+
+pub roots-inside : (m : Parts) (names stays : List (List ℕ)) → AreBelow (entry_count m) (roots m names stays)
+roots-inside m names stays =
+    below_join (entry_count m) (staying_from stays 0 m.sections) _ (staying-below stays 0 m.sections (entry_count m) (omega arith))
+    (below_join (entry_count m) (all_named m names) _ (all-named-below m names) (all_mentions-below m (option_to_list m.start)))
+
+-- ---- the roots, found by indexes
+
+-- the sections that always stay are the same by two lists with the same names
+staying-same : (others stays : List (List ℕ)) → ((name : List ℕ) → has_name others name ≡ has_name stays name) → (k : ℕ) (sections : List Section)
+    → staying_from others k sections ≡ staying_from stays k sections
+staying-same others stays same k [] = refl
+staying-same others stays same k (s ∷ sections) =
+    (λ i. if is_some s.base || same s.name i then k ∷ staying-same others stays same (suc k) sections i else staying-same others stays same (suc k) sections i)
+
+-- the publics with the names, found by their index
+all-named-found : (m : Parts) (names : List (List ℕ))
+    → flat_map (λ name. option_to_list (position_of (with_names [] (length m.sections) m.names.publics) name)) names ≡ all_named m names
+all-named-found m [] = refl
+all-named-found m (name ∷ names) = λ i. option_to_list (finds_named m name i) ++ all-named-found m names i
+
+-- what is kept in any case, put together
+pub roots-found : (m : Parts) (others stays names : List (List ℕ)) → ((name : List ℕ) → has_name others name ≡ has_name stays name)
+    → (staying_from others 0 m.sections ++ flat_map (λ name. option_to_list (position_of (with_names [] (length m.sections) m.names.publics) name)) names)
+    ++ all_mentions m (option_to_list m.start)
+    ≡ roots m names stays
+roots-found m others stays names same =
+    append_assoc (staying_from others 0 m.sections) (flat_map (λ name. option_to_list (position_of (with_names [] (length m.sections) m.names.publics) name)) names)
+    (all_mentions m (option_to_list m.start))
+    ∙ (λ i. staying-same others stays same 0 m.sections i ++ (all-named-found m names i ++ all_mentions m (option_to_list m.start)))
 
 -- ---- the name is known or not
 
@@ -255,6 +289,19 @@ some_named n (p ∷ publics) name k e = by_case (bytes_eq name p.name) e (some_n
       → (b || has_name (map (λ (p : Public). p.name) publics ++ []) name) ≡ true
   by_case true e later = refl
   by_case false e later = later e
+
+-- a name is unknown if its index has no position for it
+unknown-by : (m : Parts) (name : List ℕ) → is_none (named m name) ≡ not (has_name (public_names (m ∷ [])) name)
+unknown-by m name = by_case (named m name) refl where
+  by_case : (o : Option ℕ) → named m name ≡ o → is_none o ≡ not (has_name (public_names (m ∷ [])) name)
+  by_case None e = ap not (sym (none_named (length m.sections) m.names.publics name e))
+  by_case (Some k) e = ap not (sym (some_named (length m.sections) m.names.publics name k e))
+
+pub unknown-found : (m : Parts) (names : List (List ℕ))
+    → find (λ name. is_none (position_of (with_names [] (length m.sections) m.names.publics) name)) names ≡ first_unknown m names
+unknown-found m [] = refl
+unknown-found m (name ∷ names) =
+    (λ i. if (ap is_none (finds_named m name) ∙ unknown-by m name) i then Some name else unknown-found m names i)
 
 -- ---- there are few entries
 

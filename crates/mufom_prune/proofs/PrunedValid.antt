@@ -25,7 +25,7 @@ use Rattle.mufom_meaning.proofs.Members.{In, In-at, fails-In, none-In, filter-In
 use Rattle.mufom_meaning.proofs.facts.Cycles.{list_any-agrees}
 use Rattle.mufom_meaning.proofs.staging.JoinedEntries.{list_any-mapped}
 use Rattle.mufom_prune.specs.Reached.{HasAll}
-use Rattle.mufom_prune.specs.Kept.{mentions, load_trees, IsKept}
+use Rattle.mufom_prune.specs.Kept.{mentions, load_trees, IsKeptFor}
 use Rattle.mufom_prune.specs.Pruned.{remaining, positions_of, new_tree, new_public, new_item, new_load, stays, remains, remaining_loads, without_others}
 use Rattle.mufom_prune.proofs.KeptLaws.{all_at, new_inside, new_section, variable_kept, public_mentions, load_mentions, start_mentions}
 use Rattle.mufom_prune.proofs.PrunedPlaces.{load_was, load_fails, tree_fails, tree_counter, loads_keep}
@@ -61,7 +61,7 @@ placed-In current [] p h = absurd h
 placed-In current (load ∷ loads) p (inl same) = inl (ap (λ (q : Option ℕ × Load). q.1) same)
 placed-In current (load ∷ loads) p (inr h) = inr (placed-In (current_after current load) loads p h)
 
-module _ (m : Parts) (keep : List ℕ) (marks : List Bool) (kept : IsKept m keep marks) (valid : IsValid m) where
+module _ (m : Parts) (names staying : List (List ℕ)) (marks : List Bool) (kept : IsKeptFor m names staying marks) (valid : IsValid m) where
   -- a test that fails at each load that remains
   loads_fail : (test : Load → Bool) → ((p : Option ℕ × Load) → In p (placed_loads m) → stays (remains m marks).sections p ≡ true
       → test (new_load (positions_of (remains m marks)) p.1) ≡ false)
@@ -114,8 +114,8 @@ module _ (m : Parts) (keep : List ℕ) (marks : List Bool) (kept : IsKept m keep
       → names_outside (counts_of (without_others m (remains m marks))) (new_tree (positions_of (remains m marks)) t) ≡ false
   tree_inside t low all =
       tree_fails (positions_of (remains m marks)) (is_outside (counts_of (without_others m (remains m marks)))) t
-      (λ v h. new_inside m keep marks kept v (inside m t low v h)
-      (variable_kept m keep marks kept t all v h (fails-In (is_outside (counts_of m)) (variables_of t) low v h)))
+      (λ v h. new_inside m names staying marks kept v (inside m t low v h)
+      (variable_kept m names staying marks kept t all v h (fails-In (is_outside (counts_of m)) (variables_of t) low v h)))
 
   places_of : list_any (λ p. names_outside (counts_of m) p.value) m.names.publics ≡ false
   places_of = (either_false (list_any (λ p. names_outside (counts_of m) p.value) m.names.publics) _ (no_defect m valid kinds.Position)).0
@@ -137,8 +137,8 @@ module _ (m : Parts) (keep : List ℕ) (marks : List Bool) (kept : IsKept m keep
 
   section_place : (p : Option ℕ × Load) → stays (remains m marks).sections p ≡ true
       → names_no_section (counts_of (without_others m (remains m marks))) (new_load (positions_of (remains m marks)) p.1) ≡ false
-  section_place (current, SetSection s) h = new_section m keep marks kept s h
-  section_place (current, SetPc s t) h = new_section m keep marks kept s h
+  section_place (current, SetSection s) h = new_section m names staying marks kept s h
+  section_place (current, SetPc s t) h = new_section m names staying marks kept s h
   section_place (current, One item) h = refl
   section_place (current, Repeat count items) h = refl
 
@@ -150,7 +150,7 @@ module _ (m : Parts) (keep : List ℕ) (marks : List Bool) (kept : IsKept m keep
       two_false (names_no_section (counts_of (without_others m (remains m marks))) (new_load (positions_of (remains m marks)) p.1)) _ (section_place p left)
       (load_fails (positions_of (remains m marks)) (names_outside (counts_of (without_others m (remains m marks)))) p.1
       (λ t k. tree_inside t (load_was (names_outside (counts_of m)) p.1 low t k)
-      (all_at (is_marked marks) (mentions m) (load_trees p.1) t (load_mentions m keep marks kept p h left) k)))
+      (all_at (is_marked marks) (mentions m) (load_trees p.1) t (load_mentions m names staying marks kept p h left) k)))
 
   position : has_defect (without_others m (remains m marks)) kinds.Position ≡ false
   position =
@@ -158,11 +158,11 @@ module _ (m : Parts) (keep : List ℕ) (marks : List Bool) (kept : IsKept m keep
       two_false (list_any (λ p. names_outside (counts_of M) p.value) M.names.publics) _
       (publics_fail (λ p. names_outside (counts_of M) p.value)
       (λ n p at h. tree_inside p.value (fails-In (λ p. names_outside (counts_of m) p.value) m.names.publics places_of p
-      (In-at p m.names.publics n at)) (public_mentions m keep marks kept n p at h))) (
+      (In-at p m.names.publics n at)) (public_mentions m names staying marks kept n p at h))) (
       two_false (list_any (has_bad_place (counts_of M)) M.loads) _ (loads_fail (has_bad_place (counts_of M)) load_place) (
       two_false (any_of (names_outside (counts_of M)) M.start) _
       (start_fails (names_outside (counts_of M)) (λ t h. tree_inside t (start_test (names_outside (counts_of m)) start_of t h)
-      (start_mentions m keep marks kept t h))) refl))
+      (start_mentions m names staying marks kept t h))) refl))
 
   -- ---- program counters and sections of loads
 

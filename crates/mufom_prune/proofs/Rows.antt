@@ -13,7 +13,7 @@ use Rattle.mufom_loads.specs.declared.load.Load.TheVariants.{SetSection, SetPc, 
 use Rattle.mufom_module.specs.declared.module.Order.TheVariants.{Most}
 use Rattle.mufom_module.specs.declared.module.Parts.{Parts}
 use Rattle.mufom_prune.specs.Kept.{needs, roots}
-use Rattle.mufom_prune.specs.Pruned.{IsPruned}
+use Rattle.mufom_prune.specs.Pruned.{IsPruned, IsPrunedFor}
 use Rattle.mufom_prune.proofs.RowLaws.{shown}
 
 -- a module with these lists and this start, and nothing else
@@ -78,7 +78,26 @@ pub plain_pruned : IsPruned (a_module (section_of a ∷ section_of c ∷ []) (pu
     (SetSection 0 ∷ field (at 1) ∷ SetSection 1 ∷ bytes ∷ []) None) plain (codes "main")
 plain_pruned = record {
   marks = true ∷ false ∷ true ∷ true ∷ false ∷ false ∷ [];
-  kept = shown (needs plain) (roots plain (codes "main")) (true ∷ false ∷ true ∷ true ∷ false ∷ false ∷ []) (3 ∷ 0 ∷ 2 ∷ []) refl refl refl refl refl;
+  kept = shown (needs plain) (roots plain (codes "main" ∷ []) []) (true ∷ false ∷ true ∷ true ∷ false ∷ false ∷ []) (3 ∷ 0 ∷ 2 ∷ []) refl refl refl refl refl;
+  is = refl;
+}
+
+-- ---- two publics keep all, and the reference; a section stays for its name, without its public
+
+pub both_pruned : IsPrunedFor plain plain (codes "main" ∷ codes "u" ∷ []) []
+both_pruned = record {
+  marks = true ∷ true ∷ true ∷ true ∷ true ∷ true ∷ [];
+  kept = shown (needs plain) (roots plain (codes "main" ∷ codes "u" ∷ []) []) (true ∷ true ∷ true ∷ true ∷ true ∷ true ∷ []) (3 ∷ 4 ∷ 0 ∷ 1 ∷ 2 ∷ 5 ∷ [])
+      refl refl refl refl refl;
+  is = refl;
+}
+
+pub stayed_pruned : IsPrunedFor (a_module (section_of a ∷ section_of b ∷ section_of c ∷ []) (public_of (codes "main") (at 0) ∷ []) (strong (codes "q") ∷ [])
+    plain.loads None) plain (codes "main" ∷ []) (codes "none" ∷ b ∷ [])
+stayed_pruned = record {
+  marks = true ∷ true ∷ true ∷ true ∷ false ∷ true ∷ [];
+  kept = shown (needs plain) (roots plain (codes "main" ∷ []) (codes "none" ∷ b ∷ [])) (true ∷ true ∷ true ∷ true ∷ false ∷ true ∷ [])
+      (1 ∷ 3 ∷ 0 ∷ 5 ∷ 2 ∷ []) refl refl refl refl refl;
   is = refl;
 }
 
@@ -94,7 +113,7 @@ pub ring_pruned : IsPruned (a_module (section_of a ∷ section_of b ∷ based_at
     1 ∷ field (at 0) ∷ []) None) ring (codes "main")
 ring_pruned = record {
   marks = true ∷ true ∷ true ∷ false ∷ true ∷ [];
-  kept = shown (needs ring) (roots ring (codes "main")) (true ∷ true ∷ true ∷ false ∷ true ∷ []) (4 ∷ 1 ∷ 0 ∷ 2 ∷ []) refl refl refl refl refl;
+  kept = shown (needs ring) (roots ring (codes "main" ∷ []) []) (true ∷ true ∷ true ∷ false ∷ true ∷ []) (4 ∷ 1 ∷ 0 ∷ 2 ∷ []) refl refl refl refl refl;
   is = refl;
 }
 
@@ -109,7 +128,7 @@ pub started_pruned : IsPruned (a_module (section_of c ∷ []) (public_of (codes 
     (SetSection 0 ∷ field (variable letters.P 0) ∷ []) (Some (variable letters.I 1))) started (codes "main")
 started_pruned = record {
   marks = false ∷ false ∷ true ∷ false ∷ true ∷ true ∷ [];
-  kept = shown (needs started) (roots started (codes "main")) (false ∷ false ∷ true ∷ false ∷ true ∷ true ∷ []) (4 ∷ 5 ∷ 2 ∷ []) refl refl refl refl refl;
+  kept = shown (needs started) (roots started (codes "main" ∷ []) []) (false ∷ false ∷ true ∷ false ∷ true ∷ true ∷ []) (4 ∷ 5 ∷ 2 ∷ []) refl refl refl refl refl;
   is = refl;
 }
 
@@ -125,7 +144,7 @@ pub named_pruned : IsPruned (a_module (section_of b ∷ []) (public_of (codes "m
     (SetSection 0 ∷ field (variable letters.X 1) ∷ []) None) named (codes "main")
 named_pruned = record {
   marks = false ∷ true ∷ true ∷ true ∷ false ∷ true ∷ true ∷ false ∷ false ∷ false ∷ [];
-  kept = shown (needs named) (roots named (codes "main")) (false ∷ true ∷ true ∷ true ∷ false ∷ true ∷ true ∷ false ∷ false ∷ false ∷ [])
+  kept = shown (needs named) (roots named (codes "main" ∷ []) []) (false ∷ true ∷ true ∷ true ∷ false ∷ true ∷ true ∷ false ∷ false ∷ false ∷ [])
       (2 ∷ 5 ∷ 3 ∷ 1 ∷ 6 ∷ []) refl refl refl refl refl;
   is = refl;
 }

@@ -28,7 +28,7 @@ use Rattle.mufom_meaning.proofs.Tests.{either_false}
 use Rattle.mufom_meaning.proofs.values.Causes.{valuation_below, within_is}
 use Rattle.mufom_meaning.proofs.values.Enough.{value_at-agrees_on_variables}
 use Rattle.mufom_prune.specs.Reached.{HasAll}
-use Rattle.mufom_prune.specs.Kept.{first_for, named, IsKept}
+use Rattle.mufom_prune.specs.Kept.{first_for, named, IsKeptFor}
 use Rattle.mufom_prune.specs.Pruned.{remaining, remaining_names, new_positions, positions_of, new_variable, new_tree, new_public, remains, without_others}
 use Rattle.mufom_prune.proofs.NeedLaws.{none_named}
 use Rattle.mufom_prune.proofs.KeptLaws.{mentioned_sized, section_kept, public_kept, mention_kept, reference_kept, reference_names}
@@ -108,7 +108,7 @@ within (y ∷ ys) (suc i) x e = let rest = within ys i x e in omega (arith, rest
 abbrev pub wrap : Sited → Public → SitedPublic
 wrap home p = record { site = home; entry = p }
 
-module _ (m : Parts) (keep : List ℕ) (marks : List Bool) (kept : IsKept m keep marks) (bases : Bases) where
+module _ (m : Parts) (names staying : List (List ℕ)) (marks : List Bool) (kept : IsKeptFor m names staying marks) (bases : Bases) where
   abbrev rest : Parts
   rest = without_others m (remains m marks)
 
@@ -138,7 +138,7 @@ module _ (m : Parts) (keep : List ℕ) (marks : List Bool) (kept : IsKept m keep
 
   module _ (valuation valuation' : Valuation) (same : Same valuation valuation') where
     same_section : (n : ℕ) → n < length m.sections → is_marked marks (0 + n) ≡ true → is_marked (remains m marks).sections n ≡ true
-    same_section n low h = let from : n ≡ 0 + n = omega arith in section_kept m keep marks kept n low (ap (is_marked marks) from ∙ h)
+    same_section n low h = let from : n ≡ 0 + n = omega arith in section_kept m names staying marks kept n low (ap (is_marked marks) from ∙ h)
 
     same_size : (n : ℕ) → n < length m.sections → is_marked marks (0 + n) ≡ true
         → option_map (λ (x : Section). x.size) (slice_get (rest.sections ++ []) (0 + get_or (new_positions 0 (remains m marks).sections) n 0))
@@ -160,7 +160,7 @@ module _ (m : Parts) (keep : List ℕ) (marks : List Bool) (kept : IsKept m keep
         ≡ valuation_of valuation (slice_get s.publics (0 + n))
     same_public n low h = by_case (slice_get m.names.publics n) refl where
       marked : is_marked (remains m marks).publics n ≡ true
-      marked = public_kept m keep marks kept n low h
+      marked = public_kept m names staying marks kept n low h
 
       old : (o : Option Public) → slice_get m.names.publics n ≡ o → slice_get s.publics (0 + n) ≡ option_map (λ p. wrap site p) o
       old o e =
@@ -197,7 +197,7 @@ module _ (m : Parts) (keep : List ℕ) (marks : List Bool) (kept : IsKept m keep
     -- a reference by its name
     same_named : (n : ℕ) (r : Reference) → slice_get m.names.references n ≡ Some r → is_marked marks (length m.sections + length m.names.publics + n) ≡ true
         → valuation_of_reference s' valuation' (Some r) ≡ valuation_of_reference s valuation (Some r)
-    same_named n r e h = by_case (named m r.name) refl (reference_names m keep marks kept n r e h) where
+    same_named n r e h = by_case (named m r.name) refl (reference_names m names staying marks kept n r e h) where
       by_case : (o : Option ℕ) → named m r.name ≡ o → HasAll (is_marked marks) (option_to_list o) → valuation_of_reference s' valuation' (Some r)
           ≡ valuation_of_reference s valuation (Some r)
       by_case None none all =
@@ -205,10 +205,10 @@ module _ (m : Parts) (keep : List ℕ) (marks : List Bool) (kept : IsKept m keep
           let c = remains m marks in
           let both = first.none_named site site' f (λ p. refl) r.name (length m.sections) m.names.publics c.publics none in
           let marks' = drop (length m.names.publics) (drop (length m.sections) marks) in
-          let known = name_in (remaining marks' m.names.references) r (names-at marks' m.names.references n r (mention_kept m keep marks kept n h) e) in
+          let known = name_in (remaining marks' m.names.references) r (names-at marks' m.names.references n r (mention_kept m names staying marks kept n h) e) in
           let own = none_named (length m.sections) m.names.publics r.name none in
           let theirs = names_left f (λ p. refl) c.publics m.names.publics r.name own in
-          let commons = same_commons m rest (remaining_names marks' m.names.references) marks' r.name (mentioned_sized m keep marks kept) refl known
+          let commons = same_commons m rest (remaining_names marks' m.names.references) marks' r.name (mentioned_sized m names staying marks kept) refl known
           own theirs in
           ap (λ o. reference_value valuation' o (unresolved_value s' r)) both.1
           ∙ ap (λ b. if b then bases.commons r.name else default_of r.weak) commons
@@ -218,7 +218,7 @@ module _ (m : Parts) (keep : List ℕ) (marks : List Bool) (kept : IsKept m keep
           let c = remains m marks in
           let there = one_named site site' f (λ p. refl) r.name (length m.sections) k m.names.publics c.publics is in
           let low = within m.names.publics there.place there.entry there.at in
-          let marked = public_kept m keep marks kept there.place low (ap (is_marked marks) (sym there.is) ∙ all.0) in
+          let marked = public_kept m names staying marks kept there.place low (ap (is_marked marks) (sym there.is) ∙ all.0) in
           ap (λ o. reference_value valuation' o (unresolved_value s' r)) (there.after marked)
           ∙ same there.place there.entry there.at marked
           ∙ sym (ap (λ o. reference_value valuation o (unresolved_value s r)) there.before)
@@ -229,7 +229,7 @@ module _ (m : Parts) (keep : List ℕ) (marks : List Bool) (kept : IsKept m keep
     same_reference n low h = by_case (slice_get m.names.references n) refl where
       now : slice_get rest.names.references (get_or (new_positions 0 (remains m marks).references) n 0) ≡ slice_get m.names.references n
       now =
-          let there = at_new 0 (remains m marks).references m.names.references n (reference_kept m keep marks kept n h) in
+          let there = at_new 0 (remains m marks).references m.names.references n (reference_kept m names staying marks kept n h) in
           let from : get_or (new_positions 0 (remains m marks).references) n 0 ≡ there.place = omega (arith, there.is) in
           ap (slice_get (remaining (remains m marks).references m.names.references)) from ∙ there.same
 

@@ -1,6 +1,6 @@
--- The entries of a module that are kept for a public symbol (IEEE Std 695, module structure). The entries are the sections, then the publics, then
+-- The entries of a module that are kept for public symbols (IEEE Std 695, module structure). The entries are the sections, then the publics, then
 -- the references; they are numbered in this order.
-use Rattle.std.specs.Prelude.{ℕ, suc, ◌+◌, List, [], ◌∷◌, ◌++◌, length, map, flat_map, option_to_list, Option, Some, None, is_some, Bool, if◌then◌else◌}
+use Rattle.std.specs.Prelude.{ℕ, suc, ◌+◌, List, [], ◌∷◌, ◌++◌, length, map, flat_map, option_to_list, Option, Some, None, is_some, Bool, ◌||◌, if◌then◌else◌}
 use Rattle.std.specs.Str.{bytes_eq}
 use Rattle.mufom_expr.specs.declared.token.Letter.{Letter}
 use Rattle.mufom_expr.specs.declared.token.Letter.TheVariants.{I, L, P, R, S, X}
@@ -15,6 +15,7 @@ use Rattle.mufom_loads.specs.declared.load.Load.TheVariants.{SetSection, SetPc, 
 use Rattle.mufom_module.specs.declared.module.Parts.{Parts}
 use Rattle.mufom_module.specs.Contents.{placed_loads}
 use Rattle.mufom_module.specs.Defects.{counts_of, is_outside, is_this}
+use Rattle.mufom_plan.specs.Names.{has_name}
 use Rattle.mufom_prune.specs.Reached.{IsReached}
 
 -- ---- the mentions of an expression
@@ -88,15 +89,30 @@ needs m =
 
 -- ---- what is kept
 
--- the positions of the sections with a base; the first section has position n
-abbrev pub based_from : ℕ → List Section → List ℕ
-based_from n [] = []
-based_from n (section ∷ sections) = if is_some section.base then n ∷ based_from (suc n) sections else based_from (suc n) sections
+-- the section always stays: it has a base, or one of these names
+abbrev pub always_stays : List (List ℕ) → Section → Bool
+always_stays stays section = is_some section.base || has_name stays section.name
 
--- what is kept in any case: each section with a base, the public with the name, and what the start mentions
-abbrev pub roots : Parts → List ℕ → List ℕ
-roots m keep = based_from 0 m.sections ++ (option_to_list (named m keep) ++ all_mentions m (option_to_list m.start))
+-- the positions of the sections that always stay, given names of such sections; the first section has position n
+abbrev pub staying_from : List (List ℕ) → ℕ → List Section → List ℕ
+staying_from stays n [] = []
+staying_from stays n (section ∷ sections) =
+    if always_stays stays section then n ∷ staying_from stays (suc n) sections else staying_from stays (suc n) sections
 
--- The marked entries are those that are kept for the name: the smallest set that contains the roots and, with each entry, everything that it needs.
+-- the publics with these names, each the first of its name
+abbrev pub all_named : Parts → List (List ℕ) → List ℕ
+all_named m names = flat_map (λ name. option_to_list (named m name)) names
+
+-- What is kept in any case, given names of publics and names of sections: each section with a base or with one of the names of sections, the publics
+-- with the names, and what the start mentions.
+abbrev pub roots : Parts → List (List ℕ) → List (List ℕ) → List ℕ
+roots m names stays = staying_from stays 0 m.sections ++ (all_named m names ++ all_mentions m (option_to_list m.start))
+
+-- The marked entries are those that are kept for these names of publics and of sections: the smallest set that contains the roots and, with each
+-- entry, everything that it needs.
+abbrev pub IsKeptFor : Parts → List (List ℕ) → List (List ℕ) → List Bool → Type 0
+IsKeptFor m names stays marks = IsReached (needs m) (roots m names stays) marks
+
+-- the same for the name of one public
 abbrev pub IsKept : Parts → List ℕ → List Bool → Type 0
-IsKept m keep marks = IsReached (needs m) (roots m keep) marks
+IsKept m keep marks = IsKeptFor m (keep ∷ []) [] marks

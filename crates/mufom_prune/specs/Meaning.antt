@@ -6,7 +6,7 @@ use Rattle.mufom_meaning.specs.Bases.{Bases}
 use Rattle.mufom_meaning.specs.Readings.{readings}
 use Rattle.mufom_meaning.specs.Steps.{StepReading, counter_reading, literal_reading, field_reading}
 use Rattle.mufom_select.specs.Choice.{is_marked}
-use Rattle.mufom_prune.specs.Pruned.{Remains, new_positions, remaining, remains, IsPruned}
+use Rattle.mufom_prune.specs.Pruned.{Remains, new_positions, remaining, remains, IsPrunedFor}
 
 -- the bases of the sections that remain, and those of the commons
 abbrev pub new_bases : Remains → Bases → Bases
@@ -36,11 +36,11 @@ pub record MeansTheRest (M m : Parts) (c : Remains) (bases : Bases) : Type 0 whe
   pub steps : (readings (M ∷ []) (new_bases c bases)).steps ≡ left_readings c.sections (readings (m ∷ []) bases).steps
   pub starts : (readings (M ∷ []) (new_bases c bases)).starts ≡ (readings (m ∷ []) bases).starts
 
--- This holds for the rest of every module without a defect, for each name to keep.
+-- This holds for the rest of every module without a defect, for all names to keep and all names of sections that always stay.
 abbrev pub PrunedMeansTheRest : Type 0
-PrunedMeansTheRest = (M m : Parts) (keep : List ℕ) → IsValid m → (pruned : IsPruned M m keep) → (bases : Bases)
+PrunedMeansTheRest = (M m : Parts) (names stays : List (List ℕ)) → IsValid m → (pruned : IsPrunedFor M m names stays) → (bases : Bases)
     → MeansTheRest M m (remains m pruned.marks) bases
 
--- At most one module is what remains of a module for a name.
+-- At most one module is what remains of a module for names to keep and names of sections that always stay.
 abbrev pub PrunedIsSingle : Type 0
-PrunedIsSingle = (M N m : Parts) (keep : List ℕ) → IsPruned M m keep → IsPruned N m keep → M ≡ N
+PrunedIsSingle = (M N m : Parts) (names stays : List (List ℕ)) → IsPrunedFor M m names stays → IsPrunedFor N m names stays → M ≡ N

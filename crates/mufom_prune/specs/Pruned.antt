@@ -17,7 +17,7 @@ use Rattle.mufom_plan.specs.Names.{has_name}
 use Rattle.mufom_meaning.specs.Flat.{is_common}
 use Rattle.mufom_select.specs.Choice.{is_marked}
 use Rattle.mufom_prune.specs.declared.positions.NewPositions.{NewPositions}
-use Rattle.mufom_prune.specs.Kept.{home, IsKept}
+use Rattle.mufom_prune.specs.Kept.{home, IsKeptFor}
 
 -- ---- the marked elements of lists
 
@@ -137,8 +137,12 @@ without_others m c = let new = positions_of c in record {
   start = option_map (new_tree new) m.start;
 }
 
--- M is what remains of the module for the public of this name.
-pub record IsPruned (M m : Parts) (keep : List ℕ) : Type 0 where
+-- M is what remains of the module for the publics of these names, if the sections of these other names always stay.
+pub record IsPrunedFor (M m : Parts) (names stays : List (List ℕ)) : Type 0 where
   pub marks : List Bool
-  pub kept : IsKept m keep marks
+  pub kept : IsKeptFor m names stays marks
   pub is : M ≡ without_others m (remains m marks)
+
+-- the same for the name of one public
+abbrev pub IsPruned : Parts → Parts → List ℕ → Type 0
+IsPruned M m keep = IsPrunedFor M m (keep ∷ []) []

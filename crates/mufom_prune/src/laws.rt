@@ -9,7 +9,7 @@ pub fn pruned_means_the_rest()
     ensures { PrunedMeansTheRest }
 {}
 
-/// For each name, at most one module is what remains of a module.
+/// For names to keep and names of sections that always stay, at most one module is what remains of a module.
 pub fn pruned_is_single()
     ensures { PrunedIsSingle }
 {}

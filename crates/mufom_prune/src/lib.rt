@@ -1,12 +1,13 @@
 //! Removes what a program does not use: a copy of one module without the sections, publics, references and
-//! loads that neither a given public symbol, nor the start, nor a section with a base needs.
+//! loads that neither given public symbols, nor the start, nor a section that always stays needs.
 //!
-//! [`prune`] follows what expressions mention, with one worklist that looks at each expression once, and
+//! [`prune_for`] follows what expressions mention, with one worklist that looks at each expression once, and
 //! copies what remains with the positions of the new lists. The crate depends on the crates of a module's
 //! values, on `mufom_copies` for copies, on `mufom_select` for marks, and on `mufom_meaning`. Its main clause
-//! is that of [`prune`]: the smallest set of entries is kept that contains what is kept in any case and, with
-//! each entry, everything that it needs. [`prune_with_marks`] also returns which sections and publics of the
-//! whole module are left. The laws state that what remains means what it means in the whole module.
+//! is that of [`prune_for`]: the smallest set of entries is kept that contains what is kept in any case and, with
+//! each entry, everything that it needs. It also returns which sections and publics of the whole module are
+//! left. [`prune`] and [`prune_with_marks`] do the same for one name. The laws state that what remains means
+//! what it means in the whole module.
 #![tactic(auto)]
 
 mod entries;
@@ -19,5 +20,5 @@ mod refusal;
 mod remaining;
 
 pub use laws::{pruned_is_single, pruned_means_the_rest};
-pub use pruning::{Pruned, prune, prune_with_marks};
+pub use pruning::{Pruned, prune, prune_for, prune_with_marks};
 pub use refusal::PruneRefusal;

@@ -1,8 +1,11 @@
 //! What each entry of a module needs, and which entries are kept in any case.
 
-ghost use Rattle.std.specs.Prelude.{◌≡◌, ◌++◌, ◌+◌, ◌<◌, ◌^◌, [], length, map, replicate, option_to_list, Option, Some, IfOk, OnOk};
+ghost use Rattle.std.specs.Prelude.{◌≡◌, ◌++◌, ◌+◌, ◌<◌, ◌^◌, [], ℕ, List, flat_map, is_none, length, map, option_map, replicate, option_to_list, IfOk, OnOk};
+ghost use Rattle.std.specs.List.{find};
 ghost use Rattle.mufom_module.specs.Contents.{placed_loads};
-ghost use Rattle.mufom_prune.specs.Kept.{all_mentions, based_from, home, load_trees, mentions, named, needs, roots};
+ghost use Rattle.mufom_names.specs.Index.{position_of};
+ghost use Rattle.mufom_plan.specs.Names.{has_name};
+ghost use Rattle.mufom_prune.specs.Kept.{all_mentions, always_stays, home, load_trees, mentions, needs, roots, staying_from};
 ghost use Rattle.mufom_prune.specs.Steps.{entry_count, with_names, with_more, with_loads, reference_needs};
 
 use crate::entries::{add_entry, add_load, add_mentions};
@@ -10,7 +13,8 @@ use mufom_expr::Postfix;
 use mufom_loads::Load;
 use mufom_module::{Parts, current_after};
 use mufom_names::{HashSeed, NameIndex, Reference};
-use mufom_numbers::{List, NoMemory};
+use mufom_numbers::{Bytes, List, NoMemory};
+use mufom_plan::NameList;
 use mufom_sections::Section;
 use std::alloc::Global;
 
@@ -154,18 +158,71 @@ pub(crate) fn needs(
     Ok(needs)
 }
 
-// The sections that have a base.
-fn sections_with_base(alloc: Global, sections: &[Section]) -> Result<List<u32>, NoMemory>
+// Whether a section always stays: it has a base, or one of these names.
+fn always_stays(section: &Section, stays: &NameList) -> bool
+    ensures { result ≡ always_stays stays.now section.now }
+{
+    section.base.is_some() || stays.contains(section.name.as_slice())
+}
+
+// The sections that always stay, given names of such sections.
+fn staying_sections(
+    alloc: Global,
+    sections: &[Section],
+    stays: &NameList,
+) -> Result<List<u32>, NoMemory>
     requires { length sections.now < 2 ^ 32 }
-    ensures { IfOk result (λ all. all ≡ based_from 0 sections.now) }
+    ensures { IfOk result (λ all. all ≡ staying_from stays.now 0 sections.now) }
 {
     let mut all = List::new(alloc);
     for place in 0..sections.len() {
-        if sections[place].base.is_some() {
+        if always_stays(&sections[place], stays) {
             all.push(place as u32)?;
         }
     }
     Ok(all)
+}
+
+// A seed of the hashes of names.
+fn seed_of(names: &[Bytes]) -> HashSeed {
+    let mut seed = HashSeed::new();
+    for name in names {
+        seed.add_name(name.as_slice());
+    }
+    seed
+}
+
+// An index of names, which may occur more than once.
+fn index_names(alloc: Global, names: &[Bytes]) -> Result<NameList, NoMemory>
+    ensures { IfOk result (λ index. (name : List ℕ) → has_name index name ≡ has_name names.now name) }
+{
+    let mut index = NameList::new(alloc, seed_of(names));
+    for name in names {
+        let _added = index.add(name.as_slice())?;
+    }
+    Ok(index)
+}
+
+/// The first of the names that no public has.
+pub(crate) fn first_unknown<'a>(publics: &NameIndex<'_>, names: &'a [Bytes]) -> Option<&'a Bytes>
+    ensures { option_map (λ name. name.now) result ≡ find (λ name. is_none (position_of publics.now name)) names.now }
+{
+    for name in names {
+        if publics.find(name.as_slice()).is_none() {
+            return Some(name);
+        }
+    }
+    None
+}
+
+// Appends the publics with these names.
+fn add_named(publics: &NameIndex<'_>, names: &[Bytes], all: &mut List<u32>) -> Result<(), NoMemory>
+    ensures { OnOk result (all.new ≡ all.old ++ flat_map (λ name. option_to_list (position_of publics.now name)) names.now) }
+{
+    for name in names {
+        add_entry(publics.find(name.as_slice()), all)?;
+    }
+    Ok(())
 }
 
 // Appends what the start mentions.
@@ -179,19 +236,22 @@ fn add_start(parts: &Parts, all: &mut List<u32>) -> Result<(), NoMemory>
     }
 }
 
-/// Returns the entries that are kept in any case. `entry` is the public with the name.
+/// Returns the entries that are kept in any case, for publics with these names, if sections with the names in
+/// `stays` always stay.
 pub(crate) fn roots(
     alloc: Global,
     parts: &Parts,
-    entry: u32,
-    keep: &[u8],
+    publics: &NameIndex<'_>,
+    names: &[Bytes],
+    stays: &[Bytes],
 ) -> Result<List<u32>, NoMemory>
     requires few { entry_count parts.now < 2 ^ 32 }
-    requires named { named parts.now keep.now ≡ Some entry }
-    ensures { IfOk result (λ all. all ≡ roots parts.now keep.now) }
+    requires index { publics.now ≡ with_names [] (length parts.now.sections) parts.now.names.publics }
+    ensures { IfOk result (λ all. all ≡ roots parts.now names.now stays.now) }
 {
-    let mut all = sections_with_base(alloc, parts.sections.as_slice())?;
-    all.push(entry)?;
+    let index = index_names(alloc, stays)?;
+    let mut all = staying_sections(alloc, parts.sections.as_slice(), &index)?;
+    add_named(publics, names, &mut all)?;
     add_start(parts, &mut all)?;
     Ok(all)
 }

@@ -1,17 +1,17 @@
 //! Pruning a module.
 
-ghost use Rattle.std.specs.Prelude.{◌≡◌, ◌≤◌, ◌<◌, ◌^◌, [], ◌∷◌, length, map, true, IfOk, OnOk, IfErr, Some};
+ghost use Rattle.std.specs.Prelude.{◌≡◌, ◌≤◌, ◌<◌, ◌^◌, [], ◌∷◌, length, map, true, None, IfOk, OnOk, IfErr};
 ghost use Rattle.mufom_module.specs.Bare.{bare_parts};
 ghost use Rattle.mufom_module.specs.Written.{weight};
 ghost use Rattle.mufom_plan.specs.Names.{has_name};
 ghost use Rattle.mufom_meaning.specs.Flat.{public_names};
-ghost use Rattle.mufom_prune.specs.Kept.{IsKept, named};
+ghost use Rattle.mufom_prune.specs.Kept.{IsKeptFor};
 ghost use Rattle.mufom_prune.specs.Pruned.{IsPruned, marks_of_all, new_public, positions_of, remaining, remains, without_others};
-ghost use Rattle.mufom_prune.specs.Marked.{IsPrunedWithMarks};
-ghost use Rattle.mufom_prune.specs.Refusals.{IsRefusalOf};
+ghost use Rattle.mufom_prune.specs.Marked.{IsPrunedWithMarks, IsPrunedWithMarksFor};
+ghost use Rattle.mufom_prune.specs.Refusals.{first_unknown as unknown_in, IsRefusalFor, IsRefusalOf};
 ghost use Rattle.mufom_prune.specs.Steps.{entry_count, with_names};
 
-use crate::needs::{index_publics, needs, roots};
+use crate::needs::{first_unknown, index_publics, needs, roots};
 use crate::positions::{NewPositions, new_positions};
 use crate::reach::reach;
 use crate::refusal::PruneRefusal;
@@ -25,7 +25,7 @@ use mufom_names::{NameIndex, NameTable};
 use mufom_numbers::{Bytes, NoMemory};
 use std::alloc::Global;
 
-/// The result of [`prune_with_marks`].
+/// The result of [`prune_for`].
 #[derive(Drop)]
 pub struct Pruned {
     /// The module that is left.
@@ -36,21 +36,38 @@ pub struct Pruned {
     pub publics: Vec<bool>,
 }
 
-// A mark for each entry, which is set if the entry is kept for the public with the name.
+// Returns the first of the names that no public has, as an error.
+fn check_names(
+    alloc: Global,
+    parts: &Parts,
+    publics: &NameIndex<'_>,
+    names: &[Bytes],
+) -> Result<(), PruneRefusal>
+    requires { publics.now ≡ with_names [] (length parts.now.sections) parts.now.names.publics }
+    ensures known { OnOk result (unknown_in parts.now names.now ≡ None) }
+    ensures refused { IfErr result (IsRefusalFor parts.now names.now) }
+{
+    match first_unknown(publics, names) {
+        Some(name) => Err(PruneRefusal::Unknown(copy_bytes(alloc, name)?)),
+        None => Ok(()),
+    }
+}
+
+// A mark for each entry, which is set if the entry is kept for the publics with these names, if sections with
+// the names in `stays` always stay.
 fn kept(
     alloc: Global,
     parts: &Parts,
     publics: &NameIndex<'_>,
-    entry: u32,
-    keep: &[u8],
+    names: &[Bytes],
+    stays: &[Bytes],
 ) -> Result<Vec<bool>, NoMemory>
     requires few { entry_count parts.now < 2 ^ 32 }
     requires index { publics.now ≡ with_names [] (length parts.now.sections) parts.now.names.publics }
-    requires named { named parts.now keep.now ≡ Some entry }
-    ensures { IfOk result (λ marks. IsKept parts.now keep.now marks.items) }
+    ensures { IfOk result (λ marks. IsKeptFor parts.now names.now stays.now marks.items) }
 {
     let needs = needs(alloc, parts, publics)?;
-    let roots = roots(alloc, parts, entry, keep)?;
+    let roots = roots(alloc, parts, publics, names, stays)?;
     reach(alloc, &needs, roots.as_slice())
 }
 
@@ -159,23 +176,36 @@ fn copy_marks(
     Ok((sections, publics))
 }
 
-/// Copies a module without what a public symbol does not need, and marks each section and each public of the
-/// module that is left. [`prune`] returns the module alone.
+/// Copies a module without what public symbols do not need, and marks each section and each public of the
+/// module that is left.
+///
+/// The sections with a base, those with one of the names in `stays`, the publics with the names in `names`, and
+/// what the start mentions are kept, and so is everything that a kept entry mentions: in the value of a public,
+/// or in the loads of a section. An `X` variable mentions the public with its reference's name, if there is one.
+/// In addition, a weak reference of a size above 0 remains if a kept reference has its name. The positions are
+/// those of the new lists; debug items are left out, and everything else is unchanged and in the same order. The
+/// copy weighs no more than the module, which stays as it is.
 ///
 /// The marks give the positions that the remaining entries had in the whole module: the n-th entry that is
-/// left was at the position of the n-th set mark. Errors are those of [`prune`].
-pub fn prune_with_marks(alloc: Global, module: &Module, keep: &[u8]) -> Result<Pruned, PruneRefusal>
-    ensures pruned { IfOk result (λ left. IsPrunedWithMarks left «module».now keep.now) }
-    ensures known { IfOk result (λ _. has_name (public_names («module».now ∷ [])) keep.now ≡ true) }
-    ensures refused { IfErr result (λ e. IsRefusalOf «module».now keep.now e) }
+/// left was at the position of the n-th set mark.
+///
+/// If some of the names are those of no public, and only then, the error is `Unknown` with the first of them. A
+/// name in `stays` that no section has changes nothing. `NoMemory` may be returned for any module.
+pub fn prune_for(
+    alloc: Global,
+    module: &Module,
+    names: &[Bytes],
+    stays: &[Bytes],
+) -> Result<Pruned, PruneRefusal>
+    ensures pruned { IfOk result (λ left. IsPrunedWithMarksFor left «module».now names.now stays.now) }
+    ensures known { IfOk result (λ _. unknown_in «module».now names.now ≡ None) }
+    ensures refused { IfErr result (λ e. IsRefusalFor «module».now names.now e) }
     ensures weighs { IfOk result (λ left. weight left.«module» ≤ weight «module».now) }
 {
     let parts = module.parts();
     let publics = index_publics(alloc, parts)?;
-    let Some(entry) = publics.find(keep) else {
-        return Err(PruneRefusal::Unknown(Bytes::from_slice(alloc, keep)?));
-    };
-    let marks = kept(alloc, parts, &publics, entry, keep)?;
+    check_names(alloc, parts, &publics, names)?;
+    let marks = kept(alloc, parts, &publics, names, stays)?;
     let rest = remaining_parts(alloc, parts, &marks)?;
     let (sections, publics) = copy_marks(alloc, parts, &marks)?;
     Ok(Pruned {
@@ -185,15 +215,20 @@ pub fn prune_with_marks(alloc: Global, module: &Module, keep: &[u8]) -> Result<P
     })
 }
 
-/// Copies a module without what a public symbol does not need. The copy has the sections, publics, references
-/// and loads that are kept for the public with this name.
-///
-/// The sections with a base, the public, and what the start mentions are kept, and so is everything that a
-/// kept entry mentions: in the value of a public, or in the loads of a section. An `X` variable mentions the
-/// public with its reference's name, if there is one. In addition, a weak reference of a size above 0 remains
-/// if a kept reference has its name. The positions are those of the new lists; debug items are left out, and
-/// everything else is unchanged and in the same order. The copy weighs no more than the module, which stays
-/// as it is.
+/// Copies a module without what one public symbol does not need, and marks what is left, as [`prune_for`] does
+/// for the one name. [`prune`] returns the module alone.
+pub fn prune_with_marks(alloc: Global, module: &Module, keep: &[u8]) -> Result<Pruned, PruneRefusal>
+    ensures pruned { IfOk result (λ left. IsPrunedWithMarks left «module».now keep.now) }
+    ensures known { IfOk result (λ _. has_name (public_names («module».now ∷ [])) keep.now ≡ true) }
+    ensures refused { IfErr result (λ e. IsRefusalOf «module».now keep.now e) }
+    ensures weighs { IfOk result (λ left. weight left.«module» ≤ weight «module».now) }
+{
+    let names = [Bytes::from_slice(alloc, keep)?];
+    prune_for(alloc, module, &names, &[])
+}
+
+/// Copies a module without what one public symbol does not need: the copy that [`prune_for`] makes for the one
+/// name.
 ///
 /// If no public has the name, and only then, the error is `Unknown` with the name. `NoMemory` may be returned
 /// for any module.

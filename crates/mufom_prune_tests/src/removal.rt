@@ -5,7 +5,7 @@ use mufom_loads::{Item, Load};
 use mufom_module::{Module, Order, Parts, assemble};
 use mufom_names::{Public, Reference};
 use mufom_numbers::{Bytes, List};
-use mufom_prune::{PruneRefusal, prune, prune_with_marks};
+use mufom_prune::{PruneRefusal, prune, prune_for, prune_with_marks};
 use mufom_sections::Section;
 use std::alloc::Global;
 use std::process::Abort;
@@ -186,4 +186,55 @@ fn a_section_with_a_base_is_kept_and_marked(rt: HostRuntime) {
         }
         Err(_) => panic!(rt; "main is refused"),
     }
+}
+
+// What is left for these names of publics, if the sections with these other names always stay: a mark for each
+// section and each public, or the name that no public has.
+fn left_for(rt: &impl Abort, alloc: Global, names: &[&[u8]], stays: &[&[u8]]) -> String {
+    let mut kept = List::new(alloc);
+    for name in names {
+        kept.push(text(rt, alloc, name)).expect(rt, "memory");
+    }
+    let mut staying = List::new(alloc);
+    for name in stays {
+        staying.push(text(rt, alloc, name)).expect(rt, "memory");
+    }
+    let module = program(rt, alloc);
+    match prune_for(alloc, &module, kept.as_slice(), staying.as_slice()) {
+        Ok(left) => {
+            let (sections, publics) = (left.sections, left.publics);
+            format!(in alloc; "{sections:?} {publics:?}").expect(rt, "memory")
+        }
+        Err(refusal) => format!(in alloc; "{refusal:?}").expect(rt, "memory"),
+    }
+}
+
+#[test]
+fn several_names_and_sections_are_kept(rt: HostRuntime) {
+    let alloc = rt.alloc();
+    let (main, u, y, z): (&[u8], &[u8], &[u8], &[u8]) = (b"main", b"u", b"y", b"z");
+    let (b, none): (&[u8], &[u8]) = (b"b", b"none");
+    let all = "[true, true, true] [true, true]";
+    assert_eq!(rt;
+        left_for(&rt, alloc, &[main, u], &[]).as_str(),
+        all,
+        "both names"
+    );
+    let once = "[true, false, true] [true, false]";
+    assert_eq!(rt;
+        left_for(&rt, alloc, &[main, main], &[]).as_str(),
+        once,
+        "a name twice"
+    );
+    let second = "[true, true, true] [true, false]";
+    let staying = left_for(&rt, alloc, &[main], &[b, none, b]);
+    assert_eq!(rt; staying.as_str(), second, "a section that stays");
+    let alone = "[false, true, false] [false, false]";
+    assert_eq!(rt; left_for(&rt, alloc, &[], &[b]).as_str(), alone, "no name");
+    let first = "Unknown(Bytes { held: [122] })";
+    assert_eq!(rt;
+        left_for(&rt, alloc, &[main, z, y], &[]).as_str(),
+        first,
+        "unknown names"
+    );
 }

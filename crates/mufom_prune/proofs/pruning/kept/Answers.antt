@@ -16,4 +16,4 @@ reach-requires-clause-rooted c =
     let its = c.deref.ensures.value ∙ c.in_ok-needs.ensures in
     let theirs = c.as_slice.ensures ∙ c.in_ok-roots.ensures in
     subst (AreBelow (length c.deref.result.now)) (sym theirs)
-    (subst (λ k. AreBelow k (roots m c.args.keep.now)) (sym (ap length its ∙ length-needs m)) (roots-inside m c.args.keep.now))
+    (subst (λ k. AreBelow k (roots m c.args.names.now c.args.stays.now)) (sym (ap length its ∙ length-needs m)) (roots-inside m c.args.names.now c.args.stays.now))

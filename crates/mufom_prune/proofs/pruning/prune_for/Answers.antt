@@ -1,15 +1,14 @@
 use Rattle.std.proofs.Common.{◌<◌, ◌≤◌, ◌^◌, ap, sym, subst, ◌∙◌, length}
 use Rattle.mufom_module.specs.declared.module.Parts.{Parts}
-use Rattle.mufom_names.specs.Index.{position_of}
 use Rattle.mufom_module.specs.Defects.{IsValid}
 use Rattle.mufom_module.specs.Written.{weight}
-use Rattle.mufom_prune.specs.Kept.{IsKept, named}
+use Rattle.mufom_prune.specs.Kept.{IsKeptFor}
 use Rattle.mufom_prune.specs.Pruned.{remains, without_others}
 use Rattle.mufom_prune.specs.Steps.{entry_count}
-use Rattle.mufom_prune.proofs.NeedLaws.{few_entries, finds_named, length-needs, none_named, some_named}
+use Rattle.mufom_prune.proofs.NeedLaws.{few_entries, length-needs}
 use Rattle.mufom_prune.proofs.PrunedValid.{pruned_valid}
 use Rattle.mufom_prune.proofs.PrunedWeight.{pruned_weighs}
-use Rattle.mufom_prune.proofs.pruning.prune_with_marks.Goals as goal
+use Rattle.mufom_prune.proofs.pruning.prune_for.Goals as goal
 
 pub index_publics-requires : goal.index_publics-requires
 index_publics-requires c = subst (λ (m : Parts). entry_count m < 2 ^ 32) (sym c.parts-parts.ensures.same)
@@ -23,35 +22,11 @@ pub remaining_parts-requires-clause-few : goal.remaining_parts-requires-clause-f
 remaining_parts-requires-clause-few c = subst (λ (m : Parts). entry_count m < 2 ^ 32) (sym c.parts-parts.ensures.same)
     (few_entries c.args.module.now c.parts-parts.ensures.valid)
 
-pub returns-in_default-clause-refused : goal.returns-in_default-clause-refused
-returns-in_default-clause-refused c =
-    let m = c.parts-parts.result.now in
-    let keep = c.args.keep.now in
-    let found = sym (finds_named m keep) ∙ ap (λ es. position_of es keep) (sym c.in_ok-publics.ensures) ∙ sym c.in_default.ensures.value in (
-      c.in_ok-from_slice.ensures,
-      none_named (length c.args.module.now.sections) c.args.module.now.names.publics keep
-          (ap (λ (m : Parts). named m keep) (sym c.parts-parts.ensures.same) ∙ found),
-    )
-
-pub kept-requires-clause-named : goal.kept-requires-clause-named
-kept-requires-clause-named c =
-    let m = c.parts-parts.result.now in
-    let keep = c.args.keep.now in
-    sym (finds_named m keep) ∙ ap (λ es. position_of es keep) (sym c.in_ok-publics.ensures) ∙ sym c.in-Some.ensures.value
-
 pub remaining_parts-requires-clause-sized : goal.remaining_parts-requires-clause-sized
 remaining_parts-requires-clause-sized c = ap length c.deref.ensures.value ∙ c.in_ok-marks.ensures.sized ∙ length-needs c.parts-parts.result.now
 
 pub copy_marks-requires : goal.copy_marks-requires
 copy_marks-requires c = ap length c.deref-2.ensures.value ∙ c.in_ok-marks.ensures.sized ∙ length-needs c.parts-parts.result.now
-
-pub returns-clause-known : goal.returns-clause-known
-returns-clause-known c =
-    let m = c.parts-parts.result.now in
-    let keep = c.args.keep.now in
-    let found = sym (finds_named m keep) ∙ ap (λ es. position_of es keep) (sym c.in_ok-publics.ensures) ∙ sym c.in-Some.ensures.value in
-    some_named (length c.args.module.now.sections) c.args.module.now.names.publics keep c.in-Some.entry
-    (ap (λ (m : Parts). named m keep) (sym c.parts-parts.ensures.same) ∙ found)
 
 pub sound-requires : goal.sound-requires
 sound-requires c =
@@ -60,7 +35,7 @@ sound-requires c =
     let valid = subst IsValid (sym c.parts-parts.ensures.same) c.parts-parts.ensures.valid in
     let marks = c.in_ok-marks.marks.items in
     let rest = c.in_ok-rest.ensures ∙ ap (λ its. without_others m (remains m its)) c.deref.ensures.value in
-    subst IsValid (sym rest) (pruned_valid m c.args.keep.now marks kept valid)
+    subst IsValid (sym rest) (pruned_valid m c.args.names.now c.args.stays.now marks kept valid)
 
 pub returns-clause-weighs : goal.returns-clause-weighs
 returns-clause-weighs c =
@@ -77,7 +52,11 @@ returns-clause-pruned c =
     let given = c.deref.ensures.value in let again = c.deref-2.ensures.value in
     let rest = c.sound.ensures.same ∙ c.in_ok-rest.ensures ∙ (λ i. without_others (own i) (remains (own i) (given i))) in
     record {
-      pruned = record { marks = marks; kept = subst (λ (m : Parts). IsKept m c.args.keep.now marks) own c.in_ok-marks.ensures; is = rest };
+      pruned = record {
+        marks = marks;
+        kept = subst (λ (m : Parts). IsKeptFor m c.args.names.now c.args.stays.now marks) own c.in_ok-marks.ensures;
+        is = rest;
+      };
       sections = c.in_ok-sections.ensures.0 ∙ (λ i. (remains (own i) (again i)).sections);
       publics = c.in_ok-sections.ensures.1 ∙ (λ i. (remains (own i) (again i)).publics);
     }
