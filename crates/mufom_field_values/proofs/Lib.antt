@@ -1,0 +1,4 @@
+pub mod WalkLaws
+pub mod FindLaws
+pub mod LineLaws
+mod Rows

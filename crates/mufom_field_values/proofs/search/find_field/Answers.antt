@@ -1,0 +1,34 @@
+use Rattle.std.proofs.Common.{◌≡◌, ◌∙◌, [], ◌∷◌, refl, ap}
+use Rattle.mufom_module.specs.declared.module.Parts.{Parts}
+use Rattle.mufom_meaning.specs.Placed.{extended_sections}
+use Rattle.mufom_image.specs.Placements.{ArePlaced}
+use Rattle.mufom_image.proofs.PlannedLaws.{graph-placed}
+use Rattle.mufom_image.proofs.ReadyLaws.{placed-count}
+use Rattle.mufom_field_values.proofs.FindLaws.{field-found, found-placed}
+use Rattle.mufom_field_values.proofs.search.find_field.Goals as goal
+
+pub placed_module-placed-requires : goal.placed_module-placed-requires
+placed_module-placed-requires c =
+    let m = c.args.object.now in let plan = c.args.plan.now in
+    let there : ArePlaced m plan (extended_sections (m ∷ []) plan) c.as_slice.result.now
+    = record { none = c.requires.placed; sections = refl; bases = c.as_slice.ensures ∙ c.in_ok-bases.ensures } in
+    placed-count m plan (extended_sections (m ∷ []) plan) c.as_slice.result.now there
+
+pub components_of-requires : goal.components_of-requires
+components_of-requires c = graph-placed _ _ _ _ c.placed_module-placed.ensures c.requires.names c.requires.met
+
+pub public_values-requires : goal.public_values-requires
+public_values-requires c = found-placed _ _ _ _ c.placed_module-placed.ensures c.requires.names c.requires.met c.requires.acyclic
+
+pub search_loads-requires-clause-placed : goal.search_loads-requires-clause-placed
+search_loads-requires-clause-placed c = found-placed _ _ _ _ c.placed_module-placed.ensures c.requires.names c.requires.met c.requires.acyclic
+
+pub returns : goal.returns
+returns c =
+    let m = c.args.object.now in let plan = c.args.plan.now in
+    let there : ArePlaced m plan (extended_sections (m ∷ []) plan) c.as_slice.result.now
+    = record { none = c.requires.placed; sections = refl; bases = c.as_slice.ensures ∙ c.in_ok-bases.ensures } in
+    let loads : c.as_slice-3.result.now ≡ m.loads = c.as_slice-3.ensures ∙ ap (λ (x : Parts). x.loads) c.parts.ensures.same in
+    c.search_loads.ensures
+    ∙ field-found _ _ _ _ c.placed_module-placed.ensures c.requires.names plan (extended_sections (m ∷ []) plan) there c.as_slice-3.result.now loads
+    c.args.section c.args.address

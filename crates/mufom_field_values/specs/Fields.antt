@@ -1,0 +1,38 @@
+-- The field that a module loads into a section at an address, once a plan places its sections.
+use Rattle.std.specs.Prelude.{ℕ, ◌==◌, ◌&&◌, List, [], ◌∷◌, Bool, false, Option, Some, None, if◌then◌else◌}
+use Rattle.mufom_expr.specs.Tree.{Tree}
+use Rattle.mufom_loads.specs.declared.load.Item.{Item}
+use Rattle.mufom_loads.specs.declared.load.Item.TheVariants.{Literal, Field}
+use Rattle.mufom_module.specs.declared.module.Parts.{Parts}
+use Rattle.mufom_plan.specs.declared.plan.Plan.{Plan}
+use Rattle.mufom_place.specs.Facts.{◌or_else◌}
+use Rattle.mufom_meaning.specs.Placed.{planned_bases}
+use Rattle.mufom_meaning.specs.Steps.{Step, counter_step, item_step, counter, steps}
+use Rattle.mufom_meaning.specs.Values.{Setting, setting}
+
+-- the expression of an item, if it is a field
+abbrev pub field_tree : Item → Option Tree
+field_tree (Literal bytes) = None
+field_tree (Field kind size t) = Some t
+
+-- a program counter is this address
+abbrev pub is_at : ℕ → Option ℕ → Bool
+is_at address None = false
+is_at address (Some at) = at == address
+
+-- the expression of the field that a step loads into the section at the address, after the steps before it, the latest first
+abbrev pub field_step : Setting → ℕ → ℕ → List Step → Step → Option Tree
+field_step s section address earlier (counter_step site other t) = None
+field_step s section address earlier (item_step site other item) =
+    if (other == section) && is_at address (counter s earlier section) then field_tree item else None
+
+-- the first such field of some steps, after those before them
+abbrev pub first_field : Setting → ℕ → ℕ → List Step → List Step → Option Tree
+first_field s section address earlier [] = None
+first_field s section address earlier (step ∷ more) =
+    field_step s section address earlier step or_else first_field s section address (step ∷ earlier) more
+
+-- The expression of the first field that the module loads into the section at the address, if there is one. Where a value does not fit the field at
+-- an address, or divides by zero there, no other item has a byte at this address before it.
+abbrev pub field_of : Parts → Plan → ℕ → ℕ → Option Tree
+field_of m plan section address = first_field (setting (m ∷ []) (planned_bases (m ∷ []) plan)) section address [] (steps (m ∷ []))
