@@ -58,7 +58,7 @@ abbrev second : Parts
 second = record first { name = codes "b"; names = record { publics = []; references = common 6 ∷ [] } }
 
 abbrev plan : Plan
-plan = record { regions = record { name = codes "ram"; base = 256; size = 13; sections = codes "t" ∷ []; common = true } ∷ [] }
+plan = record { regions = record { name = codes "ram"; base = 256; size = 13; sections = codes "t" ∷ []; common = true; load = None } ∷ []; symbols = []; keep = [] }
 
 abbrev files : FileNames
 files = codes "a.695" ∷ codes "b.695" ∷ []
@@ -111,7 +111,7 @@ lacking = record {
   origins = origins_of ((0, root) ∷ (2, member) ∷ []);
   maus = 4;
   modules = root ∷ member ∷ [];
-  plan = record { regions = [] };
+  plan = record { regions = []; symbols = []; keep = [] };
 }
 
 undefined_is : locate_details lacking (Undefined (codes "z"))
@@ -142,7 +142,7 @@ bordered = record {
   origins = origins_of many;
   maus = 2;
   modules = empty ∷ small ∷ empty ∷ small ∷ [];
-  plan = record { regions = [] };
+  plan = record { regions = []; symbols = []; keep = [] };
 }
 
 -- the last section of one module and the first of the next that has sections; the file of a member is not its place

@@ -1,5 +1,5 @@
 -- The lines that say what the numbers of an error line refer to: a file, the plan, a module, a section or a common.
-use Rattle.std.specs.Prelude.{ℕ, List, [], ◌++◌, map, Option, Some, None, Bool, ◌&&◌, slice_get, slice_index_or, codes, if◌then◌else◌}
+use Rattle.std.specs.Prelude.{ℕ, List, [], ◌++◌, map, Option, Some, None, Bool, ◌&&◌, slice_get, codes, if◌then◌else◌}
 use Rattle.std.specs.List.{list_any}
 use Rattle.std.specs.Str.{bytes_eq}
 use Rattle.mufom_sections.specs.declared.section.Section.{Section}
@@ -11,16 +11,10 @@ use Rattle.mufom_origins.specs.declared.origins.Origin.{Origin}
 use Rattle.mufom_origins.specs.Origins.{FileModule}
 use Rattle.mufom_origins.specs.Places.{module_in}
 use Rattle.mufom_text.specs.Digits.{counted, hex}
+-- a module by its position in the flat list, with the number of its file and its name
+pub use Rattle.mufom_origins.specs.Words.{FileNames, file_name, module_text}
 
 -- ---- files
-
--- the names of files, as they were given
-abbrev pub FileNames : Type 0
-FileNames = List (List ℕ)
-
--- the name of the file with a number
-abbrev pub file_name : FileNames → ℕ → List ℕ
-file_name names n = slice_index_or names n []
 
 abbrev pub file_line : FileNames → ℕ → Text
 file_line names n = line (counted (codes "file ") n ++ (codes ": " ++ quoted (file_name names n)))
@@ -29,11 +23,6 @@ abbrev pub plan_line : List ℕ → Text
 plan_line name = line (codes "plan: " ++ quoted name)
 
 -- ---- modules
-
--- a module by its position in the flat list, with the number of its file and its name
-abbrev pub module_text : FileNames → ℕ → ℕ → List ℕ → Text
-module_text names j file name = counted (codes "module ") j ++ (codes " " ++ (quoted name ++ (counted (codes " file ") file
-    ++ (codes ": " ++ quoted (file_name names file)))))
 
 abbrev pub module_line : FileNames → ℕ → FileModule → Text
 module_line names j f = line (module_text names j f.0 f.1.name)

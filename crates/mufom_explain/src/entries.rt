@@ -9,11 +9,11 @@ ghost use Rattle.mufom_explain.specs.Flat.{file_module, flat_of};
 ghost use Rattle.mufom_explain.specs.Lines.{asking_line, asks_by, asks_for, base_text, common_lines, described, module_line, origin_text};
 ghost use Rattle.mufom_explain.specs.Lines.{place_text, section_line};
 
-use crate::modules::{FlatModule, module_line, module_text};
+use crate::modules::{FlatModule, module_line};
 use mufom_module::Parts;
 use mufom_names::Reference;
 use mufom_numbers::Text;
-use mufom_origins::{Origin, Origins, Place};
+use mufom_origins::{Origin, Origins, Place, module_text};
 use mufom_sections::Section;
 use mufom_text::{Output, counted, hex, quoted};
 

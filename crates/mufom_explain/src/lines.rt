@@ -1,20 +1,11 @@
 //! The lines of a file and of the plan.
 
 ghost use Rattle.std.specs.Prelude.{◌≡◌, ◌++◌};
-ghost use Rattle.mufom_explain.specs.Lines.{file_line, file_name, plan_line};
+ghost use Rattle.mufom_explain.specs.Lines.{file_line, plan_line};
 
 use mufom_numbers::Text;
+use mufom_origins::file_name;
 use mufom_text::{Output, counted, quoted};
-
-/// Returns the name of the file with a number, as it was given; empty past the last file.
-pub(crate) fn file_name(names: &[Text], number: u32) -> &[u8]
-    ensures { result.now ≡ file_name names.now number }
-{
-    match names.get(number as usize) {
-        Some(name) => name.as_str().as_bytes(),
-        None => &[],
-    }
-}
 
 /// Puts the line of the file with a number, as in `file 2: "b.695"`. `names` are the names of all files.
 pub fn file_line<K: Output>(out: &mut K, names: &[Text], number: u32)

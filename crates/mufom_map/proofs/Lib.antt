@@ -5,4 +5,7 @@ pub mod KeyLaws
 pub mod ShownLaws
 pub mod OrderedLaws
 pub mod LocatedLaws
+pub mod UnusedLaws
+pub mod SpotLaws
+pub mod NearLaws
 mod Rows

@@ -13,9 +13,12 @@ use Rattle.mufom_origins.specs.Origins.{numbered}
 use Rattle.mufom_origins.specs.Places.{with_chosen}
 use Rattle.mufom_text.specs.Words.{line}
 use Rattle.mufom_map.specs.Mapped.{mapped}
-use Rattle.mufom_map.specs.MapText.{map_text}
+use Rattle.mufom_map.specs.MapText.{address_text, map_text}
 use Rattle.mufom_text.specs.Digits.{hex}
 use Rattle.mufom_map.specs.Room.{signs_from}
+
+abbrev files : List (List ℕ)
+files = codes "a.695" ∷ codes "b.695" ∷ codes "m1" ∷ []
 
 abbrev first : Parts
 first = record {
@@ -42,7 +45,7 @@ second = record first {
 }
 
 abbrev plan : Plan
-plan = record { regions = record { name = codes "ram"; base = 256; size = 64; sections = codes "t" ∷ []; common = true } ∷ [] }
+plan = record { regions = record { name = codes "ram"; base = 256; size = 64; sections = codes "t" ∷ []; common = true; load = None } ∷ []; symbols = []; keep = [] }
 
 abbrev place : LocatedParts
 place = record {
@@ -57,8 +60,8 @@ place = record {
   debug = [];
 }
 
-map_is : map_text (mapped (numbered (first ∷ second ∷ [])) plan place)
-    ≡ line (codes "module 0 \"a\" file 0") ++ (line (codes "module 1 \"b\" file 1")
+map_is : map_text files (mapped (numbered (first ∷ second ∷ [])) plan place)
+    ≡ line (codes "module 0 \"a\" file 0: \"a.695\"") ++ (line (codes "module 1 \"b\" file 1: \"b.695\"")
     ++ (line (codes "region 0 \"ram\" at 00000100 size 64 used 14 free 50 [#######.........................]")
     ++ (line (codes "section 0 00000100 size 4 align 4 \"t\" module 0 region 0") ++ (line (codes "section 1 00000104 size 4 align 4 \"t\" module 1 region 0")
     ++ (line (codes "common 2 00000108 size 6 align 8 \"c\" region 0") ++ (line (codes "public 00000108 \"end\" module 1")
@@ -78,19 +81,19 @@ abbrev started : LocatedParts
 started = record place { publics = []; runs = record { address = 4096; bytes = 1 ∷ 2 ∷ 3 ∷ 4 ∷ [] } ∷ []; start = Some 4096 }
 
 abbrev around : Plan
-around = record { regions = record { name = codes "rom"; base = 4090; size = 320; sections = codes "*" ∷ []; common = false } ∷ [] }
+around = record { regions = record { name = codes "rom"; base = 4090; size = 320; sections = codes "*" ∷ []; common = false; load = None } ∷ []; symbols = []; keep = [] }
 
 abbrev with_start : Parts
 with_start = record absolute { name = codes "A"; start = Some (variable R 0) }
 
-no_plan : map_text (mapped (numbered (with_start ∷ [])) (record { regions = [] }) started)
-    ≡ line (codes "module 0 \"A\" file 0") ++ (line (codes "section 0 00001000 size 4 align 2 \"code\" module 0") ++ (line (codes "start 00001000 module 0")
+no_plan : map_text files (mapped (numbered (with_start ∷ [])) (record { regions = []; symbols = []; keep = [] }) started)
+    ≡ line (codes "module 0 \"A\" file 0: \"a.695\"") ++ (line (codes "section 0 00001000 size 4 align 2 \"code\" module 0") ++ (line (codes "start 00001000 module 0")
     ++ line (codes "sections 1 bytes 4 loaded 4")))
 unfolding hex_on_literals digits signs_from
 no_plan = refl
 
-own_base : map_text (mapped (numbered (with_start ∷ [])) around started)
-    ≡ line (codes "module 0 \"A\" file 0") ++ (line (codes "region 0 \"rom\" at 00000FFA size 320 used 4 free 316 [+...............................]")
+own_base : map_text files (mapped (numbered (with_start ∷ [])) around started)
+    ≡ line (codes "module 0 \"A\" file 0: \"a.695\"") ++ (line (codes "region 0 \"rom\" at 00000FFA size 320 used 4 free 316 [+...............................]")
     ++ (line (codes "section 0 00001000 size 4 align 2 \"code\" module 0") ++ (line (codes "start 00001000 module 0")
     ++ line (codes "sections 1 bytes 4 loaded 4"))))
 unfolding hex_on_literals digits signs_from
@@ -112,10 +115,10 @@ defines name public = record first {
 abbrev values : LocatedParts
 values = record place { publics = record { name = codes "f"; value = 0; notes = [] } ∷ record { name = codes "g"; value = 0; notes = [] } ∷ []; runs = [] }
 
-selected : map_text (mapped (with_chosen 1 (1 ∷ []) (numbered (defines (codes "r") (codes "f") ∷ defines (codes "m0") (codes "h")
+selected : map_text files (mapped (with_chosen 1 (1 ∷ []) (numbered (defines (codes "r") (codes "f") ∷ defines (codes "m0") (codes "h")
     ∷ defines (codes "m1") (codes "g") ∷ [])))
-    (record { regions = [] }) values)
-    ≡ line (codes "module 0 \"r\" file 0") ++ (line (codes "module 1 \"m1\" file 2") ++ (line (codes "public 00000000 \"f\" module 0")
+    (record { regions = []; symbols = []; keep = [] }) values)
+    ≡ line (codes "module 0 \"r\" file 0: \"a.695\"") ++ (line (codes "module 1 \"m1\" file 2: \"m1\"") ++ (line (codes "public 00000000 \"f\" module 0")
     ++ (line (codes "public 00000000 \"g\" module 1") ++ line (codes "sections 0 bytes 0 loaded 0"))))
 unfolding hex_on_literals digits signs_from
 selected = refl
@@ -154,10 +157,67 @@ spread = record place {
   runs = [];
 }
 
-by_address : map_text (mapped (numbered (apart ∷ [])) (record { regions = [] }) spread)
-    ≡ line (codes "module 0 \"a\" file 0") ++ (line (codes "section 1 00000100 size 1 align 1 \"low\" module 0")
+by_address : map_text files (mapped (numbered (apart ∷ [])) (record { regions = []; symbols = []; keep = [] }) spread)
+    ≡ line (codes "module 0 \"a\" file 0: \"a.695\"") ++ (line (codes "section 1 00000100 size 1 align 1 \"low\" module 0")
     ++ (line (codes "section 0 00000200 size 2 align 1 \"high\" module 0") ++ (line (codes "public 00000010 \"b\" module 0")
     ++ (line (codes "public 00000030 \"a\" module 0") ++ (line (codes "public 00000030 \"c\" module 0")
     ++ line (codes "sections 2 bytes 3 loaded 0"))))))
 unfolding hex_on_literals digits signs_from
 by_address = refl
+
+-- ---- entries that place no section: the second is the name of a section with a base of its own
+
+abbrev spelled : Plan
+spelled = record {
+  regions = record {
+    name = codes "ram";
+    base = 256;
+    size = 64;
+    sections = codes "tt" ∷ codes "code" ∷ codes "t" ∷ codes "*" ∷ [];
+    common = true;
+    load = None;
+  }
+      ∷ [];
+  symbols = [];
+  keep = [];
+}
+
+unused_are : map_text files (mapped (numbered (with_start ∷ record second { names = record { publics = []; references = [] } } ∷ [])) spelled started)
+    ≡ line (codes "module 0 \"A\" file 0: \"a.695\"") ++ (line (codes "module 1 \"b\" file 1: \"b.695\"")
+    ++ (line (codes "region 0 \"ram\" at 00000100 size 64 used 4 free 60 [##..............................]")
+    ++ (line (codes "unused region 0 \"tt\"") ++ (line (codes "unused region 0 \"code\"")
+    ++ (line (codes "section 1 00000100 size 4 align 4 \"t\" module 1 region 0") ++ (line (codes "section 0 00001000 size 4 align 2 \"code\" module 0")
+    ++ (line (codes "start 00001000 module 0") ++ line (codes "sections 2 bytes 8 loaded 4"))))))))
+unfolding hex_on_literals digits signs_from
+unused_are = refl
+
+-- ---- one address
+
+address_of_a_common : address_text 266 (mapped (numbered (first ∷ second ∷ [])) plan place)
+    ≡ line (codes "common 2 00000108 size 6 align 8 \"c\" region 0") ++ line (codes "public 00000108 \"end\" module 1 offset 2")
+unfolding hex_on_literals digits
+address_of_a_common = refl
+
+address_below_a_public : address_text 263 (mapped (numbered (first ∷ second ∷ [])) plan place)
+    ≡ line (codes "section 1 00000104 size 4 align 4 \"t\" module 1 region 0") ++ line (codes "public none")
+unfolding hex_on_literals digits
+address_below_a_public = refl
+
+address_of_no_section : address_text 270 (mapped (numbered (first ∷ second ∷ [])) plan place) ≡ line (codes "section none") ++ line (codes "public none")
+unfolding hex_on_literals digits
+address_of_no_section = refl
+
+abbrev labelled : LocatedParts
+labelled = record place {
+  publics = record { name = codes "a"; value = 514; notes = [] } ∷ record { name = codes "b"; value = 512; notes = [] }
+      ∷ record { name = codes "c"; value = 514; notes = [] } ∷ [];
+  runs = [];
+}
+
+-- the greatest value, and of equal values the first
+first_of_equal_values : address_text 515 (mapped (numbered (record apart {
+  sections = record { name = codes "t"; absolute = true; purpose = None; size = 4; align = 1; base = Some 512 } ∷ [];
+} ∷ [])) (record { regions = []; symbols = []; keep = [] }) labelled)
+    ≡ line (codes "section 0 00000200 size 4 align 1 \"t\" module 0") ++ line (codes "public 00000202 \"a\" module 0 offset 1")
+unfolding hex_on_literals digits
+first_of_equal_values = refl

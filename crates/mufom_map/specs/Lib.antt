@@ -5,3 +5,7 @@ pub mod Points
 pub mod Shown
 pub mod Keys
 pub mod ShownMap
+pub mod Unused
+pub mod UnusedLine
+pub mod Spot
+pub mod Found

@@ -1,12 +1,15 @@
--- The text of a map: modules, regions, sections and commons by address, publics by value, the start, and totals.
+-- The text of a map: modules, regions, entries that place no section, sections and commons by address, publics by value, the start, and totals;
+-- and the lines of one address.
 use Rattle.std.specs.Prelude.{ℕ, ◌-◌, List, [], ◌∷◌, ◌++◌, length, map, flat_map, Option, Some, None, sum_by, nat_lt, codes, if◌then◌else◌}
 use Rattle.mufom_plan.specs.declared.plan.Region.{Region}
 use Rattle.mufom_place.specs.declared.placing.Extent.{Extent}
 use Rattle.mufom_text.specs.Words.{Text, each, line, quoted}
 use Rattle.mufom_text.specs.Digits.{counted, hex}
 use Rattle.mufom_origins.specs.declared.origins.Origin.{Origin}
+use Rattle.mufom_origins.specs.Words.{FileNames, module_text}
 use Rattle.mufom_map.specs.Mapped.{Mapped, MappedPublic, MappedSection}
 use Rattle.mufom_map.specs.Room.{bar, used_in}
+use Rattle.mufom_map.specs.Spot.{public_below, section_at}
 
 -- ---- words
 
@@ -34,8 +37,8 @@ by_key key (x ∷ xs) = put_in key x (by_key key xs)
 
 -- ---- lines
 
-abbrev pub module_line : ℕ → Origin → Text
-module_line j o = line (counted (codes "module ") j ++ (codes " " ++ (quoted o.name ++ counted (codes " file ") o.file)))
+abbrev pub module_line : FileNames → ℕ → Origin → Text
+module_line names j o = line (module_text names j o.file o.name)
 
 abbrev pub extent_of : MappedSection → Extent
 extent_of s = record { base = s.base; section = s.number; size = s.size }
@@ -46,6 +49,13 @@ region_line maus sections k region =
     line (counted (codes "region ") k ++ (codes " " ++ (quoted region.name ++ (codes " at " ++ (hex maus region.base
     ++ (counted (codes " size ") region.size ++ (counted (codes " used ") used ++ (counted (codes " free ") (region.size - used)
     ++ (codes " " ++ bar region sections)))))))))
+
+-- an entry of a region's list that places no section
+abbrev pub unused_line : ℕ → List ℕ → Text
+unused_line k entry = line (counted (codes "unused region ") k ++ (codes " " ++ quoted entry))
+
+abbrev pub unused_lines : ℕ → List (List ℕ) → Text
+unused_lines k entries = flat_map (unused_line k) entries
 
 -- the description of a section or a common, from its number on
 abbrev pub placed_text : ℕ → MappedSection → Text
@@ -60,8 +70,11 @@ kind_word None = codes "common "
 abbrev pub section_line : ℕ → MappedSection → Text
 section_line maus s = line (kind_word s.origin ++ (placed_text maus s ++ (in_module s.origin ++ in_region s.region)))
 
+abbrev pub public_text : ℕ → MappedPublic → Text
+public_text maus p = codes "public " ++ (hex maus p.value ++ (codes " " ++ (quoted p.name ++ in_module p.origin)))
+
 abbrev pub public_line : ℕ → MappedPublic → Text
-public_line maus p = line (codes "public " ++ (hex maus p.value ++ (codes " " ++ (quoted p.name ++ in_module p.origin))))
+public_line maus p = line (public_text maus p)
 
 abbrev pub start_line : ℕ → Option (ℕ × Option ℕ) → Text
 start_line maus None = []
@@ -73,11 +86,34 @@ total_line m = line (counted (codes "sections ") (length m.sections)
 
 -- ---- the whole
 
--- the text of a map: modules and regions in their order, sections and commons by base and then by number, publics by value and then by position
-abbrev pub map_text : Mapped → Text
-map_text m =
-    each module_line m.origins
-    ++ (each (region_line m.maus (map extent_of m.sections)) m.regions
+-- the text of a map, given the names of all files: modules, regions and entries that place no section in their order, sections and commons by base
+-- and then by number, publics by value and then by position
+abbrev pub map_text : FileNames → Mapped → Text
+map_text names m =
+    each (module_line names) m.origins
+    ++ (each (region_line m.maus (map extent_of m.sections)) m.regions ++ (each unused_lines m.unused
     ++ (flat_map (section_line m.maus) (by_key (λ (s : MappedSection). s.base) m.sections)
     ++ (flat_map (public_line m.maus) (by_key (λ (p : MappedPublic). p.value) m.publics)
-    ++ (start_line m.maus m.start ++ total_line m))))
+    ++ (start_line m.maus m.start ++ total_line m)))))
+
+-- ---- one address
+
+-- the line of the section or common that holds the address
+abbrev pub found_section : ℕ → Option MappedSection → Text
+found_section maus None = line (codes "section none")
+found_section maus (Some s) = section_line maus s
+
+-- the line of the nearest public, with the distance of the address from it
+abbrev pub found_public : ℕ → ℕ → Option MappedPublic → Text
+found_public maus address None = line (codes "public none")
+found_public maus address (Some p) = line (public_text maus p ++ counted (codes " offset ") (address - p.value))
+
+-- The lines of an address: the section or common that holds it, and the nearest public in that which is not above it.
+abbrev pub address_text : ℕ → Mapped → Text
+address_text address m = let s = section_at address m.sections in
+    found_section m.maus s ++ found_public m.maus address (public_below address s m.publics)
+
+-- the whole map, or the lines of an address
+abbrev pub view_text : FileNames → Option ℕ → Mapped → Text
+view_text names None m = map_text names m
+view_text names (Some address) m = address_text address m

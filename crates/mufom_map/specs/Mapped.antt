@@ -4,6 +4,7 @@ use Rattle.std.specs.List.{enumerate_from}
 use Rattle.mufom_sections.specs.declared.section.Section.{Section}
 use Rattle.mufom_plan.specs.declared.plan.Plan.{Plan}
 use Rattle.mufom_plan.specs.declared.plan.Region.{Region}
+use Rattle.mufom_plan.specs.Names.{listed_names}
 use Rattle.mufom_place.specs.Bases.{site_of}
 use Rattle.mufom_meaning.specs.declared.located.LocatedParts.{LocatedParts}
 use Rattle.mufom_meaning.specs.declared.located.PublicValue.{PublicValue}
@@ -12,6 +13,7 @@ use Rattle.mufom_meaning.specs.Placed.{placed_commons}
 use Rattle.mufom_origins.specs.declared.origins.Origin.{Origin}
 use Rattle.mufom_origins.specs.Origins.{FileModule, modules_of, origins_of}
 use Rattle.mufom_origins.specs.Places.{module_in}
+use Rattle.mufom_map.specs.Unused.{unused_entries}
 
 -- a section or a common: its number, its properties, its address and region, and the position of its module, which a common does not have
 pub record MappedSection : Type 0 where
@@ -29,12 +31,13 @@ pub record MappedPublic : Type 0 where
   pub value : ℕ
   pub origin : Option ℕ
 
--- the contents of a map: the modules, the regions, the sections followed by the commons, by their numbers, the publics by their positions, the start
--- with the position of its module, and the number of loaded bytes
+-- the contents of a map: the modules, the regions, for each region the entries of its list that place no section, the sections followed by the
+-- commons, by their numbers, the publics by their positions, the start with the position of its module, and the number of loaded bytes
 pub record Mapped : Type 0 where
   pub maus : ℕ
   pub origins : List Origin
   pub regions : List Region
+  pub unused : List (List (List ℕ))
   pub sections : List MappedSection
   pub publics : List MappedPublic
   pub start : Option (ℕ × Option ℕ)
@@ -61,6 +64,7 @@ mapped_by origins plan sections commons r = record {
   maus = r.maus;
   origins = origins;
   regions = plan.regions;
+  unused = map (unused_entries (listed_names plan.regions) sections) plan.regions;
   sections = map (mapped_section origins plan sections commons) (enumerate_from 0 (sections ++ commons));
   publics = map (mapped_public origins) (enumerate_from 0 r.publics);
   start = option_map (λ (a : ℕ). (a, position (λ (o : Origin). o.has_start) origins)) r.start;

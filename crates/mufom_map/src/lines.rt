@@ -1,37 +1,36 @@
 //! The lines of modules, sections, publics and of the start.
 
-ghost use Rattle.std.specs.Prelude.{◌≡◌, ◌+◌, ◌++◌, option_map};
+ghost use Rattle.std.specs.Prelude.{◌≡◌, ◌+◌, ◌++◌, Some, option_map};
 ghost use Rattle.std.specs.Fmt.{decimal};
 ghost use Rattle.mufom_text.specs.Fitting.{IsUnitCount};
 ghost use Rattle.mufom_text.specs.Digits.{counted};
 ghost use Rattle.mufom_text.specs.Words.{each, line};
-ghost use Rattle.mufom_map.specs.MapText.{in_module, in_region, kind_word, module_line, placed_text, public_line, section_line, start_line};
+ghost use Rattle.mufom_map.specs.MapText.{found_public, in_module, in_region, kind_word, module_line, placed_text, public_line, public_text};
+ghost use Rattle.mufom_map.specs.MapText.{section_line, start_line};
 ghost use Rattle.mufom_map.specs.Shown.{base_of};
 
 use crate::room::base_of;
 use mufom_meaning::PublicValue;
-use mufom_origins::Origin;
+use mufom_numbers::Text;
+use mufom_origins::{Origin, module_text};
 use mufom_sections::Section;
 use mufom_text::{Output, counted, hex, quoted};
 
 // ---- modules
 
-fn module_line<K: Output>(out: &mut K, position: usize, origin: &Origin)
-    ensures { K.takes out.old out.new (module_line position origin.now) }
+fn module_line<K: Output>(out: &mut K, names: &[Text], position: usize, origin: &Origin)
+    ensures { K.takes out.old out.new (module_line names.now position origin.now) }
 {
-    counted(out, b"module ", position as u128);
-    out.put(b" ");
-    quoted(out, origin.name.as_slice());
-    counted(out, b" file ", origin.file as u128);
+    module_text(out, names, position, origin.file, &origin.name);
     out.put(b"\n");
 }
 
-/// The lines of modules.
-pub(crate) fn module_lines<K: Output>(out: &mut K, origins: &[Origin])
-    ensures { K.takes out.old out.new (each module_line origins.now) }
+/// The lines of modules. `names` are the names of all files.
+pub(crate) fn module_lines<K: Output>(out: &mut K, names: &[Text], origins: &[Origin])
+    ensures { K.takes out.old out.new (each (module_line names.now) origins.now) }
 {
     for position in 0..origins.len() {
-        module_line(out, position, &origins[position]);
+        module_line(out, names, position, &origins[position]);
     }
 }
 
@@ -118,6 +117,18 @@ pub(crate) fn section_line<K: Output>(
 
 // ---- publics and the start
 
+// A public, with its value.
+fn public_text<K: Output>(out: &mut K, maus: u8, public: &PublicValue, origin: Option<usize>)
+    requires { IsUnitCount maus }
+    ensures { K.takes out.old out.new (public_text maus (record { name = public.now.name; value = public.now.value; origin = origin })) }
+{
+    out.put(b"public ");
+    hex(out, maus, public.value);
+    out.put(b" ");
+    quoted(out, public.name.as_slice());
+    in_module(out, origin);
+}
+
 /// The line of a public.
 pub(crate) fn public_line<K: Output>(
     out: &mut K,
@@ -128,11 +139,28 @@ pub(crate) fn public_line<K: Output>(
     requires { IsUnitCount maus }
     ensures { K.takes out.old out.new (public_line maus (record { name = public.now.name; value = public.now.value; origin = origin })) }
 {
-    out.put(b"public ");
-    hex(out, maus, public.value);
-    out.put(b" ");
-    quoted(out, public.name.as_slice());
-    in_module(out, origin);
+    public_text(out, maus, public, origin);
+    out.put(b"\n");
+}
+
+/// The line of a public, with the distance of an address from its value.
+pub(crate) fn offset_line<K: Output>(
+    out: &mut K,
+    maus: u8,
+    address: u64,
+    public: &PublicValue,
+    origin: Option<usize>,
+)
+    requires { IsUnitCount maus }
+    ensures { K.takes out.old out.new (found_public maus address
+        (Some (record { name = public.now.name; value = public.now.value; origin = origin }))) }
+{
+    public_text(out, maus, public, origin);
+    counted(
+        out,
+        b" offset ",
+        address.saturating_sub(public.value) as u128,
+    );
     out.put(b"\n");
 }
 

@@ -14,6 +14,7 @@ ghost use Rattle.mufom_map.specs.ShownMap.{shown};
 use crate::map::Map;
 use crate::order::{publics_in_order, sections_in_order};
 use crate::room::Room;
+use crate::unused::placed_names;
 use mufom_located::Located;
 use mufom_meaning::LocatedParts;
 use mufom_module::{Module, Parts};
@@ -70,7 +71,7 @@ fn regions_of(
 }
 
 /// Returns the map of the location of a module by a plan. Memory is in proportion to the number of sections
-/// and publics.
+/// and publics, and the bytes of the names of sections.
 pub(crate) fn map_of<'a>(
     alloc: Global,
     origins: &'a Origins,
@@ -87,8 +88,11 @@ pub(crate) fn map_of<'a>(
     let parts = located.parts();
     let sections = parts.sections.as_slice();
     let publics = parts.publics.as_slice();
-    let section_regions = regions_of(alloc, object.parts(), plan, parts)?;
+    let own = object.parts();
+    let own_sections = own.sections.as_slice();
+    let section_regions = regions_of(alloc, own, plan, parts)?;
     let room = Room::of(alloc, sections)?;
+    let placed = placed_names(alloc, own_sections)?;
     let section_order = sections_in_order(alloc, sections)?;
     let public_order = publics_in_order(alloc, publics)?;
     Ok(Map {
@@ -97,6 +101,7 @@ pub(crate) fn map_of<'a>(
         regions: plan.regions.as_slice(),
         room,
         section_regions,
+        placed,
         section_order,
         publics,
         public_order,

@@ -16,18 +16,20 @@ use crate::lines::{module_lines, public_line, section_line, start_line};
 use crate::making::map_of;
 use crate::map::Map;
 use crate::regions::region_lines;
+use crate::unused::unused_lines;
 use mufom_host::Host;
 use mufom_located::Located;
 use mufom_meaning::Run;
 use mufom_module::Module;
+use mufom_numbers::Text;
 use mufom_origins::{Origins, Place};
 use mufom_plan::Plan;
 use mufom_sections::Section;
 use mufom_text::{Lines, Output, PrintStop, counted, print_lines};
 use std::alloc::Global;
 
-// The position of the module of a place.
-fn module_of(place: Option<Place>) -> Option<usize>
+/// The position of the module of a place.
+pub(crate) fn module_of(place: Option<Place>) -> Option<usize>
     ensures { result ≡ option_map (λ p. p.«module») place }
 {
     match place {
@@ -36,8 +38,8 @@ fn module_of(place: Option<Place>) -> Option<usize>
     }
 }
 
-// The region of the section with a number; `None` past the last section.
-fn region_at(regions: &[Option<u32>], number: u32) -> Option<u32>
+/// The region of the section with a number; `None` past the last section.
+pub(crate) fn region_at(regions: &[Option<u32>], number: u32) -> Option<u32>
     ensures { result ≡ slice_index_or regions.now number None }
 {
     match regions.get(number as usize) {
@@ -104,24 +106,34 @@ impl<'a> Map<'a> {
     }
 }
 
-impl<'a> Lines for Map<'a> {
+/// A map of which the whole text is printed, with the names of all files.
+#[derive(Drop)]
+struct WholeMap<'a> {
+    names: &'a [Text],
+    map: Map<'a>,
+}
+
+impl<'a> Lines for WholeMap<'a> {
     ghost use Rattle.mufom_map.specs.MapText.{map_text};
     ghost use Rattle.mufom_map.specs.ShownMap.{shown};
 
-    ghost text = { λ map. map_text (shown map) };
+    ghost text = { λ whole. map_text whole.names.now (shown whole.map) };
 
     fn put_lines<K: Output>(&self, out: &mut K) {
-        module_lines(out, self.origins.as_slice());
-        region_lines(out, self.maus, &self.room, self.regions);
-        self.section_lines(out);
-        self.public_lines(out);
-        start_line(out, self.maus, self.start, self.origins.start());
-        self.total_line(out);
+        let map = &self.map;
+        module_lines(out, self.names, map.origins.as_slice());
+        region_lines(out, map.maus, &map.room, map.regions);
+        unused_lines(out, &map.placed, map.regions);
+        map.section_lines(out);
+        map.public_lines(out);
+        start_line(out, map.maus, map.start, map.origins.start());
+        map.total_line(out);
     }
 }
 
 /// Prints the map of the location of a module by a plan, in chunks of about 65,536 bytes, the last of which
-/// may be shorter. The module is the link of those that the origins list, or what is kept of it.
+/// may be shorter. The module is the link of those that the origins list, or what is kept of it. `names` are
+/// the names of all files, as they were given.
 ///
 /// No section name occurs twice in the plan, and it has fewer than 2^32 regions, as
 /// [`read_plan`](mufom_plan::read_plan) returns it. `NoMemory` is returned before anything is printed.
@@ -130,17 +142,18 @@ impl<'a> Lines for Map<'a> {
 pub fn print_map<H: Host>(
     alloc: Global,
     host: &mut H,
+    names: &[Text],
     origins: &Origins,
     object: &Module,
     plan: &Plan,
     located: &Located,
 ) -> Result<(), PrintStop>
-    requires names { AreDistinctNames (listed_names plan.now.regions) }
+    requires distinct { AreDistinctNames (listed_names plan.now.regions) }
     requires regions { length plan.now.regions < 2 ^ 32 }
     requires located { IsLocation (object.now ∷ []) plan.now located.now }
-    ensures done { OnOk result (GrowsBy (H.meaning host.old).out (H.meaning host.new).out (map_text
+    ensures done { OnOk result (GrowsBy (H.meaning host.old).out (H.meaning host.new).out (map_text names.now
         (mapped_by origins.now plan.now (flat_sections (object.now ∷ [])) (placed_commons (object.now ∷ []) plan.now) located.now))) }
-    ensures fault { result ≡ Err PrintStop.Fault → GrowsByPrefix (H.meaning host.old).out (H.meaning host.new).out (map_text
+    ensures fault { result ≡ Err PrintStop.Fault → GrowsByPrefix (H.meaning host.old).out (H.meaning host.new).out (map_text names.now
         (mapped_by origins.now plan.now (flat_sections (object.now ∷ [])) (placed_commons (object.now ∷ []) plan.now) located.now))
         × Rose (H.faults host.old).writes (H.faults host.new).writes }
     ensures unmade { result ≡ Err PrintStop.NoMemory → (H.meaning host.new).out ≡ (H.meaning host.old).out }
@@ -149,5 +162,5 @@ pub fn print_map<H: Host>(
     let Ok(map) = map_of(alloc, origins, object, plan, located) else {
         return Err(PrintStop::NoMemory);
     };
-    print_lines(alloc, host, &map)
+    print_lines(alloc, host, &WholeMap { names, map })
 }

@@ -1,2 +1,3 @@
 pub mod Origins
 pub mod Places
+pub mod Words

@@ -9,6 +9,7 @@
 
 mod laws;
 mod origins;
+mod words;
 
 pub use laws::{
     entries_left_keep_their_modules, publics_come_from_modules, references_come_from_modules,
@@ -16,3 +17,4 @@ pub use laws::{
     the_start_comes_from_a_module,
 };
 pub use origins::{Origin, Origins, Place};
+pub use words::{file_name, module_text};

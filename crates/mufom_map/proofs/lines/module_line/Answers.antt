@@ -1,6 +1,4 @@
 use Rattle.mufom_map.proofs.lines.module_line.Goals as goal
 
 pub returns : goal.returns
-returns g c = let l = g.met.K.Output in
-    l.joins _ _ _ _ _ (l.joins _ _ _ _ _ c.counted.ensures (l.joins _ _ _ _ _ c.put.ensures
-    (l.joins _ _ _ _ _ (rw c.as_slice.ensures at c.quoted.ensures) c.counted-2.ensures))) c.put-2.ensures
+returns g c = let l = g.met.K.Output in l.joins _ _ _ _ _ c.module_text.ensures c.put.ensures

@@ -4,6 +4,6 @@ use Rattle.mufom_map.proofs.lines.module_lines.Goals as goal
 
 pub loop-position-preserved : goal.loop-position-preserved
 loop-position-preserved g c =
-    each-step g.K.Output.takes g.met.K.Output.joins module_line c.args.origins.now c.loop-position.position
+    each-step g.K.Output.takes g.met.K.Output.joins (module_line c.args.names.now) c.args.origins.now c.loop-position.position
     c.index-origins-position.result c.index-origins-position.result _ _ _
     c.loop-position-test.true c.index-origins-position.is c.loop-position.invariant c.module_line.ensures

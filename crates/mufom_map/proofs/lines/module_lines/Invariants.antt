@@ -4,4 +4,4 @@ use Rattle.mufom_map.specs.MapText.{module_line}
 use Rattle.mufom_map.proofs.lines.module_lines.Given as goal
 
 abbrev pub invariant-loop-position : goal.invariant-loop-position
-invariant-loop-position g l = g.K.Output.takes l.fn.out l.out (each module_line (take l.position l.origins))
+invariant-loop-position g l = g.K.Output.takes l.fn.out l.out (each (module_line l.names) (take l.position l.origins))

@@ -7,7 +7,7 @@ use Rattle.mufom_map.proofs.print.print_map.Goals as goal
 pub returns-clause-fault : goal.returns-clause-fault
 returns-clause-fault g c = λ failed.
     let prefix = c.print_lines.ensures.fault failed in (
-      subst (λ (m : Mapped). GrowsByPrefix (g.H.World.meaning c.args.host.now).out (g.H.World.meaning c.print_lines.new.host).out (map_text m))
+      subst (λ (m : Mapped). GrowsByPrefix (g.H.World.meaning c.args.host.now).out (g.H.World.meaning c.print_lines.new.host).out (map_text c.args.names.now m))
           c.in-Ok.ensures prefix.0,
       prefix.1,
     )

@@ -1,4 +1,4 @@
-use Rattle.mufom_explain.proofs.modules.module_text.Goals as goal
+use Rattle.mufom_origins.proofs.words.module_text.Goals as goal
 
 pub returns : goal.returns
 returns g c = let l = g.met.K.Output in
