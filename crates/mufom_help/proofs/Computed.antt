@@ -3,7 +3,7 @@ use Rattle.std.specs.Prelude.{◌≡◌, true, ◌++◌, ◌&&◌, List, take, d
 use Rattle.std.proofs.Common.{refl, ap, ◌∙◌}
 use Rattle.std.proofs.lemmas.List.Folds.{list_all-append}
 use Rattle.mufom_help.specs.Topics.{Topic, commands, records, structure, inputs, texts, listings, linking, locating}
-use Rattle.mufom_help.specs.Topics.{content_errors, input_errors, link_errors, module_errors, read_errors, errors, topics}
+use Rattle.mufom_help.specs.Topics.{content_errors, error_lines, input_errors, lines, link_errors, module_errors, read_errors, errors, topics}
 use Rattle.mufom_help.specs.Pages.{are_pages, is_page, fits_a_screen, have_own_names, piece_lengths, are_ended}
 use Rattle.mufom_help.specs.declared.commands.TheConstants.{LIST}
 
@@ -89,14 +89,22 @@ error-pages : are_pages errors ≡ true
 unfolding errors
 error-pages = joined-pages read_errors link_errors read-pages link-pages
 
+lines-pages : are_pages lines ≡ true
+unfolding piece_lengths are_ended
+lines-pages = refl
+
+error_line-pages : are_pages error_lines ≡ true
+unfolding error_lines
+error_line-pages = joined-pages lines errors lines-pages error-pages
+
 pub topic-pages : are_pages topics ≡ true
 unfolding topics
-topic-pages = joined-pages commands errors commands-pages error-pages
+topic-pages = joined-pages commands error_lines commands-pages error_line-pages
 
 pub list-fits : fits_a_screen LIST.now ≡ true
 unfolding piece_lengths are_ended
 list-fits = refl
 
 pub own-names : have_own_names topics ≡ true
-unfolding have_own_names topics errors read_errors
+unfolding have_own_names topics error_lines errors read_errors
 own-names = refl

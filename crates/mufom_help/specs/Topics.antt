@@ -1,4 +1,4 @@
--- The topics of help: the names of commands and of errors, each with its text.
+-- The topics of help: the names of commands, of errors and of kinds of error lines, each with its text.
 use Rattle.std.specs.Prelude.{ℕ, List, [], ◌∷◌, ◌++◌, Option, option_map, codes}
 use Rattle.std.specs.List.{find}
 use Rattle.std.specs.Str.{bytes_eq}
@@ -65,6 +65,7 @@ use Rattle.mufom_help.specs.declared.inputs.TheConstants.{
   SHAPE,
   BEYOND,
 }
+use Rattle.mufom_help.specs.declared.lines.TheConstants.{USAGE, READ, WRITE, MEMORY, PLAN}
 use Rattle.mufom_help.specs.declared.texts.TheConstants.{BAD_LINE, NO_ADDRESS, TWICE, NO_END}
 use Rattle.mufom_help.specs.declared.listings.TheConstants.{
   BAD_TEXT,
@@ -230,6 +231,16 @@ locating =
     (codes "Overflow", OVERFLOW.now) ∷
     []
 
+-- error lines without the name of an error, and those about a plan, by how they begin (`out of memory` is `memory`)
+abbrev pub lines : List Topic
+lines =
+    (codes "usage", USAGE.now) ∷
+    (codes "read", READ.now) ∷
+    (codes "write", WRITE.now) ∷
+    (codes "memory", MEMORY.now) ∷
+    (codes "plan", PLAN.now) ∷
+    []
+
 -- errors in modules
 abbrev pub module_errors : List Topic
 module_errors = records ++ structure
@@ -254,9 +265,13 @@ read_errors = module_errors ++ input_errors
 unfoldable pub errors : List Topic
 errors = read_errors ++ link_errors
 
+-- all error lines, by how they begin or by the name of their error
+unfoldable pub error_lines : List Topic
+error_lines = lines ++ errors
+
 -- all topics; no two of them have the same name
 unfoldable pub topics : List Topic
-topics = commands ++ errors
+topics = commands ++ error_lines
 
 -- what help prints for a word: the text of the topic that has exactly this name, or nothing if there is none
 abbrev pub topic_in : List Topic → Text → Option Text

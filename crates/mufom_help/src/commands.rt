@@ -16,7 +16,7 @@ To link modules, and to place their sections by a memory plan:
   locate [--gnu] [--no-debug] [--plan PLAN] [--keep NAME] -o OUT FILES
 To print the image, what is at which address, or the source line at one:
   dump [--gnu] [--no-debug] [--plan PLAN] [--keep NAME] FILES
-  map [--gnu] [--no-debug] [--plan PLAN] [--keep NAME] FILES
+  map [--gnu] [--no-debug] [--plan PLAN] [--keep NAME] [--at ADDRESS] FILES
   addr [--gnu] [--plan PLAN] --at ADDRESS FILES
 To write the image as raw bytes or as TI-TXT:
   bin [--gnu] [--no-debug] [--plan PLAN] [--keep NAME] [--fill BYTE]
@@ -41,8 +41,9 @@ For more:
   mufom help NAME      what an error means and what to do about it; for the
                        line `refused: locate: Misfit section 3 region 0`
                        that is `mufom help Misfit`
-A line `usage: ..` means that the arguments are wrong: compare them with the
-form that `mufom help COMMAND` prints.
+A line `usage: ..` means that the arguments are wrong: `mufom explain` before
+the command prints which. `usage`, `read`, `write`, `memory` and `plan` are
+NAMEs too, for lines that begin so.
 ";
 
 /// The text of `help show`.
@@ -147,8 +148,9 @@ Options:
   --no-debug    skip the debug parts without reading them
   --plan PLAN   the file of the memory plan, a TOML document
   --keep NAME   keep only what is reachable from the public symbol NAME, from
-                the start address and from the sections with a base address;
-                debug items are left out
+                the start address and from the sections with a base address
+                or in the plan's keep; debug items are left out. May be
+                given several times
   -o OUT        the file to write; required
   --            end the options; brackets and + keep their meaning
 
@@ -185,8 +187,9 @@ Options:
   --no-debug    skip the debug parts without reading them
   --plan PLAN   the file of the memory plan, a TOML document
   --keep NAME   keep only what is reachable from the public symbol NAME, from
-                the start address and from the sections with a base address;
-                debug items are left out
+                the start address and from the sections with a base address
+                or in the plan's keep; debug items are left out. May be
+                given several times
   --            end the options; brackets and + keep their meaning
 
 Exit status:
@@ -199,13 +202,15 @@ Example:
 /// The text of `help map`.
 pub const MAP: &str = "map: links and locates modules, and prints what is at which address
 
-Usage: mufom map [--gnu] [--no-debug] [--plan PLAN] [--keep NAME] FILES
+Usage: mufom map [--gnu] [--no-debug] [--plan PLAN] [--keep NAME]
+           [--at ADDRESS] FILES
 
 Links and locates FILES as `locate` does, and prints these lines:
-  module J NAME file N         each module that was linked, and its file
+  module J NAME file N: WORD   each module that was linked, and its file
   region K NAME at ADDRESS size S used U free F [BAR]
                                each region of the plan; the bar has 32 cells:
                                # full, + partly used, . empty
+  unused region K ENTRY        an entry of its list that places no section
   section I ADDRESS size S align A NAME module J region K
   common I ADDRESS size S align 8 NAME region K
                                by address; I is the number that errors name;
@@ -223,8 +228,11 @@ Options:
   --no-debug    skip the debug parts without reading them
   --plan PLAN   the file of the memory plan, a TOML document
   --keep NAME   keep only what is reachable from the public symbol NAME, from
-                the start address and from the sections with a base address;
-                all modules that are linked are still printed
+                the start address and from the sections with a base address
+                or in the plan's keep; all modules that are linked are still
+                printed. May be given several times
+  --at ADDRESS  print only the section at this hexadecimal address, and the
+                nearest public in it, with the offset from that
   --            end the options; brackets and + keep their meaning
 
 Exit status:
@@ -254,8 +262,9 @@ Options:
   --no-debug    skip the debug parts without reading them
   --plan PLAN   the file of the memory plan, a TOML document
   --keep NAME   keep only what is reachable from the public symbol NAME, from
-                the start address and from the sections with a base address;
-                debug items are left out
+                the start address and from the sections with a base address
+                or in the plan's keep; debug items are left out. May be
+                given several times
   --fill BYTE   two hexadecimal digits, as FF, for the gaps; 00 without it
   -o OUT        the file to write; required
   --            end the options; brackets and + keep their meaning
@@ -288,8 +297,9 @@ Options:
   --no-debug    skip the debug parts without reading them
   --plan PLAN   the file of the memory plan, a TOML document
   --keep NAME   keep only what is reachable from the public symbol NAME, from
-                the start address and from the sections with a base address;
-                debug items are left out
+                the start address and from the sections with a base address
+                or in the plan's keep; debug items are left out. May be
+                given several times
   -o OUT        the file to write; required
   --            end the options; brackets and + keep their meaning
 
@@ -415,10 +425,12 @@ out up to its first output: it reads the files, but writes no file, and does not
 print what the command would print. Instead, it prints:
   - the error line of the command, or `done` if it would succeed up to there;
   - what the numbers and names in that line are: files, sections, regions, and
-    the modules that define a name or refer to it;
+    the modules that define a name or refer to it; the wrong argument, counted
+    from 0, or the option that is missing; why a file could not be read;
+  - after `done`, the file that the command would write, which is not tried;
   - an empty line, and what `mufom help` prints for the error.
 If the arguments are wrong, that is the text of the command that they name, or
-the list of commands. After a read fault, the input alone is named.
+the list of commands.
 
 There are no options. All arguments after `explain` are those of the command;
 `explain` can't explain itself.
@@ -441,9 +453,13 @@ command does, its options, its exit status and an example. `mufom help NAME`
 explains an error: NAME is the first word of the error line that begins with a
 capital letter. For the line
   refused: locate: Misfit section 3 region 0
-that is `mufom help Misfit`. Upper and lower case differ. A line that begins
-with `usage:` says that the arguments are wrong: compare them with the form
-that `mufom help COMMAND` prints.
+that is `mufom help Misfit`. Upper and lower case differ. For other lines and
+for plans, NAME is one of:
+  usage    a line that begins with `usage:`; the arguments are wrong
+  read     a line that begins with `read fault:`
+  write    the line `write fault`
+  memory   the line `out of memory`
+  plan     the memory plan, and lines that begin with `refused: plan:`
 
 In place of `help`, `--help` or `-h` does the same. There are no options.
 

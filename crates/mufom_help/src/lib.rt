@@ -2,13 +2,14 @@
 //!
 //! A text is a constant of the program: at most 40 lines of at most 80 bytes, each with its line
 //! end. The crate uses only `std` and does not allocate. Its main clause is that of [`topic_text`]: it
-//! returns the text of the one command or error that has exactly the given name, and `None` for any
-//! other word.
+//! returns the text of the one command, error or kind of error line that has exactly the given name, and
+//! `None` for any other word.
 #![tactic(auto)]
 
 pub mod commands;
 pub mod inputs;
 mod laws;
+pub mod lines;
 pub mod linking;
 pub mod listings;
 pub mod locating;

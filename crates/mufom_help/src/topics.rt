@@ -1,11 +1,13 @@
 //! The topics by their names, and the list of commands.
 
 ghost use Rattle.std.specs.Prelude.{◌≡◌, option_map};
-ghost use Rattle.mufom_help.specs.Topics.{content_errors, errors, input_errors, link_errors, module_errors, read_errors, topic_in, topics};
+ghost use Rattle.mufom_help.specs.Topics.{content_errors, error_lines, errors, input_errors, link_errors, module_errors};
+ghost use Rattle.mufom_help.specs.Topics.{read_errors, topic_in, topics};
 ghost use Rattle.mufom_help.specs.declared.commands.TheConstants.{LIST};
 
 use crate::commands::{LIST, command_topic};
 use crate::inputs::input_topic;
+use crate::lines::line_topic;
 use crate::linking::linking_topic;
 use crate::listings::listing_topic;
 use crate::locating::locating_topic;
@@ -21,12 +23,19 @@ pub fn command_list() -> &'static str
 }
 
 /// What `help` prints for a word: the text of the command or of the error that has exactly this
-/// name, or `None` if there is none.
+/// name, or of the error lines that begin with it; `None` if there is none.
 #[tactic(auto, using(crate::proofs::Appended::topic_append), unfolding(crate::specs::Topics::topics))]
 pub fn topic_text(word: &str) -> Option<&'static str>
     ensures { option_map (λ text. text.now) result ≡ topic_in topics word.now }
 {
-    command_topic(word).or_else(|| error_topic(word))
+    command_topic(word).or_else(|| error_line(word))
+}
+
+#[tactic(auto, using(crate::proofs::Appended::topic_append), unfolding(crate::specs::Topics::error_lines))]
+fn error_line(word: &str) -> Option<&'static str>
+    ensures { option_map (λ text. text.now) result ≡ topic_in error_lines word.now }
+{
+    line_topic(word).or_else(|| error_topic(word))
 }
 
 #[tactic(auto, using(crate::proofs::Appended::topic_append), unfolding(crate::specs::Topics::errors))]

@@ -64,7 +64,7 @@ fn push_names(rt: &impl Abort, alloc: Global, text: &mut String, command: &Comma
         text.push_str(" plan=").expect(rt, "memory");
         text.push_str(plan.as_str()).expect(rt, "memory");
     }
-    if let Some(keep) = &command.keep {
+    for keep in command.keep.as_slice() {
         let keep = keep.as_slice();
         let given = format!(in alloc; " keep={keep:?}").expect(rt, "memory");
         text.push_str(given.as_str()).expect(rt, "memory");
@@ -90,6 +90,14 @@ fn push_number(
     }
 }
 
+// Adds the address that is looked up, if there is one.
+fn push_address(rt: &impl Abort, alloc: Global, text: &mut String, at: Option<u64>) {
+    if let Some(address) = at {
+        let given = format!(in alloc; " at={address}").expect(rt, "memory");
+        text.push_str(given.as_str()).expect(rt, "memory");
+    }
+}
+
 // A command in words: its verb, what its options give, and its files. What it would be without an option is
 // left out, so a row has no word on options that its line has not.
 fn command_text(rt: &impl Abort, alloc: Global, command: &Command) -> String {
@@ -107,7 +115,7 @@ fn command_text(rt: &impl Abort, alloc: Global, command: &Command) -> String {
     push_names(rt, alloc, &mut text, command);
     push_number(rt, alloc, &mut text, "count", command.count as u64, 0);
     push_number(rt, alloc, &mut text, "fill", command.fill as u64, 0);
-    push_number(rt, alloc, &mut text, "at", command.at, 0);
+    push_address(rt, alloc, &mut text, command.at);
     push_number(rt, alloc, &mut text, "maus", command.maus as u64, 4);
     let roots = push_tree(rt, alloc, &mut text, command);
     push_members(rt, alloc, &mut text, command.files.as_slice(), roots);
@@ -131,7 +139,7 @@ fn gives(rt: &impl Abort, alloc: Global, line: &str, want: &str) {
 }
 
 // Lines and the commands that they give, with files by their numbers.
-static COMMANDS: [(&str, &str); 29] = [
+static COMMANDS: [(&str, &str); 32] = [
     // Files in their order.
     ("show a", "Show 0:a"),
     ("dump a", "Dump 0:a"),
@@ -141,7 +149,7 @@ static COMMANDS: [(&str, &str); 29] = [
     ("check a --no-debug b", "Check no_debug 0:a 1:b"),
     ("check a b --no-debug", "Check no_debug 0:a 1:b"),
     ("check --gnu a --no-debug", "Check no_debug gnu 0:a"),
-    ("addr --gnu --at 0 a", "Addr gnu 0:a"),
+    ("addr --gnu --at 0 a", "Addr gnu at=0 0:a"),
     // Two dashes end the options, and one dash names a file.
     ("check -- --no-debug -x", "Check 0:--no-debug 1:-x"),
     ("check - a", "Check 0:- 1:a"),
@@ -172,6 +180,10 @@ static COMMANDS: [(&str, &str); 29] = [
     ("dump --keep main a", "Dump keep=[109, 97, 105, 110] 0:a"),
     ("bin --keep= -oc a", "Bin out=c keep=[] 0:a"),
     ("map a --keep=m", "Map keep=[109] 0:a"),
+    ("dump --keep a --keep b c", "Dump keep=[97] keep=[98] 0:c"),
+    // The address of a map, which may be left out.
+    ("map --at 0 a", "Map at=0 0:a"),
+    ("map --at=10A a", "Map at=266 0:a"),
     // Texts of images.
     (
         "txt a --plan=p --no-debug -o c",
@@ -195,7 +207,7 @@ fn lines_give_commands(rt: HostRuntime) {
 }
 
 // Lines that give none, and the first thing that is wrong with each.
-static FAULTS: [(&str, &str); 69] = [
+static FAULTS: [(&str, &str); 70] = [
     // Without a command.
     ("dmup a", "Usage(NoCommand)"),
     ("-- help", "Usage(NoCommand)"),
@@ -213,8 +225,9 @@ static FAULTS: [(&str, &str); 69] = [
     ("bin --fill 0 -oc", "Usage(NoFile)"),
     ("addr --at 0x10 a", "Usage(BadAddress)"),
     ("addr --at 00000000000000001 a", "Usage(BadAddress)"),
+    ("map --at 0x10 a", "Usage(BadAddress)"),
+    ("map --at 0 --at 1 a", "Usage(BadWords)"),
     ("addr a", "Usage(BadWords)"),
-    ("dump --keep a --keep b c", "Usage(BadWords)"),
     ("addr --at 0 --keep a b", "Usage(BadWords)"),
     ("link --keep a -oc b", "Usage(BadWords)"),
     ("map -oc a", "Usage(BadWords)"),

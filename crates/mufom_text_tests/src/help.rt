@@ -4,7 +4,7 @@ use mufom_help::{VERSION, command_list, topic_text, version_line};
 use std::rt::HostRuntime;
 
 // Words, and how the first line of their text begins.
-static NAMED: [(&str, &str); 7] = [
+static NAMED: [(&str, &str); 9] = [
     ("show", "show: prints one module"),
     ("version", "version: prints the version"),
     ("BadNumber", "BadNumber: a number is expected"),
@@ -12,10 +12,12 @@ static NAMED: [(&str, &str); 7] = [
     ("TooLong", "TooLong: an expression, a plan or a raw image"),
     ("Duplicate", "Duplicate: two public symbols"),
     ("Overflow", "Overflow: a value does not fit"),
+    ("usage", "usage: the arguments give no command"),
+    ("memory", "memory: the system gave"),
 ];
 
 // Words that name no topic.
-static UNNAMED: [&str; 6] = ["", "misfit", "Misfit ", "Misfi", "--help", "usage"];
+static UNNAMED: [&str; 6] = ["", "misfit", "Misfit ", "Misfi", "--help", "Usage"];
 
 #[test]
 fn words_name_topics(rt: HostRuntime) {

@@ -11,3 +11,4 @@ mod Hexadecimal
 mod HelpLaws
 pub mod ExplainGiven
 mod WorkedFaulty
+pub mod FoundLaws

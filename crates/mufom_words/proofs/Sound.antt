@@ -9,7 +9,7 @@ use Rattle.std.proofs.lemmas.List.Sums.{count_by-le-length, length-filter}
 use Rattle.clap.specs.Faults.{fault_of}
 use Rattle.clap.specs.Kinds.{Kinds}
 use Rattle.clap.specs.Simple.{matches_of}
-use Rattle.clap.specs.Walk.{Row, first_of}
+use Rattle.clap.specs.Walk.{Row, all_of, first_of}
 use Rattle.mufom_words.specs.declared.command.Command.{Command}
 use Rattle.mufom_words.specs.declared.command.Mark.{Mark}
 use Rattle.mufom_words.specs.declared.form.Form.{Form}
@@ -23,7 +23,7 @@ use Rattle.mufom_words.specs.declared.stop.UsageFault.{UsageFault}
 use Rattle.mufom_words.specs.declared.stop.UsageFault.TheVariants as fault
 use Rattle.mufom_words.specs.declared.stop.WordsStop.{WordsStop}
 use Rattle.mufom_words.specs.declared.stop.WordsStop.TheVariants as stop
-use Rattle.mufom_words.specs.Options.{Text, Usage, Given, usage_of, app_for, form_of, takes, id_of, given_by, keeps_what_is_needed, makes_file}
+use Rattle.mufom_words.specs.Options.{Text, Usage, Given, usage_of, app_for, form_of, demands, takes, id_of, given_by, keeps_what_is_needed, makes_file}
 use Rattle.mufom_words.specs.Options.{makes_modules, names_module, prints_help, reads_files, reads_plan, takes_one_file}
 use Rattle.mufom_words.specs.Operands.{word_of, file_words, is_name, names_in, operands_fault, number_fault, count_fault, count_of, is_digit}
 use Rattle.mufom_words.specs.Operands.{decimal_number, number_of, files_of, marks_of, depth_of}
@@ -175,6 +175,11 @@ not-taken : (t : Bool) (value : Option Text) → t ≡ false → cond t value No
 not-taken false value same = refl
 not-taken true value same = absurd cc
 
+-- nor has it values
+none-taken : (t : Bool) (values : List Text) → t ≡ false → cond t values [] ≡ []
+none-taken false values same = refl
+none-taken true values same = absurd cc
+
 -- a count that words state lies within its bounds
 count-good : (word : Text) → is_none (count_of word) ≡ false → (1 ≤ unwrap_or (count_of word) 0) × (unwrap_or (count_of word) 0 ≤ MOST_MODULES)
 count-good word stated = bounds (not (length word == 0)) (list_all is_digit word) (nat_le 1 n) (nat_le n MOST_MODULES) refl refl stated where
@@ -230,6 +235,20 @@ takes-out form.Bin = refl
 takes-out form.Txt = refl
 takes-out form.FromTxt = refl
 takes-out form.Build = refl
+
+demands-out : (f : Form) → demands (usage_of f).settings setting.Out ≡ makes_file (usage_of f).verb
+demands-out form.Show = refl
+demands-out form.Check = refl
+demands-out form.Link = refl
+demands-out form.Locate = refl
+demands-out form.Dump = refl
+demands-out form.Map = refl
+demands-out form.Make = refl
+demands-out form.Addr = refl
+demands-out form.Bin = refl
+demands-out form.Txt = refl
+demands-out form.FromTxt = refl
+demands-out form.Build = refl
 
 takes-no-plan : (f : Form) → reads_plan (usage_of f).verb ≡ false → takes (usage_of f).settings setting.Plan ≡ false
 takes-no-plan form.Show e = refl
@@ -371,11 +390,11 @@ sound_by f rows is =
         few = is.few;
       };
       options = record {
-        out = λ makes. out-given (takes (usage_of f).settings setting.Out) (given_by f rows).out is.out (takes-out f ∙ makes);
+        out = λ makes. out-given (demands (usage_of f).settings setting.Out) (given_by f rows).out is.out (demands-out f ∙ makes);
         no_out = λ makes. not-taken (takes (usage_of f).settings setting.Out) (first_of (id_of setting.Out) rows) (takes-out f ∙ makes);
         no_plan = λ reads. not-taken (takes (usage_of f).settings setting.Plan) (first_of (id_of setting.Plan) rows) (takes-no-plan f reads);
         no_name = λ names. not-taken (takes (usage_of f).settings setting.Name) (first_of (id_of setting.Name) rows) (takes-no-name f names);
-        no_keep = λ keeps. not-taken (takes (usage_of f).settings setting.Keep) (first_of (id_of setting.Keep) rows) (takes-no-keep f keeps);
+        no_keep = λ keeps. none-taken (takes (usage_of f).settings setting.Keep) (unwrap_or (all_of (id_of setting.Keep) rows) []) (takes-no-keep f keeps);
         short = name-short (given_by f rows).name is.name;
         count = λ makes. count-bounds o words is.count (takes-count f makes);
         maus = maus-within (given_by f rows).maus;

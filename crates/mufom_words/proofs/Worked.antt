@@ -38,9 +38,9 @@ of_files v no_debug files = record {
   count = 0;
   listing = false;
   fill = 0;
-  at = 0;
+  at = None;
   maus = 4;
-  keep = None;
+  keep = [];
   help = None;
 }
 
@@ -221,7 +221,7 @@ none_given = record {
   at = None;
   fill = None;
   maus = None;
-  keep = None;
+  keep = [];
   operands = codes "a" ∷ [];
 }
 
@@ -321,12 +321,17 @@ no_such_listing = refl
 
 -- ---- what is kept
 
-kept_name : given form.Dump (codes "dump" ∷ codes "--keep" ∷ codes "main" ∷ codes "a" ∷ []) ≡ record none_given { keep = Some (codes "main") }
+kept_name : given form.Dump (codes "dump" ∷ codes "--keep" ∷ codes "main" ∷ codes "a" ∷ []) ≡ record none_given { keep = codes "main" ∷ [] }
 unfolding clap_on_literals
 kept_name = refl
 
+kept_names : given form.Dump (codes "dump" ∷ codes "--keep=u" ∷ codes "--keep" ∷ codes "main" ∷ codes "a" ∷ codes "--keep=u" ∷ [])
+    ≡ record none_given { keep = codes "u" ∷ codes "main" ∷ codes "u" ∷ [] }
+unfolding clap_on_literals
+kept_names = refl
+
 empty_name_is_kept : given form.Bin (codes "bin" ∷ codes "--keep=" ∷ codes "-oc" ∷ codes "a" ∷ [])
-    ≡ record none_given { keep = Some []; out = Some (codes "c") }
+    ≡ record none_given { keep = [] ∷ []; out = Some (codes "c") }
 unfolding clap_on_literals
 empty_name_is_kept = refl
 
@@ -338,9 +343,14 @@ unfolding clap_on_literals
 map_printed = refl
 
 map_of_what_is_kept : answer_of (codes "map" ∷ codes "--keep" ∷ codes "main" ∷ codes "a" ∷ [])
-    ≡ Ok (record (of_files verb.Map false (codes "a" ∷ [])) { keep = Some (codes "main") })
+    ≡ Ok (record (of_files verb.Map false (codes "a" ∷ [])) { keep = codes "main" ∷ [] })
 unfolding clap_on_literals
 map_of_what_is_kept = refl
+
+map_of_an_address : answer_of (codes "map" ∷ codes "--at" ∷ codes "10A" ∷ codes "a" ∷ [])
+    ≡ Ok (record (of_files verb.Map false (codes "a" ∷ [])) { at = Some 266 })
+unfolding clap_on_literals
+map_of_an_address = refl
 
 no_file_of_a_map : answer_of (codes "map" ∷ codes "-oc" ∷ codes "a" ∷ []) ≡ Err (stop.Usage fault.BadWords)
 unfolding clap_on_literals

@@ -15,8 +15,18 @@ missing_option = refl
 missing_address : faulty_argument (codes "addr" ∷ codes "--plan" ∷ codes "p" ∷ codes "a" ∷ []) fault.BadWords ≡ Missing setting.At
 missing_address = refl
 
+wrong_address_of_a_map : faulty_argument (codes "map" ∷ codes "--at" ∷ codes "0x10" ∷ codes "a" ∷ []) fault.BadAddress ≡ Word 2
+wrong_address_of_a_map = refl
+
+no_address_of_a_map : faulty_argument (codes "map" ∷ codes "--no-debug=1" ∷ codes "a" ∷ []) fault.BadWords ≡ Word 1
+no_address_of_a_map = refl
+
 option_twice : faulty_argument (codes "link" ∷ codes "-ob" ∷ codes "-oc" ∷ codes "a" ∷ []) fault.BadWords ≡ Word 2
 option_twice = refl
+
+plan_twice : faulty_argument (codes "dump" ∷ codes "--keep" ∷ codes "a" ∷ codes "--keep=a" ∷ codes "--plan=p" ∷ codes "--plan=p" ∷ codes "c" ∷ [])
+    fault.BadWords ≡ Word 5
+plan_twice = refl
 
 no_value : faulty_argument (codes "dump" ∷ codes "--plan" ∷ codes "--no-debug" ∷ codes "a" ∷ codes "-x" ∷ []) fault.BadWords ≡ Word 1
 no_value = refl

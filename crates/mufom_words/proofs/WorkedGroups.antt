@@ -29,9 +29,9 @@ dumps = record {
   listing = false;
   fill =
       0;
-  at = 0;
+  at = None;
   maus = 4;
-  keep = None;
+  keep = [];
   help = None;
 }
 

@@ -19,7 +19,7 @@ use Rattle.mufom_words.specs.declared.stop.UsageFault.{UsageFault}
 use Rattle.mufom_words.specs.declared.stop.UsageFault.TheVariants as fault
 use Rattle.mufom_words.specs.declared.stop.WordsStop.{WordsStop}
 use Rattle.mufom_words.specs.declared.stop.WordsStop.TheVariants as stop
-use Rattle.mufom_words.specs.Options.{Text, Usage, Given, usage_of, app_for, form_of, takes, given_by}
+use Rattle.mufom_words.specs.Options.{Text, Usage, Given, usage_of, app_for, form_of, demands, given_by}
 use Rattle.mufom_words.specs.declared.command.Verb.{Verb}
 use Rattle.mufom_words.specs.Help.{own_answer, own_verb}
 use Rattle.mufom_words.specs.Explain.{explain_answer, names_explain}
@@ -64,9 +64,9 @@ abbrev pub name_fault : Option Text → Option UsageFault
 name_fault None = None
 name_fault (Some name) = if nat_lt MOST_STRING_BYTES (length name) then Some fault.LongName else None
 
--- a required option is missing, which is an error for `clap` too
+-- an option that the command requires is missing, which is an error for `clap` too
 abbrev pub missing_fault : Usage → Setting → Option Text → Option UsageFault
-missing_fault u s value = if takes u.settings s && is_none value then Some fault.BadWords else None
+missing_fault u s value = if demands u.settings s && is_none value then Some fault.BadWords else None
 
 -- the first error, in this order, in arguments that `clap` accepts
 abbrev pub usage_fault : Usage → Option Text → Option Text → List Text → Option UsageFault
@@ -119,6 +119,11 @@ abbrev pub number_by : (Text → Option ℕ) → ℕ → Option Text → ℕ
 number_by read otherwise None = otherwise
 number_by read otherwise (Some text) = unwrap_or (read text) otherwise
 
+-- the number that an option states, if it is present
+abbrev pub number_in : (Text → Option ℕ) → Option Text → Option ℕ
+number_in read None = None
+number_in read (Some text) = read text
+
 abbrev pub command_by : Usage → Given → Command
 command_by u g = record {
   verb = u.verb;
@@ -132,7 +137,7 @@ command_by u g = record {
   count = number_of u.operands g.operands;
   listing = g.listing;
   fill = number_by byte_of 0 g.fill;
-  at = number_by address_of 0 g.at;
+  at = number_in address_of g.at;
   maus = number_by maus_of 4 g.maus;
   keep = g.keep;
   help = None;

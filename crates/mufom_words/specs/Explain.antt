@@ -32,9 +32,9 @@ explain_command = record {
   count = 0;
   listing = false;
   fill = 0;
-  at = 0;
+  at = None;
   maus = 4;
-  keep = None;
+  keep = [];
   help = None;
 }
 

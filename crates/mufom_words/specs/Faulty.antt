@@ -1,6 +1,6 @@
 -- The argument that an error in the arguments is about. The option parser of `clap` reports the kind of an error without its place, so the place is
 -- defined here, over the arguments, read from left to right.
-use Rattle.std.specs.Prelude.{ℕ, ◌+◌, ◌==◌, ◌||◌, nat_eq, nat_lt, not, Bool, true, false, List, [], ◌∷◌, ◌++◌, length, drop, filter, fold, Option}
+use Rattle.std.specs.Prelude.{ℕ, ◌+◌, ◌==◌, ◌&&◌, ◌||◌, nat_eq, nat_lt, not, Bool, true, false, List, [], ◌∷◌, ◌++◌, length, drop, filter, fold, Option}
 use Rattle.std.specs.Prelude.{Some, None, Ok, Err, Result, codes, option_to_list, if◌then◌else◌}
 use Rattle.std.specs.List.{find, list_any, starts_with}
 use Rattle.std.specs.Option.{option_or}
@@ -27,7 +27,7 @@ use Rattle.mufom_words.specs.declared.stop.UsageFault.{UsageFault}
 use Rattle.mufom_words.specs.declared.stop.UsageFault.TheVariants as fault
 use Rattle.mufom_words.specs.Help.{own_verb}
 use Rattle.mufom_words.specs.Operands.{is_name, step, word_of}
-use Rattle.mufom_words.specs.Options.{Text, form_of, id_of, usage_of}
+use Rattle.mufom_words.specs.Options.{Text, form_of, id_of, is_required, usage_of}
 
 -- ---- options
 
@@ -40,6 +40,7 @@ spelling_of setting.Plan = codes "--plan"
 spelling_of setting.Out = codes "-o"
 spelling_of setting.Listing = codes "--listing"
 spelling_of setting.At = codes "--at"
+spelling_of setting.OptionalAt = codes "--at"
 spelling_of setting.Fill = codes "--fill"
 spelling_of setting.Maus = codes "--maus"
 spelling_of setting.Keep = codes "--keep"
@@ -56,11 +57,10 @@ abbrev pub is_short : Setting → Bool
 is_short setting.Out = true
 is_short _ = false
 
--- the option must be given
-abbrev pub is_required : Setting → Bool
-is_required setting.Out = true
-is_required setting.At = true
-is_required _ = false
+-- the option may be given several times
+abbrev pub may_repeat : Setting → Bool
+may_repeat setting.Keep = true
+may_repeat _ = false
 
 abbrev pub is_same : Setting → Setting → Bool
 is_same a b = bytes_eq (id_of a) (id_of b)
@@ -118,10 +118,10 @@ abbrev pub rest_role : Setting → Option Text → List Text → Role
 rest_role s None later = role.Wrong
 rest_role s (Some rest) later = option_role s rest later
 
--- the same, given the roles of the words before it: an option that one of them gives is wrong
+-- the same, given the roles of the words before it: an option that one of them gives is wrong, unless it may be given several times
 abbrev pub given_role : List Role → Setting → Text → List Text → Role
 given_role before s word later =
-    if list_any (gives s) before then role.Wrong else rest_role s (rest_after (spelling_of s) word) later
+    if not (may_repeat s) && list_any (gives s) before then role.Wrong else rest_role s (rest_after (spelling_of s) word) later
 
 abbrev pub dashed_role_by : List Role → Option Setting → Text → List Text → Role
 dashed_role_by before None word later = role.Wrong

@@ -49,9 +49,9 @@ own_command v text = record {
   count = 0;
   listing = false;
   fill = 0;
-  at = 0;
+  at = None;
   maus = 4;
-  keep = None;
+  keep = [];
   help = Some text;
 }
 

@@ -1,5 +1,5 @@
 -- The table of commands, the table of options, and how `clap` parses the arguments with them. There is no help option.
-use Rattle.std.specs.Prelude.{ℕ, Bool, true, false, List, [], ◌∷◌, Option, Some, None, codes, fold, unwrap_or, if◌then◌else◌}
+use Rattle.std.specs.Prelude.{ℕ, Bool, true, false, ◌&&◌, List, [], ◌∷◌, Option, Some, None, codes, fold, unwrap_or, if◌then◌else◌}
 use Rattle.std.specs.List.{find, list_any}
 use Rattle.std.specs.Str.{bytes_eq}
 use Rattle.clap.specs.Walk.{Rule, Row, all_of, first_of}
@@ -46,7 +46,7 @@ usage_of form.Dump = record {
 usage_of form.Map = record {
   verb = verb.Map;
   name = codes "map";
-  settings = setting.NoDebug ∷ setting.Gnu ∷ setting.Plan ∷ setting.Keep ∷ [];
+  settings = setting.NoDebug ∷ setting.Gnu ∷ setting.Plan ∷ setting.Keep ∷ setting.OptionalAt ∷ [];
   operands = operands.GroupedFiles;
 }
 usage_of form.Make = record { verb = verb.Make; name = codes "make"; settings = []; operands = operands.OneCount }
@@ -105,7 +105,7 @@ abbrev pub names_module : Verb → Bool
 names_module verb.Link = true
 names_module _ = false
 
--- the command may name a public symbol, and then keeps what that symbol needs
+-- the command may name public symbols, and then keeps what these symbols need
 abbrev pub keeps_what_is_needed : Verb → Bool
 keeps_what_is_needed verb.Locate = true
 keeps_what_is_needed verb.Dump = true
@@ -151,12 +151,13 @@ id_of setting.Plan = codes "plan"
 id_of setting.Out = codes "out"
 id_of setting.Listing = codes "listing"
 id_of setting.At = codes "at"
+id_of setting.OptionalAt = codes "at"
 id_of setting.Fill = codes "fill"
 id_of setting.Maus = codes "maus"
 id_of setting.Keep = codes "keep"
 
--- `--no-debug`, `--gnu`, `--name NAME`, `--plan PLAN`, `-o OUT` (required), `--listing`, `--at ADDRESS` (required),
--- `--fill BYTE`, `--maus N` and `--keep NAME`
+-- `--no-debug`, `--gnu`, `--name NAME`, `--plan PLAN`, `-o OUT` (required), `--listing`, `--at ADDRESS` (required or not),
+-- `--fill BYTE`, `--maus N` and `--keep NAME` (which may be given several times)
 abbrev pub rule_for : Setting → Rule
 rule_for setting.NoDebug = record (new_rule (id_of setting.NoDebug)) { long = Some (codes "no-debug"); action = Some SetTrue }
 rule_for setting.Gnu = record (new_rule (id_of setting.Gnu)) { long = Some (codes "gnu"); action = Some SetTrue }
@@ -165,9 +166,10 @@ rule_for setting.Plan = record (new_rule (id_of setting.Plan)) { long = Some (co
 rule_for setting.Out = record (new_rule (id_of setting.Out)) { short = Some 111; required = true }
 rule_for setting.Listing = record (new_rule (id_of setting.Listing)) { long = Some (codes "listing"); action = Some SetTrue }
 rule_for setting.At = record (new_rule (id_of setting.At)) { long = Some (codes "at"); required = true }
+rule_for setting.OptionalAt = record (new_rule (id_of setting.OptionalAt)) { long = Some (codes "at") }
 rule_for setting.Fill = record (new_rule (id_of setting.Fill)) { long = Some (codes "fill") }
 rule_for setting.Maus = record (new_rule (id_of setting.Maus)) { long = Some (codes "maus") }
-rule_for setting.Keep = record (new_rule (id_of setting.Keep)) { long = Some (codes "keep") }
+rule_for setting.Keep = record (new_rule (id_of setting.Keep)) { long = Some (codes "keep"); action = Some Append }
 
 -- ---- how `clap` parses the arguments
 
@@ -192,9 +194,23 @@ app_for f = app_with (usage_of f).name (usage_of f).settings
 abbrev pub takes : List Setting → Setting → Bool
 takes settings s = list_any (λ own. bytes_eq (id_of own) (id_of s)) settings
 
+-- the option must be given
+abbrev pub is_required : Setting → Bool
+is_required setting.Out = true
+is_required setting.At = true
+is_required _ = false
+
+-- the option is one of these, which must be given
+abbrev pub demands : List Setting → Setting → Bool
+demands settings s = list_any (λ own. is_required own && bytes_eq (id_of own) (id_of s)) settings
+
 -- the value of an option, in the rows that `clap` makes of the arguments; None if the command does not have the option
 abbrev pub value_in : List Setting → List Row → Setting → Option Text
 value_in settings rows s = if takes settings s then first_of (id_of s) rows else None
+
+-- the values of an option that may be given several times, in the order of the arguments
+abbrev pub values_in : List Setting → List Row → Setting → List Text
+values_in settings rows s = if takes settings s then unwrap_or (all_of (id_of s) rows) [] else []
 
 abbrev pub is_true : Option Text → Bool
 is_true None = false
@@ -215,7 +231,7 @@ pub record Given : Type 0 where
   pub at : Option Text
   pub fill : Option Text
   pub maus : Option Text
-  pub keep : Option Text
+  pub keep : List Text
   -- the operands
   pub operands : List Text
 
@@ -230,6 +246,6 @@ given_by f rows = record {
   at = value_in (usage_of f).settings rows setting.At;
   fill = value_in (usage_of f).settings rows setting.Fill;
   maus = value_in (usage_of f).settings rows setting.Maus;
-  keep = value_in (usage_of f).settings rows setting.Keep;
+  keep = values_in (usage_of f).settings rows setting.Keep;
   operands = operands_of rows;
 }

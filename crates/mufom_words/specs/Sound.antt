@@ -28,7 +28,7 @@ pub record HasFiles (c : Command) : Type 0 where
   pub few : length c.files ≤ most_files
 
 -- There is an output file if and only if the command makes one. Only a command that reads a plan names a plan, only one that
--- may name its module names it, and only one that may keep what a public symbol needs names such a symbol.
+-- may name its module names it, and only one that may keep what public symbols need names such symbols.
 -- The name of a module is not too long, a count is within its bounds, an address has 1 to 8 bytes, and a command that prints
 -- a text of the program has one.
 pub record HasOptions (c : Command) : Type 0 where
@@ -37,7 +37,7 @@ pub record HasOptions (c : Command) : Type 0 where
   pub no_plan : reads_plan c.verb ≡ false → c.plan ≡ None
   pub no_name : names_module c.verb ≡ false → c.name ≡ None
   pub count : makes_modules c.verb ≡ true → (1 ≤ c.count) × (c.count ≤ MOST_MODULES)
-  pub no_keep : keeps_what_is_needed c.verb ≡ false → c.keep ≡ None
+  pub no_keep : keeps_what_is_needed c.verb ≡ false → c.keep ≡ []
   pub maus : (1 ≤ c.maus) × (c.maus ≤ 8)
   pub short : IfSome c.name (λ name. length name ≤ MOST_STRING_BYTES)
   pub help : prints_help c.verb ≡ true → IsSome c.help

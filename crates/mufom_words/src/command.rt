@@ -105,13 +105,13 @@ pub struct Command {
     pub listing: bool,
     /// `--fill`: the byte for addresses without a loaded byte; 0 without the option.
     pub fill: u8,
-    /// `--at`: the address that is looked up; 0 without the option.
-    pub at: u64,
+    /// `--at`: the address that is looked up.
+    pub at: Option<u64>,
     /// `--maus`: the number of bytes in an address of the module that `fromtxt` makes; 4 without the option.
     pub maus: u8,
-    /// `--keep`: the public symbol to keep. All that is needed neither by it, nor by the start address, nor
-    /// by a section with a base is left out.
-    pub keep: Option<Bytes>,
+    /// `--keep`: the public symbols to keep, in the order of the arguments. If there is one, all that is needed
+    /// neither by these, nor by the start address, nor by a section that always stays is left out.
+    pub keep: List<Bytes>,
     /// The text that `help` or `version` prints; `None` for other commands.
     pub help: Option<HelpText>,
 }

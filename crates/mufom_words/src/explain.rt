@@ -42,9 +42,9 @@ fn explain_command(alloc: Global) -> Command
         count: 0,
         listing: false,
         fill: 0,
-        at: 0,
+        at: None,
         maus: 4,
-        keep: None,
+        keep: List::new(alloc),
         help: None,
     }
 }

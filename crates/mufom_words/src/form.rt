@@ -1,7 +1,7 @@
 //! The table of commands: the options and the operands of each.
 
 ghost use Rattle.std.specs.Prelude.{◌≡◌};
-ghost use Rattle.mufom_words.specs.Options.{form_of, takes, usage_of};
+ghost use Rattle.mufom_words.specs.Options.{demands, form_of, takes, usage_of};
 
 use crate::command::Verb;
 use crate::options::Setting;
@@ -114,7 +114,13 @@ impl Form {
                 Setting::Out,
             ],
             Form::Dump => &[Setting::NoDebug, Setting::Gnu, Setting::Plan, Setting::Keep],
-            Form::Map => &[Setting::NoDebug, Setting::Gnu, Setting::Plan, Setting::Keep],
+            Form::Map => &[
+                Setting::NoDebug,
+                Setting::Gnu,
+                Setting::Plan,
+                Setting::Keep,
+                Setting::OptionalAt,
+            ],
             Form::Make => &[],
             Form::Addr => &[Setting::Gnu, Setting::Plan, Setting::At],
             Form::Bin => &[
@@ -160,5 +166,14 @@ impl Form {
         ensures { result ≡ takes (usage_of self).settings setting }
     {
         self.settings().iter().any(|own| own.id() == setting.id())
+    }
+
+    /// Whether the option must be given with the command.
+    pub(crate) fn demands(self, setting: Setting) -> bool
+        ensures { result ≡ demands (usage_of self).settings setting }
+    {
+        self.settings()
+            .iter()
+            .any(|own| own.is_required() && own.id() == setting.id())
     }
 }

@@ -7,7 +7,7 @@ ghost use Rattle.clap.specs.Kinds.{FailsBy};
 ghost use Rattle.clap.specs.Matches.{found_of};
 ghost use Rattle.clap.specs.Simple.{matches_of};
 ghost use Rattle.clap.specs.Walk.{rows_of};
-ghost use Rattle.mufom_words.specs.Options.{app_for, is_true, operands_of, usage_of, value_in as valued};
+ghost use Rattle.mufom_words.specs.Options.{app_for, is_true, operands_of, usage_of, value_in as valued, values_in as all_values};
 
 use crate::form::Form;
 use crate::options::{Setting, command_of};
@@ -39,6 +39,23 @@ pub(crate) fn value_in<'b, 'a: 'b>(
         return None;
     }
     matches.get_str(setting.id())
+}
+
+/// The values of an option that may be given several times, in the order of the arguments. `None` if there are
+/// none, or if the command does not have the option.
+pub(crate) fn values_in<'b, 'a: 'b>(
+    matches: &'b ArgMatches<'a>,
+    form: Form,
+    setting: Setting,
+) -> Option<&'b [&'a str]>
+    ensures some { IfSome result (λ texts. map (λ text. text.now) texts.now
+        ≡ all_values (usage_of form).settings (rows_of (found_of matches.now)) setting) }
+    ensures none { IsNone result → all_values (usage_of form).settings (rows_of (found_of matches.now)) setting ≡ [] }
+{
+    if !form.takes(setting) {
+        return None;
+    }
+    matches.get_strs(setting.id())
 }
 
 /// Whether an option that takes no value is among the arguments.

@@ -69,9 +69,9 @@ fn own_command(alloc: Global, verb: Verb, text: &'static str) -> Command
         count: 0,
         listing: false,
         fill: 0,
-        at: 0,
+        at: None,
         maus: 4,
-        keep: None,
+        keep: List::new(alloc),
         help: Some(HelpText::new(text)),
     }
 }

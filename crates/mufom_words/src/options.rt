@@ -3,8 +3,8 @@
 ghost use Rattle.std.specs.Prelude.{◌≡◌, IfOk, false};
 ghost use Rattle.clap.specs.Simple.{app_of};
 ghost use Rattle.clap.specs.Walk.{rule_of};
-ghost use Rattle.mufom_words.specs.Faulty.{is_flag, is_required, is_short, spelling_of};
-ghost use Rattle.mufom_words.specs.Options.{app_for, id_of, operands_rule, rule_for};
+ghost use Rattle.mufom_words.specs.Faulty.{is_flag, is_short, may_repeat, spelling_of};
+ghost use Rattle.mufom_words.specs.Options.{app_for, id_of, is_required, operands_rule, rule_for};
 
 use crate::form::Form;
 use clap::{Arg, ArgAction};
@@ -27,11 +27,13 @@ pub enum Setting {
     Listing,
     /// `--at ADDRESS`, which is required.
     At,
+    /// `--at ADDRESS`, which may be left out.
+    OptionalAt,
     /// `--fill BYTE`
     Fill,
     /// `--maus N`
     Maus,
-    /// `--keep NAME`
+    /// `--keep NAME`, which may be given several times.
     Keep,
 }
 
@@ -47,7 +49,7 @@ impl Setting {
             Setting::Plan => "--plan",
             Setting::Out => "-o",
             Setting::Listing => "--listing",
-            Setting::At => "--at",
+            Setting::At | Setting::OptionalAt => "--at",
             Setting::Fill => "--fill",
             Setting::Maus => "--maus",
             Setting::Keep => "--keep",
@@ -84,6 +86,16 @@ impl Setting {
         }
     }
 
+    /// Whether the option may be given several times.
+    pub(crate) fn may_repeat(self) -> bool
+        ensures { result ≡ may_repeat self }
+    {
+        match self {
+            Setting::Keep => true,
+            _ => false,
+        }
+    }
+
     /// The name by which `clap` knows the option.
     pub(crate) fn id(self) -> &'static str
         ensures { result.now ≡ id_of self }
@@ -95,7 +107,7 @@ impl Setting {
             Setting::Plan => "plan",
             Setting::Out => "out",
             Setting::Listing => "listing",
-            Setting::At => "at",
+            Setting::At | Setting::OptionalAt => "at",
             Setting::Fill => "fill",
             Setting::Maus => "maus",
             Setting::Keep => "keep",
@@ -122,9 +134,12 @@ fn option_of<'a>(alloc: Global, setting: Setting) -> Arg<'a>
             .long("listing")
             .action(ArgAction::SetTrue),
         Setting::At => Arg::new(alloc, "at").long("at").required(true),
+        Setting::OptionalAt => Arg::new(alloc, "at").long("at"),
         Setting::Fill => Arg::new(alloc, "fill").long("fill"),
         Setting::Maus => Arg::new(alloc, "maus").long("maus"),
-        Setting::Keep => Arg::new(alloc, "keep").long("keep"),
+        Setting::Keep => Arg::new(alloc, "keep")
+            .long("keep")
+            .action(ArgAction::Append),
     }
 }
 

@@ -6,7 +6,7 @@ ghost use Rattle.clap.specs.Matches.{found_of};
 ghost use Rattle.clap.specs.Values.{kind_of};
 ghost use Rattle.clap.specs.Walk.{rows_of};
 ghost use Rattle.mufom_words.specs.Answer.{answer_for, answer_of, command_by, given_fault as wrong_given, given_stop, limit_stop as limited};
-ghost use Rattle.mufom_words.specs.Answer.{missing_fault as missing, PrintsHelp, name_fault as name_wrong, number_by, stop_by, unless_stopped};
+ghost use Rattle.mufom_words.specs.Answer.{missing_fault as missing, PrintsHelp, name_fault as name_wrong, number_by, number_in, stop_by, unless_stopped};
 ghost use Rattle.mufom_words.specs.Answer.{usage_fault as first_fault};
 ghost use Rattle.mufom_words.specs.Options.{given_by, operands_of, usage_of};
 ghost use Rattle.mufom_words.specs.Sound.{IsSound};
@@ -15,7 +15,7 @@ ghost use Rattle.mufom_words.specs.Values.{address_of as address, byte_of as byt
 use crate::command::Command;
 use crate::explain::{explain_answer, names_explain};
 use crate::form::{Form, Operands};
-use crate::found::{is_given, matches_in, operands_in, value_in};
+use crate::found::{is_given, matches_in, operands_in, value_in, values_in};
 use crate::help::{own_answer, own_verb};
 use crate::operands::{
     count_fault, depth_of, file_count, files_of, marks_of, number_fault, number_of, operands_fault,
@@ -26,7 +26,7 @@ use crate::values::{address_of, byte_of, maus_of, value_fault};
 use clap::error::ErrorKind;
 use clap::{ArgMatches, Error};
 use mufom_numbers::limits::MOST_STRING_BYTES;
-use mufom_numbers::{Bytes, NoMemory, Text};
+use mufom_numbers::{Bytes, List, NoMemory, Text};
 use std::alloc::Global;
 
 /// The greatest number of files of a run.
@@ -48,7 +48,7 @@ fn name_fault(name: Option<&str>) -> Option<UsageFault>
 fn missing_fault(form: Form, setting: Setting, value: Option<&str>) -> Option<UsageFault>
     ensures { result ≡ missing (usage_of form) setting (option_map (λ text. text.now) value.entry) }
 {
-    if form.takes(setting) && value.is_none() {
+    if form.demands(setting) && value.is_none() {
         return Some(UsageFault::BadWords);
     }
     None
@@ -125,6 +125,27 @@ fn kept_bytes(alloc: Global, text: Option<&str>) -> Result<Option<Bytes>, NoMemo
     }
 }
 
+// These texts, as bytes.
+fn names_of(alloc: Global, texts: &[&str]) -> Result<List<Bytes>, NoMemory>
+    ensures { IfOk result (λ names. names ≡ map (λ text. text.now) texts.now) }
+{
+    let mut names = List::new(alloc);
+    for text in texts {
+        names.push(Bytes::from_slice(alloc, text.as_bytes())?)?;
+    }
+    Ok(names)
+}
+
+// The names that `--keep` gives.
+fn keep_in(alloc: Global, matches: &ArgMatches<'_>, form: Form) -> Result<List<Bytes>, NoMemory>
+    ensures { IfOk result (λ names. names ≡ (given_by form (rows_of (found_of matches.now))).keep) }
+{
+    match values_in(matches, form, Setting::Keep) {
+        Some(texts) => names_of(alloc, texts),
+        None => Ok(List::new(alloc)),
+    }
+}
+
 // The byte that `--fill` gives, or 0.
 fn fill_in(matches: &ArgMatches<'_>, form: Form) -> u8
     ensures { result ≡ number_by byte 0 (given_by form (rows_of (found_of matches.now))).fill }
@@ -135,13 +156,13 @@ fn fill_in(matches: &ArgMatches<'_>, form: Form) -> u8
     }
 }
 
-// The address that `--at` gives, or 0.
-fn address_in(matches: &ArgMatches<'_>, form: Form) -> u64
-    ensures { result ≡ number_by address 0 (given_by form (rows_of (found_of matches.now))).at }
+// The address that `--at` gives, if there is one.
+fn address_in(matches: &ArgMatches<'_>, form: Form) -> Option<u64>
+    ensures { result ≡ number_in address (given_by form (rows_of (found_of matches.now))).at }
 {
     match value_in(matches, form, Setting::At) {
-        Some(text) => address_of(text).unwrap_or(0),
-        None => 0,
+        Some(text) => address_of(text),
+        None => None,
     }
 }
 
@@ -168,7 +189,7 @@ fn command_from(
 {
     let operands = form.operands();
     let name = kept_bytes(alloc, value_in(matches, form, Setting::Name))?;
-    let keep = kept_bytes(alloc, value_in(matches, form, Setting::Keep))?;
+    let keep = keep_in(alloc, matches, form)?;
     let out = kept_text(alloc, value_in(matches, form, Setting::Out))?;
     let plan = kept_text(alloc, value_in(matches, form, Setting::Plan))?;
     let marks = marks_of(alloc, operands, words)?;

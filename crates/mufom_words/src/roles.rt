@@ -161,7 +161,7 @@ pub(crate) fn is_given(roles: &[Role], setting: Setting) -> bool
 fn given_role(before: &[Role], setting: Setting, word: &str, later: &[String]) -> Role
     ensures { result ≡ given before.now setting word.now (map (λ word. string_bytes word) later.now) }
 {
-    if is_given(before, setting) {
+    if !setting.may_repeat() && is_given(before, setting) {
         return Role::Wrong;
     }
     match rest_after(setting.spelling(), word) {
