@@ -119,8 +119,8 @@ module _ (old mid : Meaning) (before between : Faults) (err : Option (List ℕ))
     with-kept (request.Run t) o details is = for-kept t o details is
     with-kept request.Explain o details is = is
 
-    ends-kept : (r : Result Command WordsStop) (o : Outcome) (details : List ℕ) → EndsBy r (call_between old mid before between) o details
-        → EndsBy r (call_between old new before now) o details
+    ends-kept : (r : Result Command WordsStop) (o : Outcome) (details : List ℕ) → EndsBy words r (call_between old mid before between) o details
+        → EndsBy words r (call_between old new before now) o details
     ends-kept (Ok c) o details is = with-kept (request_of c) o details is
     ends-kept (Err s) o details is = is
 

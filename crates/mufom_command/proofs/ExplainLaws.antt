@@ -78,7 +78,7 @@ module _ (words : List (List ℕ)) (old mid : Meaning) (before between : Faults)
         ≡ record old { left = new.left; err = new.err; opened = new.opened; out = new.out }
     text-stays stays = stays ∙ ap (λ (m : Meaning). record m { left = new.left; err = new.err; opened = new.opened; out = new.out }) only.0
 
-    module _ (answer : Outcome) (details : List ℕ) (ends : EndsBy (answer_of words) (call_between old new before now) answer details)
+    module _ (answer : Outcome) (details : List ℕ) (ends : EndsBy words (answer_of words) (call_between old new before now) answer details)
         (opens : OpensBy (answer_of words) (call_between old mid before between) answer) where
       explanation : IsExplanation words (call_between old new before now) (explain_text words answer details)
       explanation = record {

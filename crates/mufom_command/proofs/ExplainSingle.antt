@@ -1,6 +1,6 @@
 -- The text on some arguments is one, and so a run comes to one end at most.
 use Rattle.std.proofs.Common.{◌≡◌, ℕ, Bool, true, false, List, Option, Some, None, Result, Ok, Err, inl, inr, sym, ap, subst, ◌∙◌}
-use Rattle.mufom_host.specs.World.{HoldBytes, NamedFile}
+use Rattle.mufom_host.specs.World.{HoldBytes, NamedFile, file_named}
 use Rattle.mufom_module.specs.declared.module.Parts.{Parts}
 use Rattle.mufom_meaning.specs.Facts.{LinkFact, LocateFact}
 use Rattle.mufom_meaning.proofs.locations.SelectionSingle.{selection_is_single}
@@ -16,10 +16,11 @@ use Rattle.mufom_groups.specs.Work.{IsSingle, Reached, Work, ◌>>=◌, gives, o
 use Rattle.mufom_groups.proofs.Works.{one_with-single, stop_at-single, sure-single, then-single, value-same}
 use Rattle.mufom_origins.specs.Origins.{FileModule, modules_of}
 use Rattle.mufom_explain.specs.Details.{link_details, locate_details, name_details}
-use Rattle.mufom_explain.specs.Lines.{file_line, plan_line}
+use Rattle.mufom_explain.specs.Lines.{file_line}
 use Rattle.mufom_text.specs.Words.{Text}
 use Rattle.mufom_outcome.specs.Stop.{Stop, words_refused, plan_refused, file_refused, past_limit, link_fact, keep_unknown, locate_fact, raw_too_long}
 use Rattle.mufom_outcome.specs.Stop.{text_refused, listing_refused}
+use Rattle.mufom_command.specs.Roots.{roots_by}
 use Rattle.mufom_command.specs.Works.{Output, kept_of, printed, work_by}
 use Rattle.mufom_task.specs.Reading.{modules_in, plan_in}
 use Rattle.mufom_command.specs.Contract.{run_by, run_of, work_with}
@@ -30,7 +31,10 @@ use Rattle.mufom_task.specs.Tasks.{inputs_of, keep_of, request_of}
 use Rattle.mufom_command.specs.Explain.{HasLines, HasLinesFor, IsTextOn, explaining}
 use Rattle.mufom_command.specs.ExplainText.{explain_text}
 use Rattle.mufom_command.specs.FlatFiles.{AreFlatFiles}
-use Rattle.mufom_command.specs.HasDetails.{HasDetails, HasFileLine, HasPlanLine, IsRefusedFlat}
+use Rattle.mufom_command.specs.HasDetails.{HasDetails, HasFileLine, HasPlanLines, IsRefusedFlat}
+use Rattle.mufom_command.specs.PlanLines.{ArePlanLines, AreLinesBy, is_syntax, plan_line_at}
+use Rattle.mufom_plan.specs.declared.refusal.PlanRefusal.{PlanRefusal}
+use Rattle.mufom_plan_faults.proofs.LineLaws.{syntax-line-single}
 use Rattle.mufom_command.specs.HasDetails.{explained_by, files_at, lines_of_link, lines_of_locate, lines_of_name}
 use Rattle.mufom_outcome.specs.LocateRefusals.{locate_refusal}
 use Rattle.mufom_command.specs.Run.{outcome_of}
@@ -65,7 +69,7 @@ module _ (c : Inputs) (ms : List Parts) (f : LinkFact) where
 
 -- ---- lines
 
-module _ (files : List NamedFile) (bytes : HoldBytes files) (c : Inputs) (keep : Option (List ℕ)) where
+module _ (files : List NamedFile) (bytes : HoldBytes files) (c : Inputs) (keep : List (List ℕ)) where
   link-single : (f : LinkFact) → IsSingle (lines_of_link files c f)
   link-single f =
       then-single (modules_in files c) (λ ms. one_with (IsRefusedFlat c ms f) >>= λ flat. sure (link_details c.files flat (link_refusal f)))
@@ -83,28 +87,36 @@ module _ (files : List NamedFile) (bytes : HoldBytes files) (c : Inputs) (keep :
   locate-single : (maus : ℕ) (f : LocateFact) → IsSingle (lines_of_locate files c keep maus f)
   locate-single maus f =
       then-single (plan_in files c.plan) (λ plan. modules_in files c >>= λ ms. one_with (AreFlatFiles (tree_of c.marks) ms) >>= λ flat.
-      kept_of keep (modules_of flat) >>= λ kept. sure (locate_details (explained_by c plan flat kept maus) (locate_refusal f)))
+      kept_of (roots_by keep plan) (modules_of flat) >>= λ kept. sure (locate_details (explained_by c plan flat kept maus) (locate_refusal f)))
       (plan_in-single files c.plan) λ plan.
       then-single (modules_in files c) (λ ms. one_with (AreFlatFiles (tree_of c.marks) ms) >>= λ flat.
-      kept_of keep (modules_of flat) >>= λ kept. sure (locate_details (explained_by c plan flat kept maus) (locate_refusal f)))
+      kept_of (roots_by keep plan) (modules_of flat) >>= λ kept. sure (locate_details (explained_by c plan flat kept maus) (locate_refusal f)))
       (modules_in-single files bytes c) λ ms.
       then-single (one_with (AreFlatFiles (tree_of c.marks) ms)) (λ flat.
-      kept_of keep (modules_of flat) >>= λ kept. sure (locate_details (explained_by c plan flat kept maus) (locate_refusal f)))
+      kept_of (roots_by keep plan) (modules_of flat) >>= λ kept. sure (locate_details (explained_by c plan flat kept maus) (locate_refusal f)))
       (flat-files-single (tree_of c.marks) ms) λ flat.
-      then-single (kept_of keep (modules_of flat)) (λ kept. sure (locate_details (explained_by c plan flat kept maus) (locate_refusal f)))
-      (kept_of-single keep (modules_of flat)) λ kept. sure-single (locate_details (explained_by c plan flat kept maus) (locate_refusal f))
+      then-single (kept_of (roots_by keep plan) (modules_of flat)) (λ kept. sure (locate_details (explained_by c plan flat kept maus) (locate_refusal f)))
+      (kept_of-single (roots_by keep plan) (modules_of flat)) λ kept. sure-single (locate_details (explained_by c plan flat kept maus) (locate_refusal f))
 
-  plan-line-single : (a b : Text) → HasPlanLine c a → HasPlanLine c b → a ≡ b
-  plan-line-single a b one other =
+  lines-by-single : (b : Bool) (name text : List ℕ) (r : PlanRefusal) (x y : Text) → AreLinesBy b name text r x → AreLinesBy b name text r y → x ≡ y
+  lines-by-single true name text r x y (m, is_m, are) (n, is_n, also) = are ∙ (ap (plan_line_at name) (syntax-line-single text m n is_m is_n) ∙ sym also)
+  lines-by-single false name text r x y are also = are ∙ sym also
+
+  plan-lines-single : (r : PlanRefusal) (a b : Text) → HasPlanLines (Some files) c r a → HasPlanLines (Some files) c r b → a ≡ b
+  plan-lines-single r a b one other =
       let both : Some one.name ≡ Some other.name = sym one.named ∙ other.named in
       let same : one.name ≡ other.name = cc in
-      one.are ∙ (ap plan_line same ∙ sym other.are)
+      let file : Some one.text ≡ Some other.text
+      = sym one.of_file ∙ subst (λ (n : List ℕ). file_named n files ≡ Some other.text) (sym same) other.of_file in
+      let bytes : one.text ≡ other.text = cc in
+      lines-by-single (is_syntax r) other.name other.text r a b
+      (subst (λ (n : List ℕ). ArePlanLines n other.text r a) same (subst (λ (t : List ℕ). ArePlanLines one.name t r a) bytes one.are)) other.are
 
   file-line-single : (n : ℕ) (a b : Text) → HasFileLine c n a → HasFileLine c n b → a ≡ b
   file-line-single n a b one other = one.are ∙ sym other.are
 
   details-single : (s : Stop) (a b : Text) → HasDetails (Some files) c keep s a → HasDetails (Some files) c keep s b → a ≡ b
-  details-single (plan_refused r) a b one other = plan-line-single a b one other
+  details-single (plan_refused r) a b one other = plan-lines-single r a b one other
   details-single (file_refused n r) a b one other = file-line-single n a b one other
   details-single (past_limit n) a b one other = file-line-single n a b one other
   details-single (text_refused r) a b one other = file-line-single 0 a b one other
@@ -121,10 +133,10 @@ request-single files bytes (request.Run t) (gives output) a b one other = one �
 request-single files bytes (request.Run t) (stops s) a b one other = details-single files bytes (inputs_of t) (keep_of t) s a b one other
 request-single files bytes request.Explain reached a b one other = one ∙ sym other
 
-lines-single : (files : List NamedFile) → HoldBytes files → (r : Result Command WordsStop) (reached : Reached Stop Output) (a b : Text)
-    → HasLines files r reached a → HasLines files r reached b → a ≡ b
-lines-single files bytes (Ok c) reached a b one other = request-single files bytes (request_of c) reached a b one other
-lines-single files bytes (Err stop) reached a b one other = one ∙ sym other
+lines-single : (words : List (List ℕ)) (files : List NamedFile) → HoldBytes files → (r : Result Command WordsStop) (reached : Reached Stop Output)
+    (a b : Text) → HasLines words files r reached a → HasLines words files r reached b → a ≡ b
+lines-single words files bytes (Ok c) reached a b one other = request-single files bytes (request_of c) reached a b one other
+lines-single words files bytes (Err stop) reached a b one other = one ∙ sym other
 
 -- ---- the text
 
@@ -132,9 +144,9 @@ module _ (words : List (List ℕ)) (files : List NamedFile) (bytes : HoldBytes f
   text-single : (x y : Reached Stop Output) (a b : Text) → IsTextOn words files x a → IsTextOn words files y b → a ≡ b
   text-single x y a b one other =
       let same : x ≡ y = work_by-single (answer_of words) files bytes x y one.comes other.comes in
-      let lines : HasLines files (answer_of words) y one.details
-      = subst (λ (r : Reached Stop Output). HasLines files (answer_of words) r one.details) same one.lines in
-      let equal : one.details ≡ other.details = lines-single files bytes (answer_of words) y one.details other.details lines other.lines in
+      let lines : HasLines words files (answer_of words) y one.details
+      = subst (λ (r : Reached Stop Output). HasLines words files (answer_of words) r one.details) same one.lines in
+      let equal : one.details ≡ other.details = lines-single words files bytes (answer_of words) y one.details other.details lines other.lines in
       one.are ∙ ((λ i. explain_text words (outcome_of (same i)) (equal i)) ∙ sym other.are)
 
   explaining-single : IsSingle (explaining words files)

@@ -24,6 +24,7 @@ use Rattle.mufom_origins.specs.Origins.{FileModule, modules_of, numbered, origin
 use Rattle.mufom_origins.specs.Places.{at_positions, with_chosen}
 use Rattle.mufom_origins.proofs.FlatLaws.{chosen-map, members-chosen, modules-numbered}
 use Rattle.mufom_command.specs.declared.locating.TracedModule.{TracedModule}
+use Rattle.mufom_command.specs.Roots.{Roots}
 use Rattle.mufom_command.specs.Works.{Kept, kept_of, kept_origins}
 use Rattle.mufom_meaning.specs.Absolute.{no_regions}
 use Rattle.mufom_task.specs.declared.task.Inputs.{Inputs}
@@ -116,7 +117,7 @@ means-itself ms = record {
   same_members = λ members chosen. ((λ is. is), (λ is. is));
 }
 
-module _ (tree : Forest) (first : leaves tree ≡ numbers_from 0 (length (leaves tree))) (ms : List Parts) (valid : AreValid ms) (keep : Option (List ℕ))
+module _ (tree : Forest) (first : leaves tree ≡ numbers_from 0 (length (leaves tree))) (ms : List Parts) (valid : AreValid ms) (keep : Option Roots)
     (places : Places) (whole : TracedModule) (link : IsTracedLink tree ms places whole) (flat : List FileModule)
     (are : flat ≡ files_with tree ms places.chosen) where
   own-same : modules_of flat ≡ link.links.0

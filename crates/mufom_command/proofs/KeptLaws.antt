@@ -1,6 +1,7 @@
 -- What is kept of a list: a list without a defect that can be linked, which is what is kept of the link of the list.
 use Rattle.std.proofs.Common.{◌≡◌, ◌≢◌, ℕ, zero, suc, ◌<◌, Bool, true, false, List, [], ◌∷◌, map, slice_get, Option, Some, None}
-use Rattle.std.proofs.Common.{refl, sym, ap, subst, ◌∙◌, arith, inl, inr}
+use Rattle.std.proofs.Common.{not, refl, sym, ap, subst, ◌∙◌, arith, inl, inr}
+use Rattle.std.specs.List.{find}
 use Rattle.std.proofs.lemmas.List.{append-nil}
 use Rattle.mufom_names.specs.declared.name.Public.{Public}
 use Rattle.mufom_names.specs.Names.{AreDistinct, names_of}
@@ -16,12 +17,13 @@ use Rattle.mufom_meaning.proofs.staging.Staging.{joined_stands_for}
 use Rattle.mufom_image.proofs.ReadyLaws.{linkable-alone}
 use Rattle.mufom_prune.specs.declared.refusal.PruneRefusal.{PruneRefusal}
 use Rattle.mufom_prune.specs.declared.refusal.PruneRefusal.TheVariants as prune
-use Rattle.mufom_prune.specs.Pruned.{IsPruned, Remains, new_public, positions_of, remaining, remains, without_others}
-use Rattle.mufom_prune.specs.Refusals.{IsRefusalOf}
+use Rattle.mufom_prune.specs.Pruned.{IsPrunedFor, Remains, new_public, positions_of, remaining, remains, without_others}
+use Rattle.mufom_prune.specs.Refusals.{IsRefusalFor}
 use Rattle.mufom_prune.proofs.PrunedValid.{pruned_valid}
 use Rattle.mufom_groups.specs.Linked.{first_name}
 use Rattle.mufom_groups.specs.Work.{Reached, gives, stops}
 use Rattle.mufom_outcome.specs.Stop.{Stop, keep_unknown}
+use Rattle.mufom_command.specs.Roots.{Roots, first_unknown}
 use Rattle.mufom_command.specs.Works.{Kept, all_of, kept_of, kept_unless, rest_of}
 use Rattle.mufom_command.specs.WorkEnds.{EndsAt, own_kept, own_rest}
 use Rattle.mufom_outcome.specs.Outcomes.{outcome_of_prune}
@@ -65,14 +67,15 @@ remaining-names c (true ∷ marks) (p ∷ publics) = ap (λ (names : List (List 
 remaining-names c (false ∷ marks) (p ∷ publics) = remaining-names c marks publics
 
 -- no name stands twice among those of what remains
-pub pruned-names : (rest M : Parts) (name : List ℕ) → IsPruned rest M name → AreDistinct (names_of M.names.publics) → AreDistinct (names_of rest.names.publics)
-pruned-names rest M name is distinct =
+pub pruned-names : (rest M : Parts) (roots : Roots) → IsPrunedFor rest M roots.names roots.stays → AreDistinct (names_of M.names.publics)
+    → AreDistinct (names_of rest.names.publics)
+pruned-names rest M roots is distinct =
     let c = remains M is.marks in
     subst AreDistinct (sym (ap (λ (m : Parts). names_of m.names.publics) is.is ∙ remaining-names c c.publics M.names.publics))
     (remaining-distinct c.publics (names_of M.names.publics) distinct)
 
-pruned-valid : (rest M : Parts) (name : List ℕ) → IsPruned rest M name → IsValid M → IsValid rest
-pruned-valid rest M name is valid = subst IsValid (sym is.is) (pruned_valid M name is.marks is.kept valid)
+pruned-valid : (rest M : Parts) (roots : Roots) → IsPrunedFor rest M roots.names roots.stays → IsValid M → IsValid rest
+pruned-valid rest M roots is valid = subst IsValid (sym is.is) (pruned_valid M roots.names roots.stays is.marks is.kept valid)
 
 -- ---- the link of a list
 
@@ -87,11 +90,12 @@ joined-distinct M flat valid links joined =
 
 -- ---- what is kept
 
-module _ (name : List ℕ) (flat : List Parts) where
-  kept-rest : (b : Bool) (kept : Kept) → kept_unless b name flat (gives kept)
-      → (M : Parts) × (rest : Parts) × IsValid M × IsJoined M flat (first_name flat) × IsPruned rest M name × (kept.modules ≡ rest ∷ [])
-  kept-rest false kept is = absurd is
-  kept-rest true kept (M, (valid, joined), (marks, is_kept, same)) = (
+module _ (roots : Roots) (flat : List Parts) where
+  kept-rest : (o : Option (List ℕ)) (kept : Kept) → kept_unless o roots flat (gives kept)
+      → (M : Parts) × (rest : Parts) × IsValid M × IsJoined M flat (first_name flat) × IsPrunedFor rest M roots.names roots.stays
+      × (kept.modules ≡ rest ∷ [])
+  kept-rest (Some name) kept is = absurd is
+  kept-rest None kept (M, (valid, joined), (marks, is_kept, same)) = (
     M,
     without_others M (remains M marks),
     valid,
@@ -101,58 +105,59 @@ module _ (name : List ℕ) (flat : List Parts) where
   )
 
 -- it has no defect
-pub kept-valid : (keep : Option (List ℕ)) (flat : List Parts) (kept : Kept) → AreValid flat → kept_of keep flat (gives kept) → AreValid kept.modules
+pub kept-valid : (keep : Option Roots) (flat : List Parts) (kept : Kept) → AreValid flat → kept_of keep flat (gives kept) → AreValid kept.modules
 kept-valid None flat kept valid is = subst (λ (k : Kept). AreValid k.modules) (sym is) valid
-kept-valid (Some name) flat kept valid is =
-    let (M, rest, sound, joined, pruned, same) = kept-rest name flat (has_name (public_names flat) name) kept is in
-    subst AreValid (sym same) (pruned-valid rest M name pruned sound, tt)
+kept-valid (Some roots) flat kept valid is =
+    let (M, rest, sound, joined, pruned, same) = kept-rest roots flat (first_unknown flat roots.names) kept is in
+    subst AreValid (sym same) (pruned-valid rest M roots pruned sound, tt)
 
 -- it is not empty
-pub kept-some : (keep : Option (List ℕ)) (flat : List Parts) (kept : Kept) → flat ≢ [] → kept_of keep flat (gives kept) → kept.modules ≢ []
+pub kept-some : (keep : Option Roots) (flat : List Parts) (kept : Kept) → flat ≢ [] → kept_of keep flat (gives kept) → kept.modules ≢ []
 kept-some None flat kept some is = subst (λ (k : Kept). k.modules ≢ []) (sym is) some
-kept-some (Some name) flat kept some is =
-    let (M, rest, sound, joined, pruned, same) = kept-rest name flat (has_name (public_names flat) name) kept is in
+kept-some (Some roots) flat kept some is =
+    let (M, rest, sound, joined, pruned, same) = kept-rest roots flat (first_unknown flat roots.names) kept is in
     subst (λ (l : List Parts). l ≢ []) (sym same) (λ none. cc)
 
 -- and it can be linked
-pub kept-links : (keep : Option (List ℕ)) (flat : List Parts) (kept : Kept) → AreValid flat → link_answer flat ≡ None → kept_of keep flat (gives kept)
+pub kept-links : (keep : Option Roots) (flat : List Parts) (kept : Kept) → AreValid flat → link_answer flat ≡ None → kept_of keep flat (gives kept)
     → link_answer kept.modules ≡ None
 kept-links None flat kept valid links is = subst (λ (k : Kept). link_answer k.modules ≡ None) (sym is) links
-kept-links (Some name) flat kept valid links is =
-    let (M, rest, sound, joined, pruned, same) = kept-rest name flat (has_name (public_names flat) name) kept is in
+kept-links (Some roots) flat kept valid links is =
+    let (M, rest, sound, joined, pruned, same) = kept-rest roots flat (first_unknown flat roots.names) kept is in
     subst (λ (l : List Parts). link_answer l ≡ None) (sym same)
-    (linkable-alone rest (pruned-names rest M name pruned (joined-distinct M flat valid links joined)))
+    (linkable-alone rest (pruned-names rest M roots pruned (joined-distinct M flat valid links joined)))
 
--- ---- what is kept of the link of a list for a name
+-- ---- what is kept of the link of a list for roots
 
-module _ (name : List ℕ) (M : Parts) (flat : List Parts) (sound : IsValid M) (joined : IsJoined M flat (first_name flat)) where
-  rest-is : (b : Bool) → has_name (public_names flat) name ≡ b → (x : Reached Stop Kept) → own_rest b name M x → kept_of (Some name) flat x
-  rest-is false same x is = subst (λ (b : Bool). kept_unless b name flat x) (sym same) is
-  rest-is true same (gives kept) is = subst (λ (b : Bool). kept_unless b name flat (gives kept)) (sym same) (M, (sound, joined), is)
-  rest-is true same (stops s) is = subst (λ (b : Bool). kept_unless b name flat (stops s)) (sym same) (inr (M, (sound, joined), is))
+module _ (roots : Roots) (M : Parts) (flat : List Parts) (sound : IsValid M) (joined : IsJoined M flat (first_name flat)) where
+  rest-is : (o : Option (List ℕ)) → first_unknown flat roots.names ≡ o → (x : Reached Stop Kept) → own_rest o roots M x → kept_of (Some roots) flat x
+  rest-is (Some name) same x is = subst (λ (o : Option (List ℕ)). kept_unless o roots flat x) (sym same) is
+  rest-is None same (gives kept) is = subst (λ (o : Option (List ℕ)). kept_unless o roots flat (gives kept)) (sym same) (M, (sound, joined), is)
+  rest-is None same (stops s) is = subst (λ (o : Option (List ℕ)). kept_unless o roots flat (stops s)) (sym same) (inr (M, (sound, joined), is))
 
   -- is what is kept of the list
-  pub rest-kept : AreValid flat → (x : Reached Stop Kept) → own_kept (Some name) M x → kept_of (Some name) flat x
+  pub rest-kept : AreValid flat → (x : Reached Stop Kept) → own_kept (Some roots) M x → kept_of (Some roots) flat x
   rest-kept valid x is =
       let names : public_names (M ∷ []) ≡ public_names flat = joined-names M flat valid joined in
-      rest-is (has_name (public_names flat) name) refl x (subst (λ (ns : List (List ℕ)). own_rest (has_name ns name) name M x) names is)
+      rest-is (first_unknown flat roots.names) refl x
+      (subst (λ (ns : List (List ℕ)). own_rest (find (λ name. not (has_name ns name)) roots.names) roots M x) names is)
 
--- ---- what is kept of a module for a name
+-- ---- what is kept of a module for roots
 
-module _ (name : List ℕ) (rest M : Parts) (pruned : IsPruned rest M name) (known : has_name (public_names (M ∷ [])) name ≡ true) where
+module _ (roots : Roots) (rest M : Parts) (pruned : IsPrunedFor rest M roots.names roots.stays) (known : first_unknown (M ∷ []) roots.names ≡ None) where
   abbrev kept_rest : Kept
   kept_rest = rest_of M (remains M pruned.marks)
 
-  pub rest-own : own_kept (Some name) M (gives (rest_of M (remains M pruned.marks)))
-  rest-own = subst (λ (b : Bool). own_rest b name M (gives kept_rest)) (sym known) (pruned.marks, pruned.kept, refl)
+  pub rest-own : own_kept (Some roots) M (gives (rest_of M (remains M pruned.marks)))
+  rest-own = subst (λ (o : Option (List ℕ)). own_rest o roots M (gives kept_rest)) (sym known) (pruned.marks, pruned.kept, refl)
 
 -- a name that no public has ends it
-pub prune-ends : (name : List ℕ) (M : Parts) (e : PruneRefusal) → IsRefusalOf M name e → EndsAt (own_kept (Some name) M) (outcome_of_prune e)
-prune-ends name M prune.NoMemory is = inl refl
-prune-ends name M (prune.Unknown refused) (same, none) =
+pub prune-ends : (roots : Roots) (M : Parts) (e : PruneRefusal) → IsRefusalFor M roots.names e → EndsAt (own_kept (Some roots) M) (outcome_of_prune e)
+prune-ends roots M prune.NoMemory is = inl refl
+prune-ends roots M (prune.Unknown refused) is =
     inr (
       keep_unknown refused,
       tt,
       refl,
-      subst (λ (b : Bool). own_rest b name M (stops (keep_unknown refused))) (sym none) (ap (λ n. keep_unknown n) same),
+      subst (λ (o : Option (List ℕ)). own_rest o roots M (stops (keep_unknown refused))) (sym is) refl,
     )

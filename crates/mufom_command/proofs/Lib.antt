@@ -20,3 +20,4 @@ pub mod ToldEnds
 pub mod ToldLaws
 pub mod MakeLaws
 pub mod WritingLaws
+pub mod ArgumentLaws

@@ -25,6 +25,7 @@ use Rattle.mufom_groups.specs.Work.{Reached, gives, stops, with_stops}
 use Rattle.mufom_groups.proofs.GroupsAlike.{linked-flat}
 use Rattle.mufom_groups.proofs.LinkWalk.{valid-append, valid-drop, valid-members}
 use Rattle.mufom_outcome.specs.Stop.{Stop, link_fact, locate_fact}
+use Rattle.mufom_command.specs.Roots.{Roots}
 use Rattle.mufom_command.specs.Works.{Kept, all_of, kept_of, located, located_unless, maus_of}
 use Rattle.mufom_command.specs.WorkEnds.{location_of, own_kept}
 use Rattle.mufom_command.proofs.KeptLaws.{rest-kept}
@@ -71,7 +72,7 @@ abbrev pub AreAlike : Kept → Kept → Type 0
 AreAlike own kept = (own ≡ kept) ⊎ ((own.rest ≡ None) × (kept.rest ≡ None) × MeansTheSame own.modules kept.modules)
 
 -- what is kept of the list, which is alike
-pub record IsKeptAlike (keep : Option (List ℕ)) (flat : List Parts) (own : Kept) : Type 0 where
+pub record IsKeptAlike (keep : Option Roots) (flat : List Parts) (own : Kept) : Type 0 where
   pub kept : Kept
   pub keeps : kept_of keep flat (gives kept)
   pub alike : AreAlike own kept
@@ -113,7 +114,7 @@ module _ (tree : Forest) (ms : List Parts) (valid : AreValid ms) where
 
   module _ (M : Parts) (sound : IsValid M) (plan : Plan) where
     -- what is kept of it is kept of the flat list, or means the same
-    pub own-is : (keep : Option (List ℕ)) (flat : List Parts) → linked tree ms (gives flat) → IsJoined M flat (first_name flat) → (own : Kept)
+    pub own-is : (keep : Option Roots) (flat : List Parts) → linked tree ms (gives flat) → IsJoined M flat (first_name flat) → (own : Kept)
         → own_kept keep M (gives own) → IsKeptAlike keep flat own
     own-is None flat is joined own keeps =
         let means = link-means M flat sound (flat-valid flat is) joined (flat-linkable flat is) in
@@ -126,28 +127,28 @@ module _ (tree : Forest) (ms : List Parts) (valid : AreValid ms) where
             subst (λ (k : Kept). MeansTheSame k.modules flat) (sym keeps) means,
           );
         }
-    own-is (Some name) flat is joined own keeps =
-        record { kept = own; keeps = rest-kept name M flat sound joined (flat-valid flat is) (gives own) keeps; alike = inl refl }
+    own-is (Some roots) flat is joined own keeps =
+        record { kept = own; keeps = rest-kept roots M flat sound joined (flat-valid flat is) (gives own) keeps; alike = inl refl }
 
-    pub own-ends : (keep : Option (List ℕ)) (flat : List Parts) → linked tree ms (gives flat) → IsJoined M flat (first_name flat) → (s : Stop)
+    pub own-ends : (keep : Option Roots) (flat : List Parts) → linked tree ms (gives flat) → IsJoined M flat (first_name flat) → (s : Stop)
         → own_kept keep M (stops s) → kept_of keep flat (stops s)
     own-ends None flat is joined s never = absurd never
-    own-ends (Some name) flat is joined s ends = rest-kept name M flat sound joined (flat-valid flat is) (stops s) ends
+    own-ends (Some roots) flat is joined s ends = rest-kept roots M flat sound joined (flat-valid flat is) (stops s) ends
 
     -- a name that no public has ends the location of the flat list
-    pub link-unkept : (keep : Option (List ℕ)) → linked_module tree None ms (gives M) → (s : Stop) → own_kept keep M (stops s)
+    pub link-unkept : (keep : Option Roots) → linked_module tree None ms (gives M) → (s : Stop) → own_kept keep M (stops s)
         → location_of tree keep plan ms (stops s)
     link-unkept keep (flat, is, joined) s ends = inr (flat, is, inl (own-ends keep flat is joined s ends))
 
     -- and so does the fact that ends the location of what is kept of the link
-    pub link-unlocated : (keep : Option (List ℕ)) → linked_module tree None ms (gives M) → (own : Kept) → own_kept keep M (gives own) → (s : Stop)
+    pub link-unlocated : (keep : Option Roots) → linked_module tree None ms (gives M) → (own : Kept) → own_kept keep M (gives own) → (s : Stop)
         → located plan own.modules (stops s) → location_of tree keep plan ms (stops s)
     link-unlocated keep (flat, is, joined) own keeps s ends =
         let alike = own-is keep flat is joined own keeps in
         inr (flat, is, inr (alike.kept, alike.keeps, alike-located plan own alike.kept alike.alike (stops s) ends))
 
   -- or it is not linked
-  pub unlinked-stops : (keep : Option (List ℕ)) (plan : Plan) (s : Stop) → with_stops link_fact (linked_module tree None ms) (stops s)
+  pub unlinked-stops : (keep : Option Roots) (plan : Plan) (s : Stop) → with_stops link_fact (linked_module tree None ms) (stops s)
       → location_of tree keep plan ms (stops s)
   unlinked-stops keep plan s (f, inl ends, same) = inl (f, ends, same)
   unlinked-stops keep plan s (f, inr (flat, is, never), same) = absurd never

@@ -1,5 +1,5 @@
 -- The flat list with its files, and the maps of lists that mean the same, and of what is kept of them.
-use Rattle.std.proofs.Common.{◌≡◌, ℕ, zero, suc, List, [], ◌∷◌, ◌++◌, length, take, drop}
+use Rattle.std.proofs.Common.{◌≡◌, ◌<◌, ℕ, arith, zero, suc, List, [], ◌∷◌, ◌++◌, length, take, drop}
 use Rattle.std.proofs.Common.{option_to_list, Option, None, Some, true, refl, sym, ap, subst, ◌∙◌, inl, inr}
 use Rattle.std.specs.Prelude.{slice_get}
 use Rattle.mufom_module.specs.declared.module.Parts.{Parts}
@@ -30,9 +30,10 @@ use Rattle.mufom_origins.proofs.FlatLaws.{chosen-map}
 use Rattle.mufom_map.specs.Mapped.{mapped_by}
 use Rattle.mufom_plan.specs.Names.{has_name}
 use Rattle.mufom_prune.specs.declared.pruning.Pruned.{Pruned}
-use Rattle.mufom_prune.specs.Marked.{IsPrunedWithMarks}
+use Rattle.mufom_prune.specs.Marked.{IsPrunedWithMarksFor}
 use Rattle.mufom_prune.specs.Pruned.{Remains, remains}
 use Rattle.mufom_command.specs.declared.locating.TracedModule.{TracedModule}
+use Rattle.mufom_command.specs.Roots.{Roots, first_unknown, roots_by, roots_with}
 use Rattle.mufom_command.specs.Works.{Kept, all_of, kept_origins, located, mapped_kept, rest_of}
 use Rattle.mufom_command.specs.FlatFiles.{AreFlatFiles, files_with}
 use Rattle.mufom_command.specs.declared.locating.Location.{Location}
@@ -40,7 +41,7 @@ use Rattle.mufom_command.specs.declared.locating.Obstacle.{Obstacle}
 use Rattle.mufom_command.specs.declared.locating.Obstacle.TheVariants as obstacle
 use Rattle.mufom_command.specs.declared.locating.Places.{Places}
 use Rattle.mufom_command.specs.Locations.{AreMapped, AreOriginsOf, HasPlaces, HasPlan, IsKeptPart, IsObstacle, IsTracedLink, LocatesPart, outcome_of_obstacle}
-use Rattle.mufom_command.specs.Locations.{IsUnlocated, IsUnlocatedPart, shown_of}
+use Rattle.mufom_command.specs.Locations.{IsUnkept, IsUnlocated, IsUnlocatedPart, shown_of}
 use Rattle.mufom_outcome.specs.Outcomes.{outcome_of_link, outcome_of_locate, outcome_of_prune}
 use Rattle.mufom_outcome.specs.Stop.{Stop, link_fact}
 use Rattle.mufom_command.proofs.KeptLaws.{rest-own}
@@ -106,27 +107,35 @@ alike-shown origins plan own kept (inr (none, no_rest, means)) r =
     shown-whole origins plan own r none ∙ same-map own.modules kept.modules means origins plan r ∙ sym (shown-whole origins plan kept r no_rest)
 
 -- what is shown of a module that is kept of a whole one is what a map shows of that
-pub part-shown : (keep : Option (List ℕ)) (whole part : TracedModule) (is : IsKeptPart keep whole part) (plan : Plan) (r : LocatedParts)
+pub part-shown : (keep : Option Roots) (whole part : TracedModule) (is : IsKeptPart keep whole part) (plan : Plan) (r : LocatedParts)
     → mapped_by part.origins plan (flat_sections (part.object ∷ [])) (placed_commons (part.object ∷ []) plan) r ≡ mapped_kept whole.origins plan is.kept r
 part-shown keep whole part is plan r = λ i.
     mapped_by (is.origins i) plan (flat_sections (sym is.modules i)) (placed_commons (sym is.modules i) plan) r
 
--- what is left of a module for a name, with the origins of what is left, is what is kept of it
-pub part-is : (name : List ℕ) (whole : TracedModule) (left : Pruned) (origins : List Origin) → IsPrunedWithMarks left whole.object name
-    → has_name (public_names (whole.object ∷ [])) name ≡ true → origins ≡ origins_left left.sections.items left.publics.items whole.origins
-    → IsKeptPart (Some name) whole (record { origins = origins; object = left.«module» })
-part-is name whole left origins is known same =
+-- what is left of a module for roots, with the origins of what is left, is what is kept of it
+pub part-is : (roots : Roots) (whole : TracedModule) (left : Pruned) (origins : List Origin)
+    → IsPrunedWithMarksFor left whole.object roots.names roots.stays → first_unknown (whole.object ∷ []) roots.names ≡ None
+    → origins ≡ origins_left left.sections.items left.publics.items whole.origins
+    → IsKeptPart (Some roots) whole (record { origins = origins; object = left.«module» })
+part-is roots whole left origins is known same =
     let c = remains whole.object is.pruned.marks in
     record {
       kept = rest_of whole.object c;
-      keeps = rest-own name left.«module» whole.object is.pruned known;
+      keeps = rest-own roots left.«module» whole.object is.pruned known;
       modules = ap (λ (m : Parts). m ∷ []) (sym is.pruned.is);
       origins = same ∙ (λ i. origins_left (is.sections i) (is.publics i) whole.origins);
     }
 
--- without a name that is all of it
+-- without roots that is all of it
 pub whole-kept : (whole : TracedModule) → IsKeptPart None whole whole
 whole-kept whole = record { kept = all_of (whole.object ∷ []); keeps = refl; modules = refl; origins = refl }
+
+pub none-kept : (keep stays : List (List ℕ)) (whole : TracedModule) → keep ≡ [] → IsKeptPart (roots_with keep stays) whole whole
+none-kept keep stays whole none = subst (λ (names : List (List ℕ)). IsKeptPart (roots_with names stays) whole whole) (sym none) (whole-kept whole)
+
+pub no-names : (keep : List (List ℕ)) → length keep < 1 → keep ≡ []
+no-names [] less = refl
+no-names (name ∷ names) less = absurd (omega (arith, less))
 
 -- the origins of the members and roots that are linked are those of the flat list
 pub flat-origins : (tree : Forest) → leaves tree ≡ numbers_from 0 (length (leaves tree)) → (ms : List Parts) (places : Places) → HasPlaces tree ms places
@@ -139,7 +148,7 @@ flat-origins tree first ms places has origins same = record {
 
 -- ---- what is located of the modules of a tree
 
-module _ (tree : Forest) (first : leaves tree ≡ numbers_from 0 (length (leaves tree))) (ms : List Parts) (valid : AreValid ms) (keep : Option (List ℕ))
+module _ (tree : Forest) (first : leaves tree ≡ numbers_from 0 (length (leaves tree))) (ms : List Parts) (valid : AreValid ms) (keep : Option Roots)
     (plan : Plan) (places : Places) (whole part : TracedModule) (link : IsTracedLink tree ms places whole) (is : IsKeptPart keep whole part) where
   -- the map of what is kept of their link is that of what is kept of the flat list
   pub part-mapped : IsSoundPlan plan → (m : Location) → LocatesPart part plan m → AreMapped tree keep plan ms m
@@ -175,33 +184,38 @@ module _ (tree : Forest) (first : leaves tree ≡ numbers_from 0 (length (leaves
 -- ---- what keeps modules from being located
 
 -- ends the location of their flat list
-pub obstacle-ends : (tree : Forest) → leaves tree ≡ numbers_from 0 (length (leaves tree)) → (ms : List Parts) → AreValid ms → (keep : Option (List ℕ))
-    (plan : Plan) (o : Obstacle) → IsObstacle tree keep ms o → HasPlan plan o → EndsAt (location_of tree keep plan ms) (outcome_of_obstacle o)
+pub obstacle-ends : (tree : Forest) → leaves tree ≡ numbers_from 0 (length (leaves tree)) → (ms : List Parts) → AreValid ms → (keep : List (List ℕ))
+    (plan : Plan) (o : Obstacle) → IsObstacle tree keep ms o → HasPlan plan o
+    → EndsAt (location_of tree (roots_by keep plan) plan ms) (outcome_of_obstacle o)
 obstacle-ends tree first ms valid keep plan (obstacle.Unlinked r) is same =
-    ends-along (with_stops link_fact (linked_module tree None ms)) (location_of tree keep plan ms) (unlinked-stops tree ms valid keep plan)
-    (outcome_of_link r) (link-ends (linked_module tree None ms) r is)
-obstacle-ends tree first ms valid keep plan (obstacle.Unkept r places) is same =
-    ends-along (own_kept keep is.whole.object) (location_of tree keep plan ms)
-    (link-unkept tree ms valid is.whole.object is.link.valid plan keep is.link.links) (outcome_of_prune r) is.ends
+    ends-along (with_stops link_fact (linked_module tree None ms)) (location_of tree (roots_by keep plan) plan ms)
+    (unlinked-stops tree ms valid (roots_by keep plan) plan) (outcome_of_link r) (link-ends (linked_module tree None ms) r is)
+obstacle-ends tree first ms valid keep plan (obstacle.Unkept r own places) is same =
+    let by : IsUnkept tree (roots_by keep plan) ms r places = subst (λ (p : Plan). IsUnkept tree (roots_by keep p) ms r places) same is in
+    ends-along (own_kept (roots_by keep plan) by.whole.object) (location_of tree (roots_by keep plan) plan ms)
+    (link-unkept tree ms valid by.whole.object by.link.valid plan (roots_by keep plan) by.link.links) (outcome_of_prune r) by.ends
 obstacle-ends tree first ms valid keep plan (obstacle.Unlocated r part own places) is same =
-    ends-along (located plan (part.object ∷ [])) (location_of tree keep plan ms)
-    (part-unlocated tree first ms valid keep plan places is.whole part is.link is.kept) (outcome_of_locate part.object.maus r)
-    (locate-ends (part.object ∷ []) plan r (subst (λ (p : Plan). IsMet (locate_answer (part.object ∷ []) p) r) same is.met))
+    let by : IsUnlocated tree (roots_by keep plan) ms r part plan places
+    = subst (λ (p : Plan). IsUnlocated tree (roots_by keep p) ms r part p places) same is in
+    ends-along (located plan (part.object ∷ [])) (location_of tree (roots_by keep plan) plan ms)
+    (part-unlocated tree first ms valid (roots_by keep plan) plan places by.whole part by.link by.kept) (outcome_of_locate part.object.maus r)
+    (locate-ends (part.object ∷ []) plan r by.met)
 
 -- a part that cannot be located is what keeps the modules from having a location
-pub unlocated-is : (tree : Forest) (keep : Option (List ℕ)) (ms : List Parts) (places : Places) (whole part : TracedModule) (plan : Plan)
-    → IsTracedLink tree ms places whole → IsKeptPart keep whole part → IsSoundPlan plan → (o : Obstacle) → IsUnlocatedPart part plan places o
-    → IsObstacle tree keep ms o
+pub unlocated-is : (tree : Forest) (keep : List (List ℕ)) (ms : List Parts) (places : Places) (whole part : TracedModule) (plan : Plan)
+    → IsTracedLink tree ms places whole → IsKeptPart (roots_by keep plan) whole part → IsSoundPlan plan → (o : Obstacle)
+    → IsUnlocatedPart part plan places o → IsObstacle tree keep ms o
 unlocated-is tree keep ms places whole part plan link kept sound (obstacle.Unlocated r own by at) (same, planned, placed, met) =
-    let is : IsUnlocated tree keep ms r part plan places = record { whole = whole; link = link; kept = kept; sound = sound; met = met } in
-    subst (λ (x : TracedModule). IsUnlocated tree keep ms r x by at) (sym same)
-    (subst (λ (x : Plan). IsUnlocated tree keep ms r part x at) (sym planned)
-    (subst (λ (x : Places). IsUnlocated tree keep ms r part plan x) (sym placed) is))
+    let is : IsUnlocated tree (roots_by keep plan) ms r part plan places
+    = record { whole = whole; link = link; kept = kept; sound = sound; met = met } in
+    subst (λ (x : TracedModule). IsUnlocated tree (roots_by keep by) ms r x by at) (sym same)
+    (subst (λ (x : Plan). IsUnlocated tree (roots_by keep x) ms r part x at) (sym planned)
+    (subst (λ (x : Places). IsUnlocated tree (roots_by keep plan) ms r part plan x) (sym placed) is))
 unlocated-is tree keep ms places whole part plan link kept sound (obstacle.Unlinked r) never = absurd never
-unlocated-is tree keep ms places whole part plan link kept sound (obstacle.Unkept r at) never = absurd never
+unlocated-is tree keep ms places whole part plan link kept sound (obstacle.Unkept r by at) never = absurd never
 
 -- by this plan
 pub unlocated-plan : (part : TracedModule) (plan : Plan) (places : Places) (o : Obstacle) → IsUnlocatedPart part plan places o → HasPlan plan o
 unlocated-plan part plan places (obstacle.Unlocated r own by at) is = is.1
 unlocated-plan part plan places (obstacle.Unlinked r) never = absurd never
-unlocated-plan part plan places (obstacle.Unkept r at) never = absurd never
+unlocated-plan part plan places (obstacle.Unkept r by at) never = absurd never

@@ -1,7 +1,8 @@
 -- A task that links no files names no more than an input if it has no output.
 use Rattle.std.proofs.Common.{◌≡◌, ◌≢◌, ℕ, ◌*◌, ◌<◌, ◌≤◌, Bool, cond, flat_map, true, false, List, [], length, Option, Some, None, refl, sym, subst}
-use Rattle.std.proofs.Common.{inl, inr, arith}
+use Rattle.std.proofs.Common.{◌∙◌, inl, inr, arith}
 use Rattle.mufom_host.specs.World.{Faults, Meaning, NamedFile, OnlyPrints}
+use Rattle.mufom_host.specs.declared.cause.Cause.{Cause}
 use Rattle.mufom_numbers.specs.declared.limits.TheConstants.{MOST_MODULES}
 use Rattle.mufom_make.specs.Generated.{made_modules, made_plan}
 use Rattle.mufom_make.proofs.NoFactLaws.{all-locate}
@@ -21,13 +22,14 @@ use Rattle.mufom_task.specs.declared.task.Task.TheVariants as task
 use Rattle.mufom_outcome.specs.declared.outcome.Input.{Input}
 use Rattle.mufom_outcome.specs.declared.outcome.Input.TheVariants as input
 use Rattle.mufom_task.specs.Ends.{IsInputReached, IsStopped, OverFiles}
-use Rattle.mufom_task.specs.InputsRead.{ReadingStops}
+use Rattle.mufom_task.specs.InputsRead.{KeepsPlan, ReadingStops}
+use Rattle.mufom_outcome.specs.declared.outcome.Refusal.TheVariants as refusal
 use Rattle.mufom_task.specs.Reading.{text_in}
 use Rattle.mufom_task.specs.Sound.{IsSoundInputs, IsSoundTask}
 use Rattle.mufom_task.specs.Tasks.{inputs_of, no_inputs, reads_files}
 use Rattle.mufom_task.proofs.InputLaws.{call_between}
 use Rattle.mufom_command.specs.Explain.{EndsFor}
-use Rattle.mufom_command.specs.HasDetails.{IsTaskDetail, inputs_read}
+use Rattle.mufom_command.specs.HasDetails.{IsInputDetail, IsTaskDetail, IsUnreadDetail, inputs_read}
 use Rattle.mufom_command.specs.RunParts.{IsUnprepared, NamesInputs, StopsFor}
 use Rattle.mufom_text.specs.Show.{text_of}
 use Rattle.mufom_command.specs.Text.{Text, check_text}
@@ -123,11 +125,59 @@ never-reached (task.Locate inputs keep p) none at files reached = absurd cc
 never-reached (task.FromTxt inputs maus out) none at files reached = absurd cc
 never-reached (task.Build inputs out) none at files reached = absurd cc
 
+-- ---- a task that reads no plan
+
+no-plan : (t : Task) → IsSoundTask t → NamesInputs t → (inputs_of t).plan ≡ None
+no-plan (task.Show inputs full) sound other = sound.sound.no_plan
+no-plan (task.Check inputs) sound other = sound.no_plan
+no-plan (task.Link inputs name out) sound other = absurd other
+no-plan (task.Locate inputs keep p) sound other = absurd other
+no-plan (task.FromTxt inputs maus out) sound other = sound.0.sound.no_plan
+no-plan (task.Build inputs out) sound other = sound.sound.no_plan
+no-plan (task.Make count) sound other = refl
+no-plan (task.Help text) sound other = refl
+
+keeps-none : (plan : Option (List ℕ)) → plan ≡ None → (files : Option (List NamedFile)) (stop : Outcome) → KeepsPlan plan files [] stop
+keeps-none plan none files (outcome.Refused (refusal.Plan r)) = λ name named. absurd (let both : Some name ≡ None = sym named ∙ none in cc)
+keeps-none plan none files (outcome.Refused (refusal.Read n r)) = tt
+keeps-none plan none files (outcome.Refused (refusal.Bin count)) = tt
+keeps-none plan none files (outcome.Refused (refusal.Keep kept)) = tt
+keeps-none plan none files (outcome.Refused (refusal.Text r)) = tt
+keeps-none plan none files (outcome.Refused (refusal.Build r)) = tt
+keeps-none plan none files (outcome.Refused (refusal.InputLimit n)) = tt
+keeps-none plan none files (outcome.Refused (refusal.TooManyFiles n)) = tt
+keeps-none plan none files (outcome.Refused (refusal.TooDeep n)) = tt
+keeps-none plan none files (outcome.Refused (refusal.Link l)) = tt
+keeps-none plan none files (outcome.Refused (refusal.Locate l maus)) = tt
+keeps-none plan none files outcome.Done = tt
+keeps-none plan none files (outcome.Usage f) = tt
+keeps-none plan none files (outcome.ReadFault at) = tt
+keeps-none plan none files outcome.WriteFault = tt
+keeps-none plan none files outcome.NoMemory = tt
+
+unread-none : (c : Inputs) (host_tells : Cause) → c.plan ≡ None → (stop : Outcome) (details : List ℕ) → IsInputDetail c host_tells stop details → IsUnreadDetail c host_tells [] stop details
+unread-none c host_tells none (outcome.Refused (refusal.Plan r)) details is = λ name named. absurd (let both : Some name ≡ None = sym named ∙ none in cc)
+unread-none c host_tells none (outcome.Refused (refusal.Read n r)) details is = is
+unread-none c host_tells none (outcome.Refused (refusal.Bin count)) details is = is
+unread-none c host_tells none (outcome.Refused (refusal.Keep kept)) details is = is
+unread-none c host_tells none (outcome.Refused (refusal.Text r)) details is = is
+unread-none c host_tells none (outcome.Refused (refusal.Build r)) details is = is
+unread-none c host_tells none (outcome.Refused (refusal.InputLimit n)) details is = is
+unread-none c host_tells none (outcome.Refused (refusal.TooManyFiles n)) details is = is
+unread-none c host_tells none (outcome.Refused (refusal.TooDeep n)) details is = is
+unread-none c host_tells none (outcome.Refused (refusal.Link l)) details is = is
+unread-none c host_tells none (outcome.Refused (refusal.Locate l maus)) details is = is
+unread-none c host_tells none outcome.Done details is = is
+unread-none c host_tells none (outcome.Usage f) details is = is
+unread-none c host_tells none (outcome.ReadFault at) details is = is
+unread-none c host_tells none outcome.WriteFault details is = is
+unread-none c host_tells none outcome.NoMemory details is = is
+
 -- ---- how it is explained
 
 module _ (t : Task) (sound : IsSoundTask t) (other : NamesInputs t) (old mid new : Meaning) (before between now : Faults)
     (prints : OnlyPrints mid new between now) (stop : Outcome) (is : IsUnprepared t (call_between old mid before between) stop)
-    (memory : stop ≢ outcome.NoMemory) (details : List ℕ) (told : IsTaskDetail (inputs_read t) stop details) where
+    (memory : stop ≢ outcome.NoMemory) (host_tells : Cause) (details : List ℕ) (told : IsTaskDetail (inputs_read t) host_tells stop details) where
   reads-stop : reads_files t ≡ true → (o : Outcome) → StopsFor t (call_between old mid before between) o
       → ReadingStops (λ fs. work_of t fs) (inputs_of t) (call_between old mid before between) o
   reads-stop reads (outcome.Refused r) why = subst (λ (b : Bool). IsStopped b (λ fs. work_of t fs) old.files (outcome.Refused r)) reads why
@@ -150,14 +200,16 @@ module _ (t : Task) (sound : IsSoundTask t) (other : NamesInputs t) (old mid new
   pub other-explained : EndsFor t (call_between old new before now) stop details
   other-explained = by (reads_files t) refl where
     by : (b : Bool) → reads_files t ≡ b → EndsFor t (call_between old new before now) stop details
-    by true reads = reading-ends t (λ fs. work_of t fs) (other-ends t sound other) (some-file t sound reads) old mid before between (λ fs s ends. ends) reads
+    by true reads = reading-ends t (λ fs. work_of t fs) (other-ends t sound other) (some-file t sound reads) [] old mid before between host_tells (λ fs s ends. ends) reads
         new now prints stop (reads-stop reads stop is.why) is.opens is.named memory details
-        (subst (λ (b : Bool). IsTaskDetail (cond b (Some (inputs_of t)) None) stop details) reads told)
+        (keeps-none (inputs_of t).plan (no-plan t sound other) old.files stop)
+        (unread-none (inputs_of t) host_tells (no-plan t sound other) stop details
+        (subst (λ (b : Bool). IsTaskDetail (cond b (Some (inputs_of t)) None) host_tells stop details) reads told))
     by false none = absurd (none-stopped none stop memory is.why)
 
 -- a task of another kind names no more than an input
 pub names-inputs : (t : Task) → ((inputs : Inputs) (name : Option (List ℕ)) (out : List ℕ) → t ≢ task.Link inputs name out)
-    → ((inputs : Inputs) (keep : Option (List ℕ)) (p : Product) → t ≢ task.Locate inputs keep p) → NamesInputs t
+    → ((inputs : Inputs) (keep : List (List ℕ)) (p : Product) → t ≢ task.Locate inputs keep p) → NamesInputs t
 names-inputs (task.Link inputs name out) link locate = absurd (link inputs name out refl)
 names-inputs (task.Locate inputs keep p) link locate = absurd (locate inputs keep p refl)
 names-inputs (task.Show inputs full) link locate = tt

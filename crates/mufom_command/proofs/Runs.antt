@@ -30,7 +30,7 @@ use Rattle.mufom_meaning.specs.Joined.{IsJoined}
 use Rattle.mufom_meaning.proofs.staging.JoinedSingle.{joined_is_single}
 use Rattle.mufom_module.specs.Defects.{IsValid}
 use Rattle.mufom_plan.specs.Names.{has_name}
-use Rattle.mufom_prune.specs.Kept.{IsKept}
+use Rattle.mufom_prune.specs.Kept.{IsKeptFor}
 use Rattle.mufom_prune.specs.Pruned.{remains}
 use Rattle.mufom_prune.proofs.Single.{kept_is_single}
 use Rattle.mufom_groups.specs.Work.{Reached, gives, stops, Work, ◌>>=◌, one_with, stop_at, sure, with_stops, IsSingle}
@@ -59,11 +59,12 @@ use Rattle.mufom_titxt.specs.declared.refusal.TxtRefusal.{TxtRefusal}
 use Rattle.mufom_titxt.specs.TextModules.{text_parts}
 use Rattle.mufom_titxt.specs.Texts.{txt_cells, txt_refusal}
 use Rattle.mufom_titxt.specs.Written.{txt_text}
+use Rattle.mufom_command.specs.Roots.{Roots, first_unknown, roots_by}
 use Rattle.mufom_command.specs.Works.{Kept, Output, all_of, printed, made, form_of, prints, writes, writes_module, kept_of, kept_unless}
 use Rattle.mufom_command.specs.Works.{linked_file, listing, linking, located, located_unless, locating_kept, mapped_kept, maus_of, module_of_text}
 use Rattle.mufom_command.specs.Works.{not_explained, parts_of_listing, parts_of_txt, producing, product_of, product_with, raw_file, rest_of}
 use Rattle.mufom_command.specs.Works.{rest_of_module, runs_of_text, runs_unless, unless_too_long, work_by, work_for, work_of}
-use Rattle.mufom_task.specs.Reading.{file_in, plan_by}
+use Rattle.mufom_task.specs.Reading.{carried_out, file_in, plan_by}
 use Rattle.mufom_task.specs.Reading.{plan_in, modules_in}
 use Rattle.mufom_task.specs.Reading.{text_in, unless_past_limit}
 use Rattle.mufom_task.specs.declared.task.Inputs.{Inputs}
@@ -82,7 +83,8 @@ use Rattle.mufom_task.specs.Calls.{Call}
 use Rattle.mufom_task.specs.Ends.{OverFiles, stop_outcome}
 use Rattle.mufom_outcome.specs.Outcomes.{stop_answer}
 use Rattle.mufom_origins.specs.Origins.{origins_of}
-use Rattle.mufom_map.specs.MapText.{map_text}
+use Rattle.mufom_map.specs.MapText.{view_text}
+use Rattle.mufom_origins.specs.Words.{FileNames}
 use Rattle.mufom_command.specs.FlatFiles.{AreFlatFiles}
 use Rattle.mufom_command.proofs.MapLaws.{flat-files-single}
 use Rattle.mufom_task.proofs.Verdicts.{one_verdict}
@@ -144,8 +146,8 @@ plan_by-single (Err r) = stop_at-single (plan_refused r)
 pub plan_in-single : (files : List NamedFile) (name : Option (List ℕ)) → IsSingle (plan_in files name)
 plan_in-single files None = sure-single no_regions
 plan_in-single files (Some name) =
-    then-single (file_in files name) (λ bytes. plan_by (plan_of_text bytes)) (one-file files name)
-    (λ bytes. plan_by-single (plan_of_text bytes))
+    then-single (file_in files name) (λ bytes. plan_by (carried_out (plan_of_text bytes))) (one-file files name)
+    (λ bytes. plan_by-single (carried_out (plan_of_text bytes)))
 
 -- ---- what is put out of a list
 
@@ -155,28 +157,29 @@ located-single plan ms = by (locate_answer ms plan) where
   by None = one_with-single (IsLocation ms plan) (location_is_single ms plan)
   by (Some f) = stop_at-single (locate_fact (maus_of ms) f)
 
-rest_of_module-single : (name : List ℕ) (M : Parts) → IsSingle (rest_of_module name M)
-rest_of_module-single name M =
-    then-single (one_with (IsKept M name)) (λ marks. sure (rest_of M (remains M marks)))
-    (one_with-single (IsKept M name) (λ marks others is_one is_other. kept_is_single M name marks others is_one is_other))
+rest_of_module-single : (roots : Roots) (M : Parts) → IsSingle (rest_of_module roots M)
+rest_of_module-single roots M =
+    then-single (one_with (IsKeptFor M roots.names roots.stays)) (λ marks. sure (rest_of M (remains M marks)))
+    (one_with-single (IsKeptFor M roots.names roots.stays) (λ marks others is_one is_other.
+    kept_is_single M roots.names roots.stays marks others is_one is_other))
     (λ marks. sure-single (rest_of M (remains M marks)))
 
-pub kept_of-single : (keep : Option (List ℕ)) (ms : List Parts) → IsSingle (kept_of keep ms)
+pub kept_of-single : (keep : Option Roots) (ms : List Parts) → IsSingle (kept_of keep ms)
 kept_of-single None ms = sure-single (all_of ms)
-kept_of-single (Some name) ms = by (has_name (public_names ms) name) where
-  by : (b : Bool) → IsSingle (kept_unless b name ms)
-  by false = stop_at-single (keep_unknown name)
-  by true =
-      then-single (one_with (λ M. IsValid M × IsJoined M ms (first_name ms))) (λ M. rest_of_module name M)
+kept_of-single (Some roots) ms = by (first_unknown ms roots.names) where
+  by : (o : Option (List ℕ)) → IsSingle (kept_unless o roots ms)
+  by (Some name) = stop_at-single (keep_unknown name)
+  by None =
+      then-single (one_with (λ M. IsValid M × IsJoined M ms (first_name ms))) (λ M. rest_of_module roots M)
       (one_with-single (λ M. IsValid M × IsJoined M ms (first_name ms))
-      (λ M N is_one is_other. joined_is_single M N ms (first_name ms) is_one.1 is_other.1)) (rest_of_module-single name)
+      (λ M N is_one is_other. joined_is_single M N ms (first_name ms) is_one.1 is_other.1)) (rest_of_module-single roots)
 
 pub linked_file-single : (name : Option (List ℕ)) (out : List ℕ) (flat : List Parts) → IsSingle (linked_file name out flat)
 linked_file-single name out flat =
     then-single (with_stops link_fact (joined name flat)) (λ M. writes_module out M)
     (stops-single link_fact (joined name flat) (joined-single name flat)) (writes_module-single out)
 
-pub locating_kept-single : (keep : Option (List ℕ)) (plan : Plan) (flat : List Parts) (output : Kept → LocatedParts → Work Stop Output)
+pub locating_kept-single : (keep : Option Roots) (plan : Plan) (flat : List Parts) (output : Kept → LocatedParts → Work Stop Output)
     → ((kept : Kept) (r : LocatedParts) → IsSingle (output kept r)) → IsSingle (locating_kept output keep plan flat)
 locating_kept-single keep plan flat output single =
     then-single (kept_of keep flat) (λ kept. located plan kept.modules >>= λ r. output kept r) (kept_of-single keep flat) λ kept.
@@ -190,19 +193,19 @@ raw_file-single fill out r = by (nat_lt MOST_FILE_BYTES (length (raw_image fill 
   by true = stop_at-single (raw_too_long (length (raw_image fill r.runs)))
   by false = writes-single out (raw_image fill r.runs)
 
-pub product-single : (p : Product) (shown : Mapped) (r : LocatedParts) → IsSingle (product_of p shown r)
-product-single (product.Absolute out) shown r = writes_module-single out (absolute_of r)
-product-single (product.Raw fill out) shown r = raw_file-single fill out r
-product-single (product.TiTxt out) shown r = writes-single out (txt_text r.runs)
-product-single product.Image shown r = sure-single (printed (image_text r))
-product-single product.Map shown r = sure-single (printed (map_text shown))
-product-single (product.Hit at) shown r = sure-single (printed (hit_text r.maus (hit_at r.debug at)))
+pub product-single : (p : Product) (names : FileNames) (shown : Mapped) (r : LocatedParts) → IsSingle (product_of p names shown r)
+product-single (product.Absolute out) names shown r = writes_module-single out (absolute_of r)
+product-single (product.Raw fill out) names shown r = raw_file-single fill out r
+product-single (product.TiTxt out) names shown r = writes-single out (txt_text r.runs)
+product-single product.Image names shown r = sure-single (printed (image_text r))
+product-single (product.Map at) names shown r = sure-single (printed (view_text names at shown))
+product-single (product.Hit at) names shown r = sure-single (printed (hit_text r.maus (hit_at r.debug at)))
 
-producing-single : (p : Product) (tree : Forest) (ms : List Parts) (plan : Plan) (kept : Kept) (r : LocatedParts)
-    → IsSingle (producing p tree ms plan kept r)
-producing-single p tree ms plan kept r =
-    then-single (one_with (AreFlatFiles tree ms)) (λ flat. product_with p (origins_of flat) plan kept r) (flat-files-single tree ms)
-    (λ flat. product-single p (mapped_kept (origins_of flat) plan kept r) r)
+producing-single : (p : Product) (names : FileNames) (tree : Forest) (ms : List Parts) (plan : Plan) (kept : Kept) (r : LocatedParts)
+    → IsSingle (producing p names tree ms plan kept r)
+producing-single p names tree ms plan kept r =
+    then-single (one_with (AreFlatFiles tree ms)) (λ flat. product_with p names (origins_of flat) plan kept r) (flat-files-single tree ms)
+    (λ flat. product-single p names (mapped_kept (origins_of flat) plan kept r) r)
 
 -- ---- a text
 
@@ -297,8 +300,9 @@ module _ (files : List NamedFile) (bytes : HoldBytes files) where
   work_of-single (task.Link inputs name out) =
       linking-single inputs (λ ms plan flat. linked_file name out flat) (λ ms plan flat. linked_file-single name out flat)
   work_of-single (task.Locate inputs keep p) =
-      linking-single inputs (λ ms plan flat. locating_kept (producing p (tree_of inputs.marks) ms plan) keep plan flat)
-      (λ ms plan flat. locating_kept-single keep plan flat (producing p (tree_of inputs.marks) ms plan) (producing-single p (tree_of inputs.marks) ms plan))
+      linking-single inputs (λ ms plan flat. locating_kept (producing p inputs.files (tree_of inputs.marks) ms plan) (roots_by keep plan) plan flat)
+      (λ ms plan flat. locating_kept-single (roots_by keep plan) plan flat (producing p inputs.files (tree_of inputs.marks) ms plan)
+      (producing-single p inputs.files (tree_of inputs.marks) ms plan))
   work_of-single (task.FromTxt inputs maus out) = module_of_text-single (parts_of_txt maus) (parts_of_txt-single maus) out files inputs
   work_of-single (task.Build inputs out) = module_of_text-single parts_of_listing parts_of_listing-single out files inputs
   work_of-single (task.Make count) = then-single (located (made_plan count) (made_modules count)) (λ r. prints (summary count r))

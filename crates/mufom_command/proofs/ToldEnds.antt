@@ -34,14 +34,16 @@ use Rattle.mufom_task.specs.declared.task.Task.{Task}
 use Rattle.mufom_task.specs.declared.task.Task.TheVariants as task
 use Rattle.mufom_task.specs.Ends.{stop_outcome}
 use Rattle.mufom_task.specs.InputsRead.{inputs_in}
-use Rattle.mufom_task.specs.Tasks.{inputs_of, keep_of, reads_files}
+use Rattle.mufom_task.specs.Tasks.{file_of, inputs_of, keep_of, reads_files}
 use Rattle.mufom_task.proofs.InputsLaws.{known-map, over-map}
 use Rattle.mufom_command.specs.declared.locating.Location.{Location}
 use Rattle.mufom_command.specs.declared.ready.Ready.{Ready}
 use Rattle.mufom_command.specs.HasDetails.{IsRefusedFlat, explained_by, lines_of_link, lines_of_locate, lines_of_name}
+use Rattle.mufom_command.specs.InputLines.{untried_lines}
 use Rattle.mufom_command.specs.Locations.{AreMapped, shown_of}
 use Rattle.mufom_command.specs.Ready.{ready_output}
 use Rattle.mufom_command.specs.RunParts.{AreLinkedFlat, AreReadFrom, AreUnkept, AreUnlocated, EndsOver, IsKeptFlat, LinksLists, MakesLink}
+use Rattle.mufom_command.specs.Roots.{roots_by}
 use Rattle.mufom_command.specs.Works.{Kept, Output, kept_of, located, made, maus_of, product_of, work_of}
 use Rattle.mufom_command.specs.WorkEnds.{EndsAt, IsOfModules}
 use Rattle.mufom_command.proofs.EndLaws.{locate-ends}
@@ -117,7 +119,7 @@ module _ (files : Option (List NamedFile)) (t : Task) (c : Inputs) (name : Optio
 -- a link is done
 pub link-over : (files : Option (List NamedFile)) (c : Inputs) (name : Option (List ℕ)) (out : List ℕ) (plan : Plan) (ms : List Parts)
     → AreReadFrom files c plan ms → (ready : Ready) → MakesLink (tree_of c.marks) name out ms ready
-    → EndsOver files (task.Link c name out) outcome.Done []
+    → EndsOver files (task.Link c name out) outcome.Done (untried_lines (Some out))
 link-over files c name out plan ms read ready makes = (
   (
     made out (written makes.object),
@@ -132,7 +134,7 @@ link-over files c name out plan ms read ready makes = (
 
 -- ---- a name that no public has
 
-module _ (files : Option (List NamedFile)) (c : Inputs) (keep : Option (List ℕ)) (p : Product) (plan : Plan) (ms : List Parts) where
+module _ (files : Option (List NamedFile)) (c : Inputs) (keep : List (List ℕ)) (p : Product) (plan : Plan) (ms : List Parts) where
   abbrev t : Task
   t = task.Locate c keep p
 
@@ -143,7 +145,7 @@ module _ (files : Option (List NamedFile)) (c : Inputs) (keep : Option (List ℕ
     pub unknown-over : (name details : List ℕ) → AreUnkept files c keep plan ms flat name → details ≡ name_details c.files flat name
         → EndsOver files t (outcome.Refused (refusal.Keep name)) details
     unknown-over name details is are = both is.ends where
-      by : (s : Stop) → IsOfModules s → outcome.Refused (refusal.Keep name) ≡ stop_outcome s → kept_of keep (modules_of flat) (stops s)
+      by : (s : Stop) → IsOfModules s → outcome.Refused (refusal.Keep name) ≡ stop_outcome s → kept_of (roots_by keep plan) (modules_of flat) (stops s)
           → EndsOver files t (outcome.Refused (refusal.Keep name)) details
       by (keep_unknown other) of_modules names ends =
           let own : outcome.Refused (refusal.Keep name) ≡ outcome.Refused (refusal.Keep other) = names in
@@ -170,7 +172,7 @@ module _ (files : Option (List NamedFile)) (c : Inputs) (keep : Option (List ℕ
       by (file_refused n r) of_modules names ends = absurd of_modules
       by (past_limit n) of_modules names ends = absurd of_modules
 
-      both : EndsAt (kept_of keep (modules_of flat)) (outcome.Refused (refusal.Keep name)) → EndsOver files t (outcome.Refused (refusal.Keep name)) details
+      both : EndsAt (kept_of (roots_by keep plan) (modules_of flat)) (outcome.Refused (refusal.Keep name)) → EndsOver files t (outcome.Refused (refusal.Keep name)) details
       both (inl same) = absurd cc
       both (inr (s, of_modules, names, ends)) = by s of_modules names ends
 
@@ -261,14 +263,15 @@ module _ (files : Option (List NamedFile)) (c : Inputs) (keep : Option (List ℕ
 
   -- ---- a location
 
-  module _ (read : AreReadFrom files c plan ms) (m : Location) (are : AreMapped (tree_of c.marks) keep plan ms m) where
+  module _ (read : AreReadFrom files c plan ms) (m : Location) (are : AreMapped (tree_of c.marks) (roots_by keep plan) plan ms m) where
     -- what is made of it
-    pub product-over : (ready : Ready) → product_of p (shown_of m) m.located (gives (ready_output ready)) → EndsOver files t outcome.Done []
+    pub product-over : (ready : Ready) → product_of p c.files (shown_of m) m.located (gives (ready_output ready))
+        → EndsOver files t outcome.Done (untried_lines (file_of p))
     product-over ready puts = (
       (
         ready_output ready,
         record {
-          place = product-place p (shown_of m) m.located (ready_output ready) puts;
+          place = product-place p c.files (shown_of m) m.located (ready_output ready) puts;
           cause = known-map read_in (λ fs. work_of t fs (gives (ready_output ready))) files
               (λ fs there. product-comes c plan ms fs there keep p m are (gives (ready_output ready)) puts) read;
         },
@@ -277,12 +280,12 @@ module _ (files : Option (List NamedFile)) (c : Inputs) (keep : Option (List ℕ
     )
 
     -- or why nothing is
-    pub unmade-over : (answer : Outcome) → EndsAt (product_of p (shown_of m) m.located) answer → (answer ≡ outcome.NoMemory) ⊎ EndsOver files t answer []
+    pub unmade-over : (answer : Outcome) → EndsAt (product_of p c.files (shown_of m) m.located) answer → (answer ≡ outcome.NoMemory) ⊎ EndsOver files t answer []
     unmade-over answer (inl lacks) = inl lacks
     unmade-over answer (inr (s, of_modules, names, ends)) =
-        let (count, same) = product-stops p (shown_of m) m.located s ends in
-        let long : product_of p (shown_of m) m.located (stops (raw_too_long count))
-        = subst (λ (x : Stop). product_of p (shown_of m) m.located (stops x)) same ends in
+        let (count, same) = product-stops p c.files (shown_of m) m.located s ends in
+        let long : product_of p c.files (shown_of m) m.located (stops (raw_too_long count))
+        = subst (λ (x : Stop). product_of p c.files (shown_of m) m.located (stops x)) same ends in
         inr (subst (λ (o : Outcome). EndsOver files t o []) (sym (names ∙ ap stop_outcome same)) (
           record {
             stop = raw_too_long count;

@@ -5,6 +5,7 @@ use Rattle.std.proofs.lemmas.Bool.{ltb-true}
 use Rattle.mufom_numbers.specs.declared.limits.TheConstants.{MOST_FILE_BYTES}
 use Rattle.mufom_host.specs.World.{NamedFile}
 use Rattle.mufom_map.specs.Mapped.{Mapped}
+use Rattle.mufom_origins.specs.Words.{FileNames}
 use Rattle.mufom_module.specs.declared.module.Parts.{Parts}
 use Rattle.mufom_module.specs.Written.{written}
 use Rattle.mufom_plan.specs.declared.plan.Plan.{Plan}
@@ -24,6 +25,7 @@ use Rattle.mufom_task.specs.Tasks.{file_of}
 use Rattle.mufom_command.specs.declared.locating.Location.{Location}
 use Rattle.mufom_command.specs.Locations.{AreMapped, shown_of}
 use Rattle.mufom_command.specs.Run.{file_name}
+use Rattle.mufom_command.specs.Roots.{roots_by}
 use Rattle.mufom_command.specs.Works.{IsHeld, Output, linked_file, linking, listing, locating, made, printed, product_of, raw_file, unless_too_long}
 use Rattle.mufom_command.specs.Text.{Text}
 use Rattle.mufom_command.specs.WorkEnds.{location_of}
@@ -86,9 +88,9 @@ module _ (c : Inputs) (plan : Plan) (ms : List Parts) (files : List NamedFile) (
 
   -- ---- the files were located
 
-  module _ (keep : Option (List ℕ)) (p : Product) where
+  module _ (keep : List (List ℕ)) (p : Product) where
     -- the fact that ends the locating
-    pub locating-stops : (s : Stop) → location_of (tree_of c.marks) keep plan ms (stops s) → locating keep p files c (stops s)
+    pub locating-stops : (s : Stop) → location_of (tree_of c.marks) (roots_by keep plan) plan ms (stops s) → locating keep p files c (stops s)
     locating-stops s (inl ends) = inr (plan, inputs-planned files c plan ms is, inr (ms, inputs-modules files c plan ms is, inl ends))
     locating-stops s (inr (flat, is_linked, inl ends)) =
         inr (plan, inputs-planned files c plan ms is, inr (ms, inputs-modules files c plan ms is, inr (flat, is_linked, inl ends)))
@@ -96,7 +98,8 @@ module _ (c : Inputs) (plan : Plan) (ms : List Parts) (files : List NamedFile) (
         inr (plan, inputs-planned files c plan ms is, inr (ms, inputs-modules files c plan ms is, inr (flat, is_linked, inr (kept, is_kept, inl ends))))
 
     -- what is made of the location, or why nothing is
-    pub product-comes : (m : Location) → AreMapped (tree_of c.marks) keep plan ms m → (x : Reached Stop Output) → product_of p (shown_of m) m.located x
+    pub product-comes : (m : Location) → AreMapped (tree_of c.marks) (roots_by keep plan) plan ms m → (x : Reached Stop Output)
+        → product_of p c.files (shown_of m) m.located x
         → locating keep p files c x
     product-comes m are (gives o) puts = (
       plan,
@@ -113,7 +116,7 @@ module _ (c : Inputs) (plan : Plan) (ms : List Parts) (files : List NamedFile) (
             (
               m.located,
               are.location,
-              (are.flat, are.files, subst (λ (shown : Mapped). product_of p shown m.located (gives o)) are.shows puts),
+              (are.flat, are.files, subst (λ (shown : Mapped). product_of p c.files shown m.located (gives o)) are.shows puts),
             ),
           ),
         ),
@@ -134,7 +137,7 @@ module _ (c : Inputs) (plan : Plan) (ms : List Parts) (files : List NamedFile) (
             inr (
               m.located,
               are.location,
-              inr (are.flat, are.files, subst (λ (shown : Mapped). product_of p shown m.located (stops s)) are.shows ends),
+              inr (are.flat, are.files, subst (λ (shown : Mapped). product_of p c.files shown m.located (stops s)) are.shows ends),
             ),
           ),
         ),
@@ -169,22 +172,23 @@ raw-place true out bytes o is = absurd is
 raw-place false out bytes o is = ap file_name is
 
 -- a file has the name that is given
-pub product-place : (p : Product) (shown : Mapped) (r : LocatedParts) (o : Output) → product_of p shown r (gives o) → file_name o ≡ file_of p
-product-place (product.Absolute out) shown r o (held, is) = ap file_name is
-product-place (product.Raw fill out) shown r o is = raw-place (nat_lt MOST_FILE_BYTES (length (raw_image fill r.runs))) out (raw_image fill r.runs) o is
-product-place (product.TiTxt out) shown r o is = ap file_name is
-product-place product.Image shown r o is = ap file_name is
-product-place product.Map shown r o is = ap file_name is
-product-place (product.Hit at) shown r o is = ap file_name is
+pub product-place : (p : Product) (names : FileNames) (shown : Mapped) (r : LocatedParts) (o : Output) → product_of p names shown r (gives o) → file_name o ≡ file_of p
+product-place (product.Absolute out) names shown r o (held, is) = ap file_name is
+product-place (product.Raw fill out) names shown r o is = raw-place (nat_lt MOST_FILE_BYTES (length (raw_image fill r.runs))) out (raw_image fill r.runs) o is
+product-place (product.TiTxt out) names shown r o is = ap file_name is
+product-place product.Image names shown r o is = ap file_name is
+product-place (product.Map at) names shown r o is = ap file_name is
+product-place (product.Hit at) names shown r o is = ap file_name is
 
 -- Only a raw image has no output, if it is too long.
-pub product-stops : (p : Product) (shown : Mapped) (r : LocatedParts) (s : Stop) → product_of p shown r (stops s) → (count : ℕ) × (s ≡ raw_too_long count)
-product-stops (product.Absolute out) shown r s (held, never) = absurd never
-product-stops (product.Raw fill out) shown r s is = by (nat_lt MOST_FILE_BYTES (length (raw_image fill r.runs))) is where
+pub product-stops : (p : Product) (names : FileNames) (shown : Mapped) (r : LocatedParts) (s : Stop) → product_of p names shown r (stops s)
+    → (count : ℕ) × (s ≡ raw_too_long count)
+product-stops (product.Absolute out) names shown r s (held, never) = absurd never
+product-stops (product.Raw fill out) names shown r s is = by (nat_lt MOST_FILE_BYTES (length (raw_image fill r.runs))) is where
   by : (b : Bool) → unless_too_long b out (raw_image fill r.runs) (stops s) → (count : ℕ) × (s ≡ raw_too_long count)
   by true is = (length (raw_image fill r.runs), is)
   by false is = absurd is
-product-stops (product.TiTxt out) shown r s never = absurd never
-product-stops product.Image shown r s never = absurd never
-product-stops product.Map shown r s never = absurd never
-product-stops (product.Hit at) shown r s never = absurd never
+product-stops (product.TiTxt out) names shown r s never = absurd never
+product-stops product.Image names shown r s never = absurd never
+product-stops (product.Map at) names shown r s never = absurd never
+product-stops (product.Hit at) names shown r s never = absurd never

@@ -1,6 +1,7 @@
 -- The lines about what the outcome of a task names: files, the plan, sections, regions, and the modules that mention a name.
 use Rattle.std.specs.Prelude.{◌≡◌, ◌⊎◌, ℕ, ◌<◌, List, [], length, Option, Some, None, IfSome, if◌then◌else◌}
-use Rattle.mufom_host.specs.World.{NamedFile}
+use Rattle.mufom_host.specs.World.{NamedFile, file_named}
+use Rattle.mufom_host.specs.declared.cause.Cause.{Cause}
 use Rattle.mufom_module.specs.declared.module.Parts.{Parts}
 use Rattle.mufom_meaning.specs.Facts.{LinkFact, LocateFact}
 use Rattle.mufom_words.specs.Tree.{tree_of}
@@ -20,12 +21,16 @@ use Rattle.mufom_outcome.specs.declared.outcome.Outcome.TheVariants as outcome
 use Rattle.mufom_outcome.specs.declared.outcome.Refusal.TheVariants as refusal
 use Rattle.mufom_outcome.specs.Stop.{Stop, words_refused, plan_refused, file_refused, past_limit, link_fact, keep_unknown, locate_fact, raw_too_long}
 use Rattle.mufom_outcome.specs.Stop.{text_refused, listing_refused}
+use Rattle.mufom_command.specs.Roots.{roots_by}
 use Rattle.mufom_command.specs.Works.{Kept, kept_of, kept_origins}
 use Rattle.mufom_task.specs.Reading.{modules_in, plan_in}
 use Rattle.mufom_task.specs.declared.task.Inputs.{Inputs}
 use Rattle.mufom_task.specs.declared.task.Task.{Task}
 use Rattle.mufom_task.specs.Tasks.{inputs_of, reads_files}
 use Rattle.mufom_command.specs.FlatFiles.{AreFlatFiles}
+use Rattle.mufom_command.specs.PlanLines.{ArePlanLines}
+use Rattle.mufom_plan.specs.declared.refusal.PlanRefusal.{PlanRefusal}
+use Rattle.mufom_command.specs.InputLines.{unread_file, unread_plan}
 use Rattle.mufom_outcome.specs.LocateRefusals.{locate_refusal}
 
 -- ---- inputs
@@ -41,10 +46,33 @@ pub record HasPlanLine (c : Inputs) (details : Text) : Type 0 where
   pub named : c.plan ≡ Some name
   pub are : details ≡ plan_line name
 
--- the line of an input
-abbrev pub HasInputLine : Inputs → Input → Text → Type 0
-HasInputLine c input.Plan details = HasPlanLine c details
-HasInputLine c (input.File n) details = HasFileLine c n details
+-- the line of one of the files, which could not be read, with a cause
+pub record HasUnreadFile (c : Inputs) (n : ℕ) (details : Text) : Type 0 where
+  pub cause : Cause
+  pub there : n < length c.files
+  pub are : details ≡ unread_file c.files n cause
+
+-- the line of the plan, if one is named and could not be read, with a cause
+pub record HasUnreadPlan (c : Inputs) (details : Text) : Type 0 where
+  pub cause : Cause
+  pub name : List ℕ
+  pub named : c.plan ≡ Some name
+  pub are : details ≡ unread_plan name cause
+
+-- The line of an input that could not be read. The cause may be any that a host tells of its last failed call: no clause of the trait binds it, but
+-- the host in memory has one.
+abbrev pub HasUnreadLine : Inputs → Input → Text → Type 0
+HasUnreadLine c input.Plan details = HasUnreadPlan c details
+HasUnreadLine c (input.File n) details = HasUnreadFile c n details
+
+-- The lines of a plan that is refused: those of the plan that is named and of the text of its file. Of which file the text is, is claimed only if the
+-- files are known.
+pub record HasPlanLines (files : Option (List NamedFile)) (c : Inputs) (r : PlanRefusal) (details : Text) : Type 0 where
+  pub name : List ℕ
+  pub named : c.plan ≡ Some name
+  pub text : List ℕ
+  pub of_file : IfSome files (λ fs. file_named name fs ≡ Some text)
+  pub are : ArePlanLines name text r details
 
 -- ---- linking
 
@@ -88,20 +116,20 @@ explained_by c plan flat kept maus = record {
 }
 
 -- the lines about an error of locating what is kept of the flat list
-abbrev pub lines_of_locate : List NamedFile → Inputs → Option (List ℕ) → ℕ → LocateFact → Work Stop Text
+abbrev pub lines_of_locate : List NamedFile → Inputs → List (List ℕ) → ℕ → LocateFact → Work Stop Text
 lines_of_locate files c keep maus f = do
   plan ← plan_in files c.plan
   ms ← modules_in files c
   flat ← one_with (AreFlatFiles (tree_of c.marks) ms)
-  kept ← kept_of keep (modules_of flat)
+  kept ← kept_of (roots_by keep plan) (modules_of flat)
   sure (locate_details (explained_by c plan flat kept maus) (locate_refusal f))
 
 -- ---- any end
 
--- The lines about what an error names, for these inputs and the symbol to keep, if one is named. If they depend on the files, this claims something
+-- The lines about what an error names, for these inputs and the symbols to keep. If they depend on the files, this claims something
 -- only if the files are known. Errors that name no file, section, region or symbol have no lines.
-abbrev pub HasDetails : Option (List NamedFile) → Inputs → Option (List ℕ) → Stop → Text → Type 0
-HasDetails files c keep (plan_refused r) details = HasPlanLine c details
+abbrev pub HasDetails : Option (List NamedFile) → Inputs → List (List ℕ) → Stop → Text → Type 0
+HasDetails files c keep (plan_refused r) details = HasPlanLines files c r details
 HasDetails files c keep (file_refused n r) details = HasFileLine c n details
 HasDetails files c keep (past_limit n) details = HasFileLine c n details
 HasDetails files c keep (text_refused r) details = HasFileLine c 0 details
@@ -112,22 +140,28 @@ HasDetails files c keep (locate_fact maus f) details = IfSome files (λ fs. line
 HasDetails files c keep (raw_too_long count) details = details ≡ []
 HasDetails files c keep (words_refused s) details = details ≡ []
 
--- The lines about the input that an outcome names; none if the outcome names no input. For a plan, this claims something only if one is named.
-abbrev pub IsInputDetail : Inputs → Outcome → Text → Type 0
-IsInputDetail c (outcome.ReadFault input.Plan) details = (name : List ℕ) → c.plan ≡ Some name → details ≡ plan_line name
-IsInputDetail c (outcome.ReadFault (input.File n)) details = details ≡ file_line c.files n
-IsInputDetail c (outcome.Refused (refusal.Plan r)) details = (name : List ℕ) → c.plan ≡ Some name → details ≡ plan_line name
-IsInputDetail c (outcome.Refused (refusal.Read n r)) details = details ≡ file_line c.files n
-IsInputDetail c (outcome.Refused (refusal.InputLimit n)) details = details ≡ file_line c.files n
-IsInputDetail c (outcome.Refused (refusal.Text r)) details = details ≡ file_line c.files 0
-IsInputDetail c (outcome.Refused (refusal.Build r)) details = details ≡ file_line c.files 0
-IsInputDetail c _ details = details ≡ []
+-- The lines about the input that an outcome names; none if the outcome names no input. If it could not be read, the host told this cause. For a plan,
+-- this claims something only if one is named.
+abbrev pub IsInputDetail : Inputs → Cause → Outcome → Text → Type 0
+IsInputDetail c cause (outcome.ReadFault input.Plan) details = (name : List ℕ) → c.plan ≡ Some name → details ≡ unread_plan name cause
+IsInputDetail c cause (outcome.ReadFault (input.File n)) details = details ≡ unread_file c.files n cause
+IsInputDetail c cause (outcome.Refused (refusal.Plan r)) details = (name : List ℕ) → c.plan ≡ Some name → details ≡ plan_line name
+IsInputDetail c cause (outcome.Refused (refusal.Read n r)) details = details ≡ file_line c.files n
+IsInputDetail c cause (outcome.Refused (refusal.InputLimit n)) details = details ≡ file_line c.files n
+IsInputDetail c cause (outcome.Refused (refusal.Text r)) details = details ≡ file_line c.files 0
+IsInputDetail c cause (outcome.Refused (refusal.Build r)) details = details ≡ file_line c.files 0
+IsInputDetail c cause _ details = details ≡ []
+
+-- The same if these are the bytes of the plan: if they are refused, the lines say where they are wrong.
+abbrev pub IsUnreadDetail : Inputs → Cause → List ℕ → Outcome → Text → Type 0
+IsUnreadDetail c cause text (outcome.Refused (refusal.Plan r)) details = (name : List ℕ) → c.plan ≡ Some name → ArePlanLines name text r details
+IsUnreadDetail c cause text answer details = IsInputDetail c cause answer details
 
 -- the inputs of a task that reads files
 abbrev pub inputs_read : Task → Option Inputs
 inputs_read t = if reads_files t then Some (inputs_of t) else None
 
 -- The line about the input of a task that an outcome names; none for a task that reads no files.
-abbrev pub IsTaskDetail : Option Inputs → Outcome → Text → Type 0
-IsTaskDetail None answer details = details ≡ []
-IsTaskDetail (Some inputs) answer details = IsInputDetail inputs answer details
+abbrev pub IsTaskDetail : Option Inputs → Cause → Outcome → Text → Type 0
+IsTaskDetail None cause answer details = details ≡ []
+IsTaskDetail (Some inputs) cause answer details = IsInputDetail inputs cause answer details

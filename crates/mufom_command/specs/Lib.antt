@@ -1,10 +1,13 @@
 pub mod Text
 pub mod FlatFiles
+pub mod Roots
 pub mod Works
 pub mod WorkEnds
 pub mod Locations
 pub mod Run
 pub mod ExplainText
+pub mod PlanLines
+pub mod InputLines
 pub mod HasDetails
 pub mod Explain
 pub mod Told

@@ -28,6 +28,7 @@ use Rattle.mufom_command.specs.declared.locating.Obstacle.{Obstacle}
 use Rattle.mufom_command.specs.declared.locating.Obstacle.TheVariants as obstacle
 use Rattle.mufom_command.specs.declared.locating.Places.{Places}
 use Rattle.mufom_command.specs.declared.locating.TracedModule.{TracedModule}
+use Rattle.mufom_command.specs.Roots.{Roots, roots_by}
 use Rattle.mufom_command.specs.Works.{Kept, kept_of, kept_origins, located, mapped_kept}
 use Rattle.mufom_command.specs.FlatFiles.{AreFlatFiles}
 use Rattle.mufom_outcome.specs.declared.outcome.Outcome.{Outcome}
@@ -50,7 +51,7 @@ pub record AreOriginsOf (tree : Forest) (ms : List Parts) (origins : List Origin
   pub are : origins ≡ origins_of flat
 
 -- The module is what is kept of the whole one, and its entries come from the same modules as in the whole one.
-pub record IsKeptPart (keep : Option (List ℕ)) (whole part : TracedModule) : Type 0 where
+pub record IsKeptPart (keep : Option Roots) (whole part : TracedModule) : Type 0 where
   pub kept : Kept
   pub keeps : own_kept keep whole.object (gives kept)
   pub modules : kept.modules ≡ part.object ∷ []
@@ -71,7 +72,7 @@ pub record LocatesPart (part : TracedModule) (plan : Plan) (m : Location) : Type
   pub located : IsLocation (part.object ∷ []) plan m.located
 
 -- The location is that of what is kept of the flat list of the tree, and a map shows that, with the files of the list.
-pub record AreMapped (tree : Forest) (keep : Option (List ℕ)) (plan : Plan) (ms : List Parts) (m : Location) : Type 0 where
+pub record AreMapped (tree : Forest) (keep : Option Roots) (plan : Plan) (ms : List Parts) (m : Location) : Type 0 where
   pub are_located : AreLocated m
   pub list : List Parts
   pub links : with_stops {T = Stop} link_fact (linked tree ms) (gives list)
@@ -97,13 +98,13 @@ pub record IsTracedLink (tree : Forest) (ms : List Parts) (places : Places) (who
   pub from : whole.origins ≡ with_chosen places.roots places.chosen (origins_of (numbered ms))
 
 -- nothing can be kept of such a link
-pub record IsUnkept (tree : Forest) (keep : Option (List ℕ)) (ms : List Parts) (r : PruneRefusal) (places : Places) : Type 0 where
+pub record IsUnkept (tree : Forest) (keep : Option Roots) (ms : List Parts) (r : PruneRefusal) (places : Places) : Type 0 where
   pub whole : TracedModule
   pub link : IsTracedLink tree ms places whole
   pub ends : EndsAt (own_kept keep whole.object) (outcome_of_prune r)
 
 -- what is kept of such a link cannot be located
-pub record IsUnlocated (tree : Forest) (keep : Option (List ℕ)) (ms : List Parts) (r : LocateRefusal) (part : TracedModule) (plan : Plan) (places : Places)
+pub record IsUnlocated (tree : Forest) (keep : Option Roots) (ms : List Parts) (r : LocateRefusal) (part : TracedModule) (plan : Plan) (places : Places)
     : Type 0 where
   pub whole : TracedModule
   pub link : IsTracedLink tree ms places whole
@@ -117,19 +118,21 @@ IsUnlocatedPart part plan places (obstacle.Unlocated r own by at) =
     (own ≡ part) × (by ≡ plan) × (at ≡ places) × IsMet (locate_answer (part.object ∷ []) plan) r
 IsUnlocatedPart part plan places _ = ⊥
 
--- Why the modules have no location: a list of them cannot be linked, nothing can be kept of their link, or what is kept cannot be located.
-abbrev pub IsObstacle : Forest → Option (List ℕ) → List Parts → Obstacle → Type 0
+-- Why the modules have no location: a list of them cannot be linked, nothing can be kept of their link for these names and the plan, or what is kept
+-- cannot be located.
+abbrev pub IsObstacle : Forest → List (List ℕ) → List Parts → Obstacle → Type 0
 IsObstacle tree keep ms (obstacle.Unlinked r) = StopsWork (linked_module tree None ms) r
-IsObstacle tree keep ms (obstacle.Unkept r places) = IsUnkept tree keep ms r places
-IsObstacle tree keep ms (obstacle.Unlocated r part plan places) = IsUnlocated tree keep ms r part plan places
+IsObstacle tree keep ms (obstacle.Unkept r plan places) = IsUnkept tree (roots_by keep plan) ms r places
+IsObstacle tree keep ms (obstacle.Unlocated r part plan places) = IsUnlocated tree (roots_by keep plan) ms r part plan places
 
 -- if a plan is part of what keeps modules from being located, it is this one
 abbrev pub HasPlan : Plan → Obstacle → Type 0
 HasPlan plan (obstacle.Unlocated r part own places) = own ≡ plan
+HasPlan plan (obstacle.Unkept r own places) = own ≡ plan
 HasPlan plan _ = Unit {0}
 
 -- the outcome of a run that it ends
 abbrev pub outcome_of_obstacle : Obstacle → Outcome
 outcome_of_obstacle (obstacle.Unlinked r) = outcome_of_link r
-outcome_of_obstacle (obstacle.Unkept r places) = outcome_of_prune r
+outcome_of_obstacle (obstacle.Unkept r plan places) = outcome_of_prune r
 outcome_of_obstacle (obstacle.Unlocated r part plan places) = outcome_of_locate part.object.maus r

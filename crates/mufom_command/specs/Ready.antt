@@ -1,7 +1,7 @@
 -- An output that is complete up to the calls that print or write it.
 use Rattle.std.specs.Prelude.{◌≡◌, flat_map, length}
 use Rattle.mufom_host.specs.World.{OnlyPrints}
-use Rattle.mufom_map.specs.MapText.{map_text}
+use Rattle.mufom_map.specs.MapText.{view_text}
 use Rattle.mufom_module.specs.Written.{written}
 use Rattle.mufom_outcome.specs.declared.outcome.Outcome.{Outcome}
 use Rattle.mufom_task.specs.Calls.{Call}
@@ -24,12 +24,12 @@ ready_output (ready.File out object) = made out.now (written object)
 ready_output (ready.Raw out fill r) = made out.now (raw_image fill r.runs)
 ready_output (ready.TiTxt out r) = made out.now (txt_text r.runs)
 ready_output (ready.Image r) = printed (image_text r)
-ready_output (ready.Map m) = printed (map_text (shown_of m))
+ready_output (ready.Map names at m) = printed (view_text names.now at (shown_of m))
 
 -- there is one module whose text is printed, and a map is of a module that is located
 abbrev pub IsReady : Ready → Type 0
 IsReady (ready.Listing ms form) = length ms ≡ 1
-IsReady (ready.Map m) = AreLocated m
+IsReady (ready.Map names at m) = AreLocated m
 IsReady _ = Unit {0}
 
 -- the output is a text of the program

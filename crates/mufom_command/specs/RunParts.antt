@@ -28,13 +28,15 @@ use Rattle.mufom_task.specs.declared.task.Task.TheVariants as task
 use Rattle.mufom_task.specs.Calls.{Call, NoneFalls, OpensInputs}
 use Rattle.mufom_task.specs.Ends.{IsInputReached, IsStopped}
 use Rattle.mufom_task.specs.InputsRead.{NamesPlan, inputs_in}
-use Rattle.mufom_task.specs.Tasks.{input_names, inputs_of, keep_of, reads_files, request_of}
+use Rattle.mufom_task.specs.Tasks.{input_names, inputs_of, keep_of, out_of, reads_files, request_of}
 use Rattle.mufom_command.specs.declared.ready.Ready.{Ready}
+use Rattle.mufom_command.specs.Roots.{Roots, roots_by}
 use Rattle.mufom_command.specs.Works.{IsHeld, Kept, Output, kept_of, kept_origins, made, work_of}
 use Rattle.mufom_command.specs.FlatFiles.{AreFlatFiles}
 use Rattle.mufom_command.specs.Explain.{ExplainsTo, OpensSome}
 use Rattle.mufom_command.specs.ExplainText.{explain_text}
 use Rattle.mufom_command.specs.HasDetails.{HasDetails}
+use Rattle.mufom_command.specs.InputLines.{untried_lines}
 use Rattle.mufom_command.specs.Making.{IsPrinted}
 use Rattle.mufom_command.specs.Ready.{IsHelp, IsReady, ready_output}
 use Rattle.mufom_command.specs.Run.{AnswersFor, IsOutput, PutsOutNothing}
@@ -120,29 +122,29 @@ pub record AreLinkedFlat (files : Option (List NamedFile)) (inputs : Inputs) (pl
 
 -- `kept` is what is kept of such a list. The module with these origins is located instead of it: it means the same, and its entries come from the
 -- same modules as in the list.
-pub record IsKeptFlat (keep : Option (List ℕ)) (flat : List FileModule) (object : Parts) (origins : List Origin) (kept : Kept) : Type 0 where
+pub record IsKeptFlat (keep : Option Roots) (flat : List FileModule) (object : Parts) (origins : List Origin) (kept : Kept) : Type 0 where
   pub keeps : kept_of keep (modules_of flat) (gives kept)
   pub same : MeansTheSame (object ∷ []) kept.modules
   pub from : origins ≡ kept_origins kept.rest (origins_of flat)
 
 -- nothing is kept of such a list for this reason
-pub record AreRefusedKept (files : Option (List NamedFile)) (inputs : Inputs) (keep : Option (List ℕ)) (plan : Plan) (ms : List Parts)
+pub record AreRefusedKept (files : Option (List NamedFile)) (inputs : Inputs) (keep : List (List ℕ)) (plan : Plan) (ms : List Parts)
     (flat : List FileModule) (r : PruneRefusal) : Type 0 where
   pub linked : AreLinkedFlat files inputs plan ms flat
-  pub ends : EndsAt (kept_of keep (modules_of flat)) (outcome_of_prune r)
+  pub ends : EndsAt (kept_of (roots_by keep plan) (modules_of flat)) (outcome_of_prune r)
 
 -- none of its publics has this name, which should be kept
-pub record AreUnkept (files : Option (List NamedFile)) (inputs : Inputs) (keep : Option (List ℕ)) (plan : Plan) (ms : List Parts)
+pub record AreUnkept (files : Option (List NamedFile)) (inputs : Inputs) (keep : List (List ℕ)) (plan : Plan) (ms : List Parts)
     (flat : List FileModule) (name : List ℕ) : Type 0 where
   pub linked : AreLinkedFlat files inputs plan ms flat
-  pub ends : EndsAt (kept_of keep (modules_of flat)) (outcome.Refused (refusal.Keep name))
+  pub ends : EndsAt (kept_of (roots_by keep plan) (modules_of flat)) (outcome.Refused (refusal.Keep name))
 
 -- the module with these origins is located instead of what is kept of it
-pub record AreUnlocated (files : Option (List NamedFile)) (inputs : Inputs) (keep : Option (List ℕ)) (plan : Plan) (ms : List Parts)
+pub record AreUnlocated (files : Option (List NamedFile)) (inputs : Inputs) (keep : List (List ℕ)) (plan : Plan) (ms : List Parts)
     (flat : List FileModule) (object : Parts) (origins : List Origin) : Type 0 where
   pub linked : AreLinkedFlat files inputs plan ms flat
   pub kept : Kept
-  pub keeps : IsKeptFlat keep flat object origins kept
+  pub keeps : IsKeptFlat (roots_by keep plan) flat object origins kept
 
 -- the task links lists of the modules of these inputs into one, under this name, if one is given
 abbrev pub LinksLists : Task → Inputs → Option (List ℕ) → Type 0
@@ -158,7 +160,7 @@ NamesInputs _ = Unit {0}
 
 -- The outcome of a task whose inputs were read from these files, before it has an output, and the lines about what the outcome names.
 abbrev pub EndsOver : Option (List NamedFile) → Task → Outcome → List ℕ → Type 0
-EndsOver files t outcome.Done details = ((output : Output) × IsOutput t files output) × (details ≡ [])
+EndsOver files t outcome.Done details = ((output : Output) × IsOutput t files output) × (details ≡ untried_lines (out_of t))
 EndsOver files t (outcome.Refused r) details =
     (is : IsStopped (reads_files t) (work_of t) files (outcome.Refused r)) × IsOfModules is.stop × HasDetails files (inputs_of t) (keep_of t) is.stop details
 EndsOver files t _ details = ⊥

@@ -6,8 +6,6 @@ use Rattle.mufom_link.specs.declared.refusal.LinkRefusal.{LinkRefusal}
 use Rattle.mufom_link.specs.declared.refusal.LinkRefusal.TheVariants as link
 use Rattle.mufom_module.specs.declared.module.Parts.{Parts}
 use Rattle.mufom_plan.specs.declared.plan.Plan.{Plan}
-use Rattle.mufom_plan.specs.Names.{has_name}
-use Rattle.mufom_meaning.specs.Flat.{public_names}
 use Rattle.mufom_prune.specs.declared.refusal.PruneRefusal.{PruneRefusal}
 use Rattle.mufom_prune.specs.declared.refusal.PruneRefusal.TheVariants as prune
 use Rattle.mufom_place.specs.declared.refusal.PlaceRefusal.TheVariants as place_refusal
@@ -20,6 +18,7 @@ use Rattle.mufom_groups.specs.Groups.{most_weight}
 use Rattle.mufom_groups.specs.Linked.{linked}
 use Rattle.mufom_groups.specs.Work.{Work, ◌>>=◌, gives, stop_at, stops, sure, with_stops}
 use Rattle.mufom_host.specs.World.{NamedFile}
+use Rattle.mufom_command.specs.Roots.{Roots, first_unknown}
 use Rattle.mufom_command.specs.Works.{Kept, all_of, kept_of, located, rest_of_module}
 use Rattle.mufom_task.specs.InputsRead.{inputs_in}
 use Rattle.mufom_outcome.specs.declared.outcome.Outcome.{Outcome}
@@ -28,24 +27,24 @@ use Rattle.mufom_outcome.specs.declared.outcome.Refusal.TheVariants as refusal
 use Rattle.mufom_outcome.specs.Stop.{Stop, link_fact, keep_unknown, locate_fact, raw_too_long, text_refused, listing_refused}
 use Rattle.mufom_task.specs.Ends.{stop_outcome}
 
--- what remains of a module for a name, if one of its publics has it
-abbrev pub own_rest : Bool → List ℕ → Parts → Work Stop Kept
-own_rest false name M = stop_at (keep_unknown name)
-own_rest true name M = rest_of_module name M
+-- what remains of a module for these roots, unless this is a name that none of its publics has
+abbrev pub own_rest : Option (List ℕ) → Roots → Parts → Work Stop Kept
+own_rest (Some name) roots M = stop_at (keep_unknown name)
+own_rest None roots M = rest_of_module roots M
 
 -- what is kept of one module
-abbrev pub own_kept : Option (List ℕ) → Parts → Work Stop Kept
+abbrev pub own_kept : Option Roots → Parts → Work Stop Kept
 own_kept None M = sure (all_of (M ∷ []))
-own_kept (Some name) M = own_rest (has_name (public_names (M ∷ [])) name) name M
+own_kept (Some roots) M = own_rest (first_unknown (M ∷ []) roots.names) roots M
 
 -- the location, by a plan, of what is kept of one module
-abbrev pub own_location : Option (List ℕ) → Plan → Parts → Work Stop LocatedParts
+abbrev pub own_location : Option Roots → Plan → Parts → Work Stop LocatedParts
 own_location keep plan M = do
   kept ← own_kept keep M
   located plan kept.modules
 
 -- the location, by a plan, of what is kept of the flat list of the tree; `ms` are the modules in the order of the files
-abbrev pub location_of : Forest → Option (List ℕ) → Plan → List Parts → Work Stop LocatedParts
+abbrev pub location_of : Forest → Option Roots → Plan → List Parts → Work Stop LocatedParts
 location_of tree keep plan ms = do
   flat ← with_stops link_fact (linked tree ms)
   kept ← kept_of keep flat

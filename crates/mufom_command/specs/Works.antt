@@ -22,13 +22,12 @@ use Rattle.mufom_meaning.specs.Location.{IsLocation}
 use Rattle.mufom_make.specs.Generated.{made_modules, made_plan, summary}
 use Rattle.mufom_groups.specs.Work.{gives, stops, Work, ◌>>=◌, sure, one_with, stop_at, nowhere, with_stops}
 use Rattle.mufom_groups.specs.Linked.{first_name, joined, linked}
-use Rattle.mufom_meaning.specs.Flat.{flat_sections, public_names}
+use Rattle.mufom_meaning.specs.Flat.{flat_sections}
 use Rattle.mufom_meaning.specs.Joined.{IsJoined}
 use Rattle.mufom_meaning.specs.Placed.{placed_commons}
 use Rattle.mufom_module.specs.Defects.{IsValid}
 use Rattle.mufom_module.specs.Made.{IsMade}
-use Rattle.mufom_plan.specs.Names.{has_name}
-use Rattle.mufom_prune.specs.Kept.{IsKept}
+use Rattle.mufom_prune.specs.Kept.{IsKeptFor}
 use Rattle.mufom_prune.specs.Pruned.{Remains, remains, without_others}
 use Rattle.mufom_outcome.specs.Stop.{Stop, words_refused, plan_refused, file_refused, past_limit, link_fact, keep_unknown, locate_fact, raw_too_long}
 use Rattle.mufom_outcome.specs.Stop.{text_refused, listing_refused}
@@ -42,12 +41,14 @@ use Rattle.mufom_task.specs.declared.task.Task.TheVariants as task
 use Rattle.mufom_task.specs.Reading.{modules_in, plan_in, text_in}
 use Rattle.mufom_task.specs.Tasks.{request_of}
 use Rattle.mufom_command.specs.FlatFiles.{AreFlatFiles}
+use Rattle.mufom_command.specs.Roots.{Roots, first_unknown, roots_by}
 use Rattle.mufom_write.specs.Raw.{raw_image}
 use Rattle.mufom_addr.specs.AddressHit.{hit_at}
 use Rattle.mufom_origins.specs.declared.origins.Origin.{Origin}
+use Rattle.mufom_origins.specs.Words.{FileNames}
 use Rattle.mufom_origins.specs.Origins.{origins_left, origins_of}
 use Rattle.mufom_map.specs.Mapped.{Mapped, mapped_by}
-use Rattle.mufom_map.specs.MapText.{map_text}
+use Rattle.mufom_map.specs.MapText.{view_text}
 use Rattle.mufom_meaning.specs.declared.located.Run.{Run}
 use Rattle.mufom_titxt.specs.declared.refusal.TxtRefusal.{TxtRefusal}
 use Rattle.mufom_build.specs.declared.refusal.BuildRefusal.TheVariants as build
@@ -120,27 +121,28 @@ all_of ms = record { modules = ms; rest = None }
 abbrev pub rest_of : Parts → Remains → Kept
 rest_of M c = record { modules = without_others M c ∷ []; rest = Some c }
 
--- what remains of a module for a name
-abbrev pub rest_of_module : List ℕ → Parts → Work Stop Kept
-rest_of_module name M = do
-  marks ← one_with (IsKept M name)
+-- what remains of a module for these roots
+abbrev pub rest_of_module : Roots → Parts → Work Stop Kept
+rest_of_module roots M = do
+  marks ← one_with (IsKeptFor M roots.names roots.stays)
   sure (rest_of M (remains M marks))
 
--- what remains for a name of the partial link of a list; the link is a module without a defect, under the name of the first module
-abbrev pub rest_of_link : List ℕ → List Parts → Work Stop Kept
-rest_of_link name ms = do
+-- what remains for these roots of the partial link of a list; the link is a module without a defect, under the name of the first module
+abbrev pub rest_of_link : Roots → List Parts → Work Stop Kept
+rest_of_link roots ms = do
   M ← one_with (λ M. IsValid M × IsJoined M ms (first_name ms))
-  rest_of_module name M
+  rest_of_module roots M
 
--- the same, if a public of the list has the name
-abbrev pub kept_unless : Bool → List ℕ → List Parts → Work Stop Kept
-kept_unless false name ms = stop_at (keep_unknown name)
-kept_unless true name ms = rest_of_link name ms
+-- the same, unless this is a name that no public of the list has
+abbrev pub kept_unless : Option (List ℕ) → Roots → List Parts → Work Stop Kept
+kept_unless (Some name) roots ms = stop_at (keep_unknown name)
+kept_unless None roots ms = rest_of_link roots ms
 
--- What is located of a list that can be linked: the list itself or, if a name is given, what remains of its link for the public with that name.
-abbrev pub kept_of : Option (List ℕ) → List Parts → Work Stop Kept
+-- What is located of a list that can be linked: the list itself or, if roots are given, what remains of its link for them. The first of their names
+-- that no public of the list has is an error.
+abbrev pub kept_of : Option Roots → List Parts → Work Stop Kept
 kept_of None ms = sure (all_of ms)
-kept_of (Some name) ms = kept_unless (has_name (public_names ms) name) name ms
+kept_of (Some roots) ms = kept_unless (first_unknown ms roots.names) roots ms
 
 -- ---- the output for a list of modules that can be linked
 
@@ -151,7 +153,7 @@ linked_file name out ms = do
   writes_module out M
 
 -- the output for what is kept of a list, and for the location of that by a plan
-abbrev pub locating_kept : (Kept → LocatedParts → Work Stop Output) → Option (List ℕ) → Plan → List Parts → Work Stop Output
+abbrev pub locating_kept : (Kept → LocatedParts → Work Stop Output) → Option Roots → Plan → List Parts → Work Stop Output
 locating_kept output keep plan ms = do
   kept ← kept_of keep ms
   r ← located plan kept.modules
@@ -168,15 +170,15 @@ unless_too_long false name bytes = writes name bytes
 abbrev pub raw_file : ℕ → List ℕ → LocatedParts → Work Stop Output
 raw_file fill out r = unless_too_long (nat_lt MOST_FILE_BYTES (length (raw_image fill r.runs))) out (raw_image fill r.runs)
 
--- What is made of a location, and of what a map of it shows: the file of the absolute module, of the raw image or of the TI-TXT text; the text of the
--- image or of the map; or the lines of the function and the source line at an address.
-abbrev pub product_of : Product → Mapped → LocatedParts → Work Stop Output
-product_of (product.Absolute out) shown r = writes_module out (absolute_of r)
-product_of (product.Raw fill out) shown r = raw_file fill out r
-product_of (product.TiTxt out) shown r = writes out (txt_text r.runs)
-product_of product.Image shown r = prints (image_text r)
-product_of product.Map shown r = prints (map_text shown)
-product_of (product.Hit at) shown r = prints (hit_text r.maus (hit_at r.debug at))
+-- What is made of a location, and of what a map of it shows, given the names of all files: the file of the absolute module, of the raw image or of the
+-- TI-TXT text; the text of the image or of the map; the lines of an address of the map; or the lines of the function and the source line at an address.
+abbrev pub product_of : Product → FileNames → Mapped → LocatedParts → Work Stop Output
+product_of (product.Absolute out) names shown r = writes_module out (absolute_of r)
+product_of (product.Raw fill out) names shown r = raw_file fill out r
+product_of (product.TiTxt out) names shown r = writes out (txt_text r.runs)
+product_of product.Image names shown r = prints (image_text r)
+product_of (product.Map at) names shown r = prints (view_text names at shown)
+product_of (product.Hit at) names shown r = prints (hit_text r.maus (hit_at r.debug at))
 
 -- the origins of what is kept of a list, given those of the list: the same modules, with fewer entries
 abbrev pub kept_origins : Option Remains → List Origin → List Origin
@@ -188,15 +190,15 @@ abbrev pub mapped_kept : List Origin → Plan → Kept → LocatedParts → Mapp
 mapped_kept origins plan kept r =
     mapped_by (kept_origins kept.rest origins) plan (flat_sections kept.modules) (placed_commons kept.modules plan) r
 
--- what is made of the location of what is kept of a list, whose modules have these origins
-abbrev pub product_with : Product → List Origin → Plan → Kept → LocatedParts → Work Stop Output
-product_with p origins plan kept r = product_of p (mapped_kept origins plan kept r) r
+-- what is made of the location of what is kept of a list, whose modules have these origins, given the names of all files
+abbrev pub product_with : Product → FileNames → List Origin → Plan → Kept → LocatedParts → Work Stop Output
+product_with p names origins plan kept r = product_of p names (mapped_kept origins plan kept r) r
 
 -- The same for the flat list of a tree of files, whose modules have these files. `ms` are the modules in the order of the files.
-abbrev pub producing : Product → Forest → List Parts → Plan → Kept → LocatedParts → Work Stop Output
-producing p tree ms plan kept r = do
+abbrev pub producing : Product → FileNames → Forest → List Parts → Plan → Kept → LocatedParts → Work Stop Output
+producing p names tree ms plan kept r = do
   flat ← one_with (AreFlatFiles tree ms)
-  product_with p (origins_of flat) plan kept r
+  product_with p names (origins_of flat) plan kept r
 
 -- ---- the table
 
@@ -215,9 +217,10 @@ linking output files inputs = do
   flat ← with_stops link_fact (linked (tree_of inputs.marks) ms)
   output ms plan flat
 
--- The same, and what is kept of the flat list is located.
-abbrev pub locating : Option (List ℕ) → Product → List NamedFile → Inputs → Work Stop Output
-locating keep p files inputs = linking (λ ms plan flat. locating_kept (producing p (tree_of inputs.marks) ms plan) keep plan flat) files inputs
+-- The same, and what is kept of the flat list for these names, and for the plan, is located.
+abbrev pub locating : List (List ℕ) → Product → List NamedFile → Inputs → Work Stop Output
+locating keep p files inputs =
+    linking (λ ms plan flat. locating_kept (producing p inputs.files (tree_of inputs.marks) ms plan) (roots_by keep plan) plan flat) files inputs
 
 -- the runs of the bytes that a text gives to addresses, unless the text has an error
 abbrev pub runs_unless : Option TxtRefusal → List ℕ → Work Stop (List Run)

@@ -26,9 +26,10 @@ ghost use Rattle.mufom_task.specs.declared.task.Task.TheVariants as task_variant
 ghost use Rattle.mufom_command.specs.FlatFiles.{files_with};
 ghost use Rattle.mufom_command.specs.HasDetails.{IsRefusedFlat};
 ghost use Rattle.mufom_command.specs.Locations.{AreLinkable, AreLocated, AreMapped, HasPlaces, HasPlan, IsObstacle};
+ghost use Rattle.mufom_command.specs.Roots.{roots_by};
 ghost use Rattle.mufom_command.specs.RunParts.{AreReadFrom, AreRefusedKept, AreUnkept, AreUnlocated, AskFor, Explains, LinksLists, Tells};
 
-use crate::explain::input_details;
+use crate::explain::{file_of, unread_details};
 use crate::explanation::{Details, print_done, print_explanation};
 use crate::flat::{copies, flat_modules};
 use crate::locating::{Location, Obstacle, Places, TracedModule, locate_modules};
@@ -42,11 +43,11 @@ use mufom_host::Host;
 use mufom_image::LocateRefusal;
 use mufom_link::LinkRefusal;
 use mufom_module::Module;
-use mufom_numbers::{Bytes, NoMemory, Text};
+use mufom_numbers::{Bytes, List, NoMemory, Text};
 use mufom_outcome::{Cause, Outcome};
 use mufom_plan::Plan;
 use mufom_prune::PruneRefusal;
-use mufom_task::{Inputs, Loaded, Product, read_inputs};
+use mufom_task::{Inputs, Loaded, Product, read_or_unread};
 use std::alloc::Global;
 
 // ---- lists that cannot be linked
@@ -77,8 +78,9 @@ fn explain_refused<H: Host>(
 ) -> Outcome
     requires linkable { AreLinkable inputs.now modules.now }
     requires memory { refusal.now ≢ LinkRefusal.NoMemory }
-    ensures { (files : option (list NamedFile)) (plan : Planned) (task : Tasks) (name : option (list ℕ)) → AreReadFrom files inputs.now plan modules.now
-        → LinksLists task inputs.now name → StopsWork (linked_module (tree_of inputs.now.marks) name modules.now) refusal.now
+    ensures { (files : option (list NamedFile)) (plan : Planned) (task : Tasks) (name : option (list ℕ))
+        → AreReadFrom files inputs.now plan modules.now → LinksLists task inputs.now name
+        → StopsWork (linked_module (tree_of inputs.now.marks) name modules.now) refusal.now
         → Tells (map (λ word. string_bytes word) words.now) task files (call_of H.meaning H.faults host.old host.new) result }
 {
     let Ok(flat) = refused_list(alloc, inputs, modules) else {
@@ -106,8 +108,9 @@ fn explain_unlinked<H: Host>(
     host: &mut H,
 ) -> Outcome
     requires linkable { AreLinkable inputs.now modules.now }
-    ensures { (files : option (list NamedFile)) (plan : Planned) (task : Tasks) (name : option (list ℕ)) → AreReadFrom files inputs.now plan modules.now
-        → LinksLists task inputs.now name → StopsWork (linked_module (tree_of inputs.now.marks) name modules.now) refusal.now
+    ensures { (files : option (list NamedFile)) (plan : Planned) (task : Tasks) (name : option (list ℕ))
+        → AreReadFrom files inputs.now plan modules.now → LinksLists task inputs.now name
+        → StopsWork (linked_module (tree_of inputs.now.marks) name modules.now) refusal.now
         → Tells (map (λ word. string_bytes word) words.now) task files (call_of H.meaning H.faults host.old host.new) result }
 {
     match refusal {
@@ -144,7 +147,7 @@ fn explain_unknown<H: Host>(
     host: &mut H,
 ) -> Outcome
     requires few { length flat.now < 2 ^ 32 }
-    ensures { (files : option (list NamedFile)) (plan : Planned) (ms : list Parts) (keep : option (list ℕ)) (made : Made)
+    ensures { (files : option (list NamedFile)) (plan : Planned) (ms : list Parts) (keep : list (list ℕ)) (made : Made)
         → AreUnkept files inputs.now keep plan ms (flat_of flat.now) name.now
         → Tells (map (λ word. string_bytes word) words.now) (task_variants.Locate inputs.now keep made) files
         (call_of H.meaning H.faults host.old host.new) result }
@@ -171,7 +174,7 @@ fn explain_unkept<H: Host>(
     host: &mut H,
 ) -> Outcome
     requires few { length flat.now < 2 ^ 32 }
-    ensures { (files : option (list NamedFile)) (plan : Planned) (ms : list Parts) (keep : option (list ℕ)) (made : Made)
+    ensures { (files : option (list NamedFile)) (plan : Planned) (ms : list Parts) (keep : list (list ℕ)) (made : Made)
         → AreRefusedKept files inputs.now keep plan ms (flat_of flat.now) refusal.now
         → Tells (map (λ word. string_bytes word) words.now) (task_variants.Locate inputs.now keep made) files
         (call_of H.meaning H.faults host.old host.new) result }
@@ -199,7 +202,7 @@ fn explain_fact<H: Host>(
     requires plan { IsSoundPlan plan.now }
     requires met { IsMet (locate_answer (part.now.object ∷ []) plan.now) refusal.now }
     requires memory { refusal.now ≢ LocateRefusal.NoMemory }
-    ensures { (files : option (list NamedFile)) (ms : list Parts) (keep : option (list ℕ)) (made : Made)
+    ensures { (files : option (list NamedFile)) (ms : list Parts) (keep : list (list ℕ)) (made : Made)
         → AreUnlocated files inputs.now keep plan.now ms (flat_of flat.now) part.now.object part.now.origins
         → Tells (map (λ word. string_bytes word) words.now) (task_variants.Locate inputs.now keep made) files
         (call_of H.meaning H.faults host.old host.new) result }
@@ -238,7 +241,7 @@ fn explain_unlocated<H: Host>(
     requires few { length flat.now < 2 ^ 32 }
     requires plan { IsSoundPlan plan.now }
     requires met { IsMet (locate_answer (part.now.object ∷ []) plan.now) refusal.now }
-    ensures { (files : option (list NamedFile)) (ms : list Parts) (keep : option (list ℕ)) (made : Made)
+    ensures { (files : option (list NamedFile)) (ms : list Parts) (keep : list (list ℕ)) (made : Made)
         → AreUnlocated files inputs.now keep plan.now ms (flat_of flat.now) part.now.object part.now.origins
         → Tells (map (λ word. string_bytes word) words.now) (task_variants.Locate inputs.now keep made) files
         (call_of H.meaning H.faults host.old host.new) result }
@@ -254,7 +257,7 @@ fn explain_obstacle<H: Host>(
     alloc: Global,
     words: &[String],
     inputs: &Inputs,
-    keep: &Option<Bytes>,
+    keep: &List<Bytes>,
     modules: &[Module],
     obstacle: &Obstacle,
     host: &mut H,
@@ -270,7 +273,11 @@ fn explain_obstacle<H: Host>(
         Obstacle::Unlinked(refusal) => {
             explain_unlinked(alloc, words, inputs, modules, refusal, host)
         }
-        Obstacle::Unkept { refusal, places } => {
+        Obstacle::Unkept {
+            refusal,
+            places,
+            ..
+        } => {
             let Ok(flat) = flat_list(alloc, inputs, modules, places) else {
                 return Outcome::NoMemory;
             };
@@ -294,19 +301,21 @@ fn explain_obstacle<H: Host>(
 fn explain_product<H: Host>(
     alloc: Global,
     words: &[String],
+    inputs: &Inputs,
     product: &Product,
     location: Location,
     host: &mut H,
 ) -> Outcome
     requires located { AreLocated location }
     requires light { weight (absolute_of location.located) < 2 ^ 32 }
-    ensures { (files : option (list NamedFile)) (inputs : Reads) (keep : option (list ℕ)) (plan : Planned) (ms : list Parts)
-        → AreReadFrom files inputs plan ms → AreMapped (tree_of inputs.marks) keep plan ms location
-        → Tells (map (λ word. string_bytes word) words.now) (task_variants.Locate inputs keep product.now) files
+    ensures { (files : option (list NamedFile)) (keep : list (list ℕ)) (plan : Planned) (ms : list Parts)
+        → AreReadFrom files inputs.now plan ms → AreMapped (tree_of inputs.now.marks) (roots_by keep plan) plan ms location
+        → Tells (map (λ word. string_bytes word) words.now) (task_variants.Locate inputs.now keep product.now) files
         (call_of H.meaning H.faults host.old host.new) result }
 {
-    match ready_of(alloc, product, location) {
-        Ok(_) => print_done(alloc, words, host),
+    let out = file_of(product);
+    match ready_of(alloc, product, inputs.files.as_slice(), location) {
+        Ok(_) => print_done(alloc, words, out, host),
         Err(answer) => print_explanation(
             alloc,
             words,
@@ -323,7 +332,7 @@ fn explain_loaded<H: Host>(
     alloc: Global,
     words: &[String],
     inputs: &Inputs,
-    keep: &Option<Bytes>,
+    keep: &List<Bytes>,
     product: &Product,
     loaded: Loaded,
     host: &mut H,
@@ -343,7 +352,7 @@ fn explain_loaded<H: Host>(
         modules: spare,
     };
     match locate_modules(alloc, inputs, keep, spare) {
-        Ok(location) => explain_product(alloc, words, product, location, host),
+        Ok(location) => explain_product(alloc, words, inputs, product, location, host),
         Err(obstacle) => {
             let modules = modules.as_slice();
             explain_obstacle(alloc, words, inputs, keep, modules, &obstacle, host)
@@ -356,7 +365,7 @@ pub(crate) fn explain_location<H: Host>(
     alloc: Global,
     words: &[String],
     inputs: &Inputs,
-    keep: &Option<Bytes>,
+    keep: &List<Bytes>,
     product: &Product,
     host: &mut H,
 ) -> Outcome
@@ -365,11 +374,15 @@ pub(crate) fn explain_location<H: Host>(
         (request_variants.Run (task_variants.Locate inputs.now keep.now product.now)) }
     ensures { Explains (map (λ word. string_bytes word) words.now) (call_of H.meaning H.faults host.old host.new) result }
 {
-    match read_inputs(alloc, inputs, host) {
+    match read_or_unread(alloc, inputs, host) {
         Ok(loaded) => explain_loaded(alloc, words, inputs, keep, product, loaded, host),
-        Err(answer) => {
-            let details = input_details(inputs, &answer);
-            print_explanation(alloc, words, &Cause::Outcome(&answer), &details, host)
+        Err(unread) => {
+            let told = host.cause();
+            let Ok(details) = unread_details(alloc, inputs, told, &unread) else {
+                return Outcome::NoMemory;
+            };
+            let cause = Cause::Outcome(&unread.outcome);
+            print_explanation(alloc, words, &cause, &details, host)
         }
     }
 }
@@ -397,7 +410,7 @@ fn explain_linked<H: Host>(
         return Outcome::NoMemory;
     };
     match link_file(alloc, inputs, name, out, spare) {
-        Ok(_) => print_done(alloc, words, host),
+        Ok(_) => print_done(alloc, words, Some(out), host),
         Err(refusal) => explain_unlinked(alloc, words, inputs, modules, &refusal, host),
     }
 }
@@ -417,14 +430,18 @@ pub(crate) fn explain_link<H: Host>(
         (request_variants.Run (task_variants.Link inputs.now name.now out.now)) }
     ensures { Explains (map (λ word. string_bytes word) words.now) (call_of H.meaning H.faults host.old host.new) result }
 {
-    match read_inputs(alloc, inputs, host) {
+    match read_or_unread(alloc, inputs, host) {
         Ok(loaded) => {
             let modules = loaded.modules.as_slice();
             explain_linked(alloc, words, inputs, name, out, modules, host)
         }
-        Err(answer) => {
-            let details = input_details(inputs, &answer);
-            print_explanation(alloc, words, &Cause::Outcome(&answer), &details, host)
+        Err(unread) => {
+            let told = host.cause();
+            let Ok(details) = unread_details(alloc, inputs, told, &unread) else {
+                return Outcome::NoMemory;
+            };
+            let cause = Cause::Outcome(&unread.outcome);
+            print_explanation(alloc, words, &cause, &details, host)
         }
     }
 }

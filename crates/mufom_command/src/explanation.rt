@@ -1,22 +1,26 @@
 //! Prints the outcome of a run, what its error line names, and the help text on it.
 
-ghost use Rattle.std.specs.Prelude.{◌≡◌, ◌≢◌, [], map, option_map, IfOk, Some};
+ghost use Rattle.std.specs.Prelude.{◌≡◌, ◌≢◌, map, option_map, IfOk, Some};
 ghost use Rattle.std.specs.String.{string_bytes};
 ghost use Rattle.mufom_host.specs.World.{OnlyPrints};
 ghost use Rattle.mufom_command.specs.ExplainText.{explain_text, first_line as line_of, topic_part};
+ghost use Rattle.mufom_command.specs.InputLines.{untried_lines};
 ghost use Rattle.mufom_outcome.specs.Outcomes.{cause_outcome};
 ghost use Rattle.mufom_command.specs.Making.{IsPrinted};
 ghost use Rattle.mufom_task.specs.Calls.{call_of};
 ghost use Rattle.mufom_command.specs.Told.{told_text};
 
+use crate::input_lines::{missing_line, unread_file, unread_plan, untried_line, word_line};
+use crate::plan_lines::{plan_and_key, plan_line_at};
 use mufom_explain::{LinkDetails, LocateDetails, NameDetails, file_line, plan_line};
-use mufom_host::Host;
-use mufom_numbers::{NoMemory, Text};
+use mufom_host::{Cause as FaultCause, Host};
+use mufom_numbers::{Bytes, NoMemory, Text};
 use mufom_outcome::{
     Cause, Outcome, fault_line, keep_line, link_line, locate_line, refusal_line, topic_of,
     usage_line,
 };
 use mufom_text::{Lines, Output, PrintStop, print_lines};
+use mufom_words::Setting;
 use std::alloc::Global;
 
 /// The lines about what an outcome names.
@@ -24,9 +28,42 @@ use std::alloc::Global;
 pub(crate) enum Details<'a> {
     Nothing,
     /// The file with this number; `names` are the names of all files.
-    File { names: &'a [Text], number: u32 },
+    File {
+        names: &'a [Text],
+        number: u32,
+    },
     /// The plan, by the name of its file.
     Plan(&'a Text),
+    /// A plan that is not a TOML document, with the number of the line at which its text stops being one.
+    PlanAt {
+        name: &'a Text,
+        row: usize,
+    },
+    /// A plan with another error, and the key that the error is about, if it is one that a table may not have.
+    PlanKey {
+        name: &'a Text,
+        key: Option<Bytes>,
+    },
+    /// The same for a file that could not be read, with the cause that the host told.
+    UnreadFile {
+        names: &'a [Text],
+        number: u32,
+        cause: FaultCause,
+    },
+    /// The same for a plan that could not be read.
+    UnreadPlan {
+        name: &'a Text,
+        cause: FaultCause,
+    },
+    /// The argument with this number, from 0; `words` are all arguments.
+    Argument {
+        words: &'a [String],
+        number: u32,
+    },
+    /// A required option that no argument gives.
+    Missing(Setting),
+    /// The file that a run would write; an explanation does not write it.
+    NotTried(&'a Text),
     /// The things that a link error names.
     Link(LinkDetails<'a>),
     /// The modules that refer to a name that should be kept and that no module defines.
@@ -53,6 +90,17 @@ fn put_details<K: Output>(out: &mut K, details: &Details<'_>)
         Details::Nothing => {}
         Details::File { names, number } => file_line(out, names, *number),
         Details::Plan(name) => plan_line(out, name),
+        Details::PlanAt { name, row } => plan_line_at(out, name, *row),
+        Details::PlanKey { name, key } => plan_and_key(out, name, key),
+        Details::UnreadFile {
+            names,
+            number,
+            cause,
+        } => unread_file(out, names, *number, *cause),
+        Details::UnreadPlan { name, cause } => unread_plan(out, name, *cause),
+        Details::Argument { words, number } => word_line(out, words, *number),
+        Details::Missing(option) => missing_line(out, *option),
+        Details::NotTried(name) => untried_line(out, name),
         Details::Link(details) => details.put_lines(out),
         Details::Name(details) => details.put_lines(out),
         Details::Locate(details) => details.put_lines(out),
@@ -146,18 +194,28 @@ pub(crate) fn print_explanation<H: Host>(
     }
 }
 
-/// Prints that a run with these arguments would be `Done`.
-pub(crate) fn print_done<H: Host>(alloc: Global, words: &[String], host: &mut H) -> Outcome
-    ensures answer { IsPrinted (explain_text (map (λ word. string_bytes word) words.now) Outcome.Done [])
-        (call_of H.meaning H.faults host.old host.new) result }
+// The line of the file that a run would write, if it writes one.
+fn untried_details(out: Option<&Text>) -> Details<'_>
+    ensures { told_text result ≡ untried_lines (option_map (λ name. name.now) out.entry) }
+{
+    match out {
+        Some(name) => Details::NotTried(name),
+        None => Details::Nothing,
+    }
+}
+
+/// Prints that a run with these arguments would be `Done`, up to writing the file `out`, if it writes one.
+pub(crate) fn print_done<H: Host>(
+    alloc: Global,
+    words: &[String],
+    out: Option<&Text>,
+    host: &mut H,
+) -> Outcome
+    ensures answer { IsPrinted (explain_text (map (λ word. string_bytes word) words.now) Outcome.Done
+        (untried_lines (option_map (λ name. name.now) out.entry))) (call_of H.meaning H.faults host.old host.new) result }
     ensures only { OnlyPrints (H.meaning host.old) (H.meaning host.new) (H.faults host.old) (H.faults host.new) }
 {
     let done = Outcome::Done;
-    print_explanation(
-        alloc,
-        words,
-        &Cause::Outcome(&done),
-        &Details::Nothing,
-        host,
-    )
+    let details = untried_details(out);
+    print_explanation(alloc, words, &Cause::Outcome(&done), &details, host)
 }

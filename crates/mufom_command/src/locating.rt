@@ -12,6 +12,7 @@ ghost use Rattle.mufom_origins.specs.Origins.{origins_left};
 ghost use Rattle.mufom_outcome.specs.Outcomes.{outcome_of_prune as of_prune};
 ghost use Rattle.mufom_command.specs.Locations.{outcome_of_obstacle as of_obstacle, AreLinkable, AreMapped, HasPlan, IsKeptPart, IsObstacle, IsTracedLink};
 ghost use Rattle.mufom_command.specs.Locations.{IsUnlocatedPart, LocatesPart};
+ghost use Rattle.mufom_command.specs.Roots.{roots_by, roots_with};
 ghost use Rattle.mufom_command.specs.WorkEnds.{own_kept, EndsAt};
 
 use mufom_groups::link_with_members;
@@ -22,7 +23,7 @@ use mufom_numbers::{Bytes, List, NoMemory};
 use mufom_origins::Origins;
 use mufom_outcome::{Outcome, outcome_of_link, outcome_of_locate, outcome_of_prune};
 use mufom_plan::Plan;
-use mufom_prune::{PruneRefusal, Pruned, prune_with_marks};
+use mufom_prune::{PruneRefusal, Pruned, prune_for};
 use mufom_task::{Inputs, Loaded};
 use std::alloc::Global;
 
@@ -63,6 +64,7 @@ pub(crate) enum Obstacle {
     /// Nothing can be kept of their link.
     Unkept {
         refusal: PruneRefusal,
+        plan: Plan,
         places: Places,
     },
     /// The link, or what is kept of it, cannot be located.
@@ -133,20 +135,22 @@ fn left_origins(alloc: Global, origins: &Origins, left: &Pruned) -> Result<Origi
     }
 }
 
-// What remains of a module for the public symbol with a name, with the origins of what remains.
+// What remains of a module for the public symbols with these names, if the sections with the names in `stays`
+// always stay, with the origins of what remains.
 fn pruned_part(
     alloc: Global,
     whole: &TracedModule,
-    name: &[u8],
+    names: &[Bytes],
+    stays: &[Bytes],
 ) -> Result<TracedModule, PruneRefusal>
     requires names { AreDistinct (names_of whole.now.object.names.publics) }
     requires light { weight whole.now.object < most_weight + 2 ^ 16 }
-    ensures ok { IfOk result (IsKeptPart (Some name.now) whole.now) }
+    ensures ok { IfOk result (IsKeptPart (Some (record { names = names.now; stays = stays.now })) whole.now) }
     ensures names { IfOk result (λ part. AreDistinct (names_of part.object.names.publics)) }
     ensures light { IfOk result (λ part. weight part.object < most_weight + 2 ^ 16) }
-    ensures stops { IfErr result (λ e. EndsAt (own_kept (Some name.now) whole.now.object) (of_prune e)) }
+    ensures stops { IfErr result (λ e. EndsAt (own_kept (Some (record { names = names.now; stays = stays.now })) whole.now.object) (of_prune e)) }
 {
-    let left = match prune_with_marks(alloc, &whole.object, name) {
+    let left = match prune_for(alloc, &whole.object, names, stays) {
         Ok(left) => left,
         Err(refusal) => return Err(refusal),
     };
@@ -159,22 +163,23 @@ fn pruned_part(
     }
 }
 
-// The module, or what remains of it if a public symbol is named that should be kept.
+// The module, or what remains of it if public symbols are named that should be kept.
 fn kept_part(
     alloc: Global,
-    keep: &Option<Bytes>,
+    keep: &[Bytes],
+    stays: &[Bytes],
     whole: TracedModule,
 ) -> Result<TracedModule, PruneRefusal>
     requires names { AreDistinct (names_of whole.object.names.publics) }
     requires light { weight whole.object < most_weight + 2 ^ 16 }
-    ensures ok { IfOk result (IsKeptPart keep.now whole) }
+    ensures ok { IfOk result (IsKeptPart (roots_with keep.now stays.now) whole) }
     ensures names { IfOk result (λ part. AreDistinct (names_of part.object.names.publics)) }
     ensures light { IfOk result (λ part. weight part.object < most_weight + 2 ^ 16) }
-    ensures stops { IfErr result (λ e. EndsAt (own_kept keep.now whole.object) (of_prune e)) }
+    ensures stops { IfErr result (λ e. EndsAt (own_kept (roots_with keep.now stays.now) whole.object) (of_prune e)) }
 {
     match keep {
-        Some(name) => pruned_part(alloc, &whole, name.as_slice()),
-        None => Ok(whole),
+        [] => Ok(whole),
+        names => pruned_part(alloc, &whole, names, stays),
     }
 }
 
@@ -211,17 +216,17 @@ fn locate_part(
     }
 }
 
-/// Links the modules of a task, and locates the link, or what remains of it if a public symbol is named that
-/// should be kept. Returns the location, or what keeps the modules from having one.
+/// Links the modules of a task, and locates the link, or what remains of it if public symbols are named that
+/// should be kept. The plan's names of sections say which sections then stay too. Returns the location, or what keeps the modules from having one.
 pub(crate) fn locate_modules(
     alloc: Global,
     inputs: &Inputs,
-    keep: &Option<Bytes>,
+    keep: &List<Bytes>,
     loaded: Loaded,
 ) -> Result<Location, Obstacle>
     requires linkable { AreLinkable inputs.now loaded.modules }
     requires plan { IsSoundPlan loaded.plan }
-    ensures ok { IfOk result (AreMapped (tree_of inputs.now.marks) keep.now loaded.plan loaded.modules) }
+    ensures ok { IfOk result (AreMapped (tree_of inputs.now.marks) (roots_by keep.now loaded.plan) loaded.plan loaded.modules) }
     ensures light { IfOk result (λ location. weight (absolute_of location.located) < 2 ^ 32) }
     ensures obstacle { IfErr result (IsObstacle (tree_of inputs.now.marks) keep.now loaded.modules) }
     ensures planned { IfErr result (HasPlan loaded.plan) }
@@ -231,8 +236,12 @@ pub(crate) fn locate_modules(
         Ok(link) => link,
         Err(refusal) => return Err(Obstacle::Unlinked(refusal)),
     };
-    match kept_part(alloc, keep, whole) {
+    match kept_part(alloc, keep.as_slice(), plan.keep.as_slice(), whole) {
         Ok(part) => locate_part(alloc, part, plan, places),
-        Err(refusal) => Err(Obstacle::Unkept { refusal, places }),
+        Err(refusal) => Err(Obstacle::Unkept {
+            refusal,
+            plan,
+            places,
+        }),
     }
 }

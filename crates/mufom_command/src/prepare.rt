@@ -134,8 +134,8 @@ fn prepare_link<'a, H: Host>(
 // Reads, links and locates the files of whose location something is made.
 fn prepare_location<'a, H: Host>(
     alloc: Global,
-    inputs: &Inputs,
-    keep: &Option<Bytes>,
+    inputs: &'a Inputs,
+    keep: &List<Bytes>,
     product: &'a Product,
     host: &mut H,
 ) -> Result<Ready<'a>, Outcome>
@@ -153,7 +153,7 @@ fn prepare_location<'a, H: Host>(
         Ok(location) => location,
         Err(obstacle) => return Err(outcome_of_obstacle(obstacle)),
     };
-    match ready_of(alloc, product, location) {
+    match ready_of(alloc, product, inputs.files.as_slice(), location) {
         Ok(ready) => Ok(ready),
         Err(stop) => Err(stop),
     }

@@ -2,7 +2,7 @@
 
 ghost use Rattle.std.specs.Prelude.{◌≡◌, ◌<◌, ◌^◌, flat_map, length, IfErr, IfOk};
 ghost use Rattle.mufom_host.specs.World.{OnlyPrints};
-ghost use Rattle.mufom_map.specs.MapText.{map_text};
+ghost use Rattle.mufom_map.specs.MapText.{address_text, map_text, view_text};
 ghost use Rattle.mufom_module.specs.Written.{weight};
 ghost use Rattle.mufom_meaning.specs.Absolute.{absolute_of};
 ghost use Rattle.mufom_text.specs.Image.{image_text};
@@ -23,7 +23,7 @@ use crate::query::lines_at;
 use crate::writing::{make_file, make_raw_file, make_text_file};
 use mufom_host::{Failed, Host};
 use mufom_image::{Located, absolute};
-use mufom_map::print_map;
+use mufom_map::{print_address, print_map};
 use mufom_module::{Module, a_module_is_valid};
 use mufom_numbers::limits::MOST_FILE_BYTES;
 use mufom_numbers::{List, NoMemory, Text};
@@ -64,8 +64,12 @@ pub(crate) enum Ready<'a> {
     },
     /// The text of an image.
     Image(Located),
-    /// The text of a map.
-    Map(Location),
+    /// The text of a map, or the lines of one address of it. `names` are the names of all files.
+    Map {
+        names: &'a [Text],
+        at: Option<u64>,
+        location: Location,
+    },
 }
 
 // ---- what is made of a location
@@ -101,17 +105,18 @@ fn raw_file<'a>(out: &'a Text, fill: u8, located: Located) -> Result<Ready<'a>, 
 }
 
 /// What is made of a location, complete up to the calls that print or write it; or the outcome of the run, if
-/// a raw image is too long or memory runs out.
+/// a raw image is too long or memory runs out. `names` are the names of all files.
 pub(crate) fn ready_of<'a>(
     alloc: Global,
     product: &'a Product,
+    names: &'a [Text],
     location: Location,
 ) -> Result<Ready<'a>, Outcome>
     requires located { AreLocated location }
     requires light { weight (absolute_of location.located) < 2 ^ 32 }
-    ensures ok { IfOk result (λ ready. product_of product.now (shown_of location) location.located (gives (ready_output ready))) }
+    ensures ok { IfOk result (λ ready. product_of product.now names.now (shown_of location) location.located (gives (ready_output ready))) }
     ensures ready { IfOk result IsReady }
-    ensures stops { IfErr result (EndsAt (product_of product.now (shown_of location) location.located)) }
+    ensures stops { IfErr result (EndsAt (product_of product.now names.now (shown_of location) location.located)) }
 {
     match product {
         Product::Absolute { out } => absolute_file(alloc, out, location.located),
@@ -121,7 +126,11 @@ pub(crate) fn ready_of<'a>(
             located: location.located,
         }),
         Product::Image => Ok(Ready::Image(location.located)),
-        Product::Map => Ok(Ready::Map(location)),
+        Product::Map { at } => Ok(Ready::Map {
+            names,
+            at: *at,
+            location,
+        }),
         Product::Hit { address } => match lines_at(alloc, &location.located, *address) {
             Ok(text) => Ok(Ready::Lines(text)),
             Err(NoMemory) => Err(Outcome::NoMemory),
@@ -168,10 +177,15 @@ fn print_located<H: Host>(alloc: Global, located: &Located, host: &mut H) -> Out
     }
 }
 
-// Prints the map of a location.
-fn print_mapped<H: Host>(alloc: Global, location: &Location, host: &mut H) -> Outcome
+// Prints the whole map of a location.
+fn print_whole_map<H: Host>(
+    alloc: Global,
+    names: &[Text],
+    location: &Location,
+    host: &mut H,
+) -> Outcome
     requires { AreLocated location.now }
-    ensures answer { IsPrinted (map_text (shown_of location.now)) (call_of H.meaning H.faults host.old host.new) result }
+    ensures answer { IsPrinted (map_text names.now (shown_of location.now)) (call_of H.meaning H.faults host.old host.new) result }
     ensures only { OnlyPrints (H.meaning host.old) (H.meaning host.new) (H.faults host.old) (H.faults host.new) }
 {
     let Location {
@@ -180,10 +194,47 @@ fn print_mapped<H: Host>(alloc: Global, location: &Location, host: &mut H) -> Ou
         plan,
         located,
     } = location;
-    match print_map(alloc, host, origins, object, plan, located) {
+    match print_map(alloc, host, names, origins, object, plan, located) {
         Ok(()) => Outcome::Done,
         Err(PrintStop::Fault) => Outcome::WriteFault,
         Err(PrintStop::NoMemory) => Outcome::NoMemory,
+    }
+}
+
+// Prints the lines of one address of the map of a location.
+fn print_spot<H: Host>(alloc: Global, address: u64, location: &Location, host: &mut H) -> Outcome
+    requires { AreLocated location.now }
+    ensures answer { IsPrinted (address_text address (shown_of location.now)) (call_of H.meaning H.faults host.old host.new) result }
+    ensures only { OnlyPrints (H.meaning host.old) (H.meaning host.new) (H.faults host.old) (H.faults host.new) }
+{
+    let Location {
+        origins,
+        object,
+        plan,
+        located,
+    } = location;
+    match print_address(alloc, host, origins, object, plan, located, address) {
+        Ok(()) => Outcome::Done,
+        Err(PrintStop::Fault) => Outcome::WriteFault,
+        Err(PrintStop::NoMemory) => Outcome::NoMemory,
+    }
+}
+
+// Prints the map of a location, or the lines of one address of it.
+fn print_mapped<H: Host>(
+    alloc: Global,
+    names: &[Text],
+    at: Option<u64>,
+    location: &Location,
+    host: &mut H,
+) -> Outcome
+    requires { AreLocated location.now }
+    ensures answer { IsPrinted (view_text names.now at (shown_of location.now)) (call_of H.meaning H.faults host.old host.new) result }
+    ensures only { OnlyPrints (H.meaning host.old) (H.meaning host.new) (H.faults host.old) (H.faults host.new) }
+{
+    match at {
+        None => print_whole_map(alloc, names, location, host),
+        Some(address) => print_spot(alloc, address, location, host),
     }
 }
 
@@ -216,6 +267,10 @@ pub(crate) fn put_out<H: Host>(alloc: Global, ready: &Ready<'_>, host: &mut H) -
         Ready::Raw { out, fill, located } => make_raw(out.as_str(), *fill, located, host),
         Ready::TiTxt { out, located } => make_text(out.as_str(), located, host),
         Ready::Image(located) => print_located(alloc, located, host),
-        Ready::Map(location) => print_mapped(alloc, location, host),
+        Ready::Map {
+            names,
+            at,
+            location,
+        } => print_mapped(alloc, names, *at, location, host),
     }
 }

@@ -20,6 +20,7 @@ use Rattle.mufom_write.specs.Raw.{raw_image}
 use Rattle.mufom_groups.specs.Work.{Reached, gives, stops, Work}
 use Rattle.mufom_groups.proofs.Works.{value-same}
 use Rattle.mufom_map.specs.Mapped.{Mapped}
+use Rattle.mufom_origins.specs.Words.{FileNames}
 use Rattle.mufom_origins.specs.declared.origins.Origin.{Origin}
 use Rattle.mufom_origins.specs.Origins.{FileModule, origins_of}
 use Rattle.mufom_outcome.specs.declared.outcome.Outcome.{Outcome}
@@ -32,6 +33,7 @@ use Rattle.mufom_task.specs.declared.task.Task.TheVariants as task
 use Rattle.mufom_task.specs.Calls.{Call}
 use Rattle.mufom_command.specs.FlatFiles.{AreFlatFiles}
 use Rattle.mufom_command.specs.Run.{AnswersFor, MakesFile, PutsOut, outcome_of}
+use Rattle.mufom_command.specs.Roots.{Roots, roots_by}
 use Rattle.mufom_command.specs.Works.{Kept, Output, kept_of, located, located_unless, locating_kept, mapped_kept, maus_of, producing, product_of}
 use Rattle.mufom_command.specs.Works.{product_with, raw_file, unless_too_long, work_of}
 use Rattle.mufom_command.proofs.EndLaws.{location-of}
@@ -70,29 +72,29 @@ module _ (fill : ℕ) (out : List ℕ) (r : LocatedParts) where
     by false put puts = subst (λ (x : Output). PutsOut x call) put puts
 
 -- it may be put out
-product-may : (p : Product) (shown : Mapped) (r : LocatedParts) (o : Output) → product_of p shown r (gives o) → MayPutOut p r
-product-may (product.Absolute out) shown r o is = tt
-product-may (product.Raw fill out) shown r o is = raw-may fill out r o is
-product-may (product.TiTxt out) shown r o is = tt
-product-may product.Image shown r o is = tt
-product-may product.Map shown r o is = tt
-product-may (product.Hit at) shown r o is = tt
+product-may : (p : Product) (names : FileNames) (shown : Mapped) (r : LocatedParts) (o : Output) → product_of p names shown r (gives o) → MayPutOut p r
+product-may (product.Absolute out) names shown r o is = tt
+product-may (product.Raw fill out) names shown r o is = raw-may fill out r o is
+product-may (product.TiTxt out) names shown r o is = tt
+product-may product.Image names shown r o is = tt
+product-may (product.Map at) names shown r o is = tt
+product-may (product.Hit at) names shown r o is = tt
 
 -- and it is the location
-product-shown : (p : Product) (origins : List Origin) (plan : Plan) (kept : Kept) (r : LocatedParts) (call : Call) (o : Output)
-    → product_with p origins plan kept r (gives o) → PutsOut o call → PutsOutLocation p origins plan kept r call
-product-shown (product.Absolute out) origins plan kept r call o is puts = file-made out call (absolute_of r) o is puts
-product-shown (product.Raw fill out) origins plan kept r call o is puts = raw-made fill out r call o is puts
-product-shown (product.TiTxt out) origins plan kept r call o is puts = subst (λ (x : Output). PutsOut x call) is puts
-product-shown product.Image origins plan kept r call o is puts = subst (λ (x : Output). PutsOut x call) is puts
-product-shown product.Map origins plan kept r call o is puts = subst (λ (x : Output). PutsOut x call) is puts
-product-shown (product.Hit at) origins plan kept r call o is puts = subst (λ (x : Output). PutsOut x call) is puts
+product-shown : (p : Product) (names : FileNames) (origins : List Origin) (plan : Plan) (kept : Kept) (r : LocatedParts) (call : Call) (o : Output)
+    → product_with p names origins plan kept r (gives o) → PutsOut o call → PutsOutLocation p names origins plan kept r call
+product-shown (product.Absolute out) names origins plan kept r call o is puts = file-made out call (absolute_of r) o is puts
+product-shown (product.Raw fill out) names origins plan kept r call o is puts = raw-made fill out r call o is puts
+product-shown (product.TiTxt out) names origins plan kept r call o is puts = subst (λ (x : Output). PutsOut x call) is puts
+product-shown product.Image names origins plan kept r call o is puts = subst (λ (x : Output). PutsOut x call) is puts
+product-shown (product.Map at) names origins plan kept r call o is puts = subst (λ (x : Output). PutsOut x call) is puts
+product-shown (product.Hit at) names origins plan kept r call o is puts = subst (λ (x : Output). PutsOut x call) is puts
 
 -- ---- one list
 
-module _ (keep : Option (List ℕ)) (p : Product) (origins : List Origin) (plan : Plan) (list : List Parts) where
+module _ (keep : Option Roots) (p : Product) (names : FileNames) (origins : List Origin) (plan : Plan) (list : List Parts) where
   abbrev target : Kept → LocatedParts → Work Stop Output
-  target = product_with p origins plan
+  target = product_with p names origins plan
 
   -- the location of what is kept of the list, from which this was put out
   record IsOutputOf (o : Output) : Type 0 where
@@ -128,7 +130,7 @@ module _ (keep : Option (List ℕ)) (p : Product) (origins : List Origin) (plan 
   short-there o puts kept r is_kept is_r =
       let of = output-of o puts in
       subst (λ (q : LocatedParts). MayPutOut p q) (one-location of.kept kept of.location r of.keeps is_kept of.is_location is_r)
-      (product-may p (mapped_kept origins plan of.kept of.location) of.location o of.puts)
+      (product-may p names (mapped_kept origins plan of.kept of.location) of.location o of.puts)
 
   -- a raw image that is too long is the end
   long-end : (kept : Kept) (r : LocatedParts) (fill : ℕ) (out : List ℕ) → kept_of keep list (gives kept) → IsLocation kept.modules plan r
@@ -138,26 +140,29 @@ module _ (keep : Option (List ℕ)) (p : Product) (origins : List Origin) (plan 
       let is_located : located plan kept.modules (gives r)
       = subst (λ (o : Option LocateFact). located_unless o plan kept.modules (gives r)) (sym is_r.locates) is_r in
       let ends : target kept r (stops (raw_too_long (length (raw_image fill r.runs))))
-      = subst (λ (q : Product). product_with q origins plan kept r (stops (raw_too_long (length (raw_image fill r.runs))))) (sym is_raw)
+      = subst (λ (q : Product). product_with q names origins plan kept r (stops (raw_too_long (length (raw_image fill r.runs))))) (sym is_raw)
       (raw-long fill out r long) in
       inr (kept, is_kept, inr (r, is_located, ends))
 
 -- ---- a run
 
-module _ (files : List NamedFile) (call : Call) (result : Outcome) (c : Inputs) (keep : Option (List ℕ)) (p : Product) (plan : Plan) (flat : List Parts)
+module _ (files : List NamedFile) (call : Call) (result : Outcome) (c : Inputs) (keep : List (List ℕ)) (p : Product) (plan : Plan) (flat : List Parts)
     (bytes : HoldBytes files) (accepts : Accepts files c plan flat) (own : List FileModule) (are : AreFlatFiles (tree_of c.marks) accepts.modules own)
     (came : result ≡ outcome.Done → CameTo files (task.Locate c keep p) call)
     (done : ((s : Stop) → work_of (task.Locate c keep p) files (stops s) → ⊥) → result ≡ outcome.Done)
     (answer : (x : Reached Stop Output) → work_of (task.Locate c keep p) files x → result ≡ outcome_of x) where
+  abbrev roots : Option Roots
+  roots = roots_by keep plan
+
   -- what is put out of a flat list of modules
   abbrev outputs : List Parts → Plan → List Parts → Work Stop Output
-  outputs ms plan list = locating_kept (producing p (tree_of c.marks) ms plan) keep plan list
+  outputs ms plan list = locating_kept (producing p c.files (tree_of c.marks) ms plan) (roots_by keep plan) plan list
 
   abbrev origins : List Origin
   origins = origins_of own
 
   abbrev of_list : List Parts → Work Stop Output
-  of_list list = locating_kept (product_with p (origins_of own) plan) keep plan list
+  of_list list = locating_kept (product_with p c.files (origins_of own) plan) roots plan list
 
   -- a list of which the same is put out as of the flat list
   module _ (list : List Parts) (valid : AreValid list) (links : link_answer flat ≡ link_answer list)
@@ -166,45 +171,45 @@ module _ (files : List NamedFile) (call : Call) (result : Outcome) (c : Inputs) 
     list-output o comes =
         let (linkable, puts) = accepted-gives files c plan flat bytes accepts outputs o comes in (sym links ∙ linkable, (alike (gives o)).0 puts)
 
-    none-stops : HasNoFact keep list plan → IsNotTooLong keep p plan list → (s : Stop) → work_of (task.Locate c keep p) files (stops s) → ⊥
+    none-stops : HasNoFact roots list plan → IsNotTooLong roots p plan list → (s : Stop) → work_of (task.Locate c keep p) files (stops s) → ⊥
     none-stops none short s stopped = by (accepted-stops files c plan flat bytes accepts outputs s stopped) where
       by : EndsAtFact flat s ⊎ ((link_answer flat ≡ None) × outputs accepts.modules plan flat (stops s)) → ⊥
       by (inl fact) = no-link-fact flat plan s (links ∙ none.links) fact
       by (inr (linkable, ends)) =
-          no-end (product_with p origins plan) keep plan list
-          (λ kept r keeps there s. product-never p (mapped_kept origins plan kept r) r (short kept r keeps there) s) none s ((alike (stops s)).0 ends)
+          no-end (product_with p c.files origins plan) roots plan list
+          (λ kept r keeps there s. product-never p c.files (mapped_kept origins plan kept r) r (short kept r keeps there) s) none s ((alike (stops s)).0 ends)
 
     -- an end of what is put out of the list is the result
     ends-there : (s : Stop) → link_answer list ≡ None → of_list list (stops s) → result ≡ outcome_of (stops s)
     ends-there s linkable is =
         answer (stops s) (accepted-back files c plan flat bytes accepts outputs (links ∙ linkable) (stops s) ((alike (stops s)).1 is))
 
-    has-located : HasLocated keep p origins plan call result list
+    has-located : HasLocated roots p c.files origins plan call result list
     has-located = record {
       done = (
         (λ is. let there = came is in
             let (linkable, puts) = list-output there.output there.comes in (
-              no-fact-there (product_with p origins plan) keep plan list there.output linkable puts,
-              short-there keep p origins plan list there.output puts,
+              no-fact-there (product_with p c.files origins plan) roots plan list there.output linkable puts,
+              short-there roots p c.files origins plan list there.output puts,
             )),
         (λ (none, short). done (none-stops none short)),
       );
       output = λ is. let there = came is in
           let (linkable, puts) = list-output there.output there.comes in
-          let of = output-of keep p origins plan list there.output puts in
+          let of = output-of roots p c.files origins plan list there.output puts in
           record {
             kept = of.kept;
             keeps = of.keeps;
             location = of.location;
             is_location = of.is_location;
-            itself = absolute_is_located_as_itself of.kept.modules plan of.location (kept-valid keep list of.kept valid of.keeps) of.is_location;
-            puts_out = product-shown p origins plan of.kept of.location call there.output of.puts there.puts_out;
+            itself = absolute_is_located_as_itself of.kept.modules plan of.location (kept-valid roots list of.kept valid of.keeps) of.is_location;
+            puts_out = product-shown p c.files origins plan of.kept of.location call there.output of.puts there.puts_out;
           };
       refused = λ kept f linkable is_kept some.
-          ends-there (locate_fact (maus_of kept.modules) f) linkable (fact-end keep p origins plan list kept f is_kept some);
+          ends-there (locate_fact (maus_of kept.modules) f) linkable (fact-end roots p c.files origins plan list kept f is_kept some);
       too_long = λ kept r fill out linkable is_kept is_r is_raw long.
           ends-there (raw_too_long (length (raw_image fill r.runs))) linkable
-          (long-end keep p origins plan list kept r fill out is_kept is_r is_raw long);
+          (long-end roots p c.files origins plan list kept r fill out is_kept is_r is_raw long);
     }
 
   -- the flat list, and each list from which it was linked in stages
@@ -212,9 +217,9 @@ module _ (files : List NamedFile) (call : Call) (result : Outcome) (c : Inputs) 
   locates-all = record {
     files = own;
     are_files = are;
-    located = has-located flat (flat-valid files c plan flat accepts) refl (producing-known keep p plan (tree_of c.marks) accepts.modules own are flat);
+    located = has-located flat (flat-valid files c plan flat accepts) refl (producing-known roots p c.files plan (tree_of c.marks) accepts.modules own are flat);
     staged = λ leaves stages. has-located leaves stages.valid (means-same flat leaves stages).same_link
-        (producing-staged keep p plan (tree_of c.marks) accepts.modules own are flat leaves stages);
+        (producing-staged roots p c.files plan (tree_of c.marks) accepts.modules own are flat leaves stages);
   }
 
 pub the-headline : TheHeadline

@@ -23,6 +23,7 @@ use Rattle.mufom_task.specs.declared.task.Inputs.{Inputs}
 use Rattle.mufom_task.specs.declared.task.Product.{Product}
 use Rattle.mufom_task.specs.declared.task.Task.TheVariants as task
 use Rattle.mufom_command.specs.FlatFiles.{AreFlatFiles}
+use Rattle.mufom_command.specs.Roots.{roots_by}
 use Rattle.mufom_command.specs.Works.{Output, linked_file, linking, locating_kept, producing, product_with, work_of}
 use Rattle.mufom_run_laws.specs.RunLaws.{Accepts, CameByStages, IsSameWork}
 use Rattle.mufom_run_laws.proofs.Accepted.{after-inputs}
@@ -145,12 +146,12 @@ module _ (files : List NamedFile) (c : Inputs) (plan : Plan) (flat leaves : List
       by-linking (λ ms plan flat. linked_file name out flat) (linked_file name out leaves)
       ((put_out-alike plan flat leaves (means-same flat leaves came)).linked name out)
 
-  staged-location : (keep : Option (List ℕ)) (p : Product)
-      → IsSameWork (work_of (task.Locate c keep p) files) (location_of_list keep p (origins_of own) plan leaves)
+  staged-location : (keep : List (List ℕ)) (p : Product)
+      → IsSameWork (work_of (task.Locate c keep p) files) (location_of_list (roots_by keep plan) p c.files (origins_of own) plan leaves)
   staged-location keep p =
-      by-linking (λ ms plan flat. locating_kept (producing p (tree_of c.marks) ms plan) keep plan flat)
-      (locating_kept (product_with p (origins_of own) plan) keep plan leaves)
-      (producing-staged keep p plan (tree_of c.marks) accepts.modules own are flat leaves came)
+      by-linking (λ ms plan flat. locating_kept (producing p c.files (tree_of c.marks) ms plan) (roots_by keep plan) plan flat)
+      (locating_kept (product_with p c.files (origins_of own) plan) (roots_by keep plan) plan leaves)
+      (producing-staged (roots_by keep plan) p c.files plan (tree_of c.marks) accepts.modules own are flat leaves came)
 
 pub staged-runs-are-flat : StagedRunsAreFlat
 staged-runs-are-flat files c plan flat leaves own bytes accepts are came = record {

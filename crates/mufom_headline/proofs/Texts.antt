@@ -107,7 +107,7 @@ module _ (text : List ℕ) (maus : ℕ) (runs : List Run) (low : 1 ≤ maus) (hi
       is-in = subst (λ (names : List (List ℕ)). ComeTo c.options files names (accepted (text_parts maus runs ∷ []))) (sym does.files)
           (text-accepted maus runs low high has-module has-text few c.options files name there)
 
-      text-file : r.runs ≡ runs → work_of (task.Locate c None (product.TiTxt out)) files (gives (made out (txt_text runs)))
+      text-file : r.runs ≡ runs → work_of (task.Locate c [] (product.TiTxt out)) files (gives (made out (txt_text runs)))
       text-file same =
           let linked-here : linked (tree_of c.marks) (text_parts maus runs ∷ []) (gives (text_parts maus runs ∷ []))
           = subst (λ (tree : Forest). linked tree (text_parts maus runs ∷ []) (gives (text_parts maus runs ∷ []))) (sym does.marks) is-linked in
@@ -164,7 +164,7 @@ texts-come-back text maus runs low high short is few = record {
       (has-text text maus runs low high short is few) few (record { debug = true; gnu = gnu })) few;
   text_file = λ files inputs name out does there.
       let (r, is_location, same) = text_located maus runs (has-module text maus runs low high short is few) low high in
-      makes files (task.Locate inputs None (product.TiTxt out)) out (txt_text runs)
+      makes files (task.Locate inputs [] (product.TiTxt out)) out (txt_text runs)
       (text-file text maus runs low high short is few r is_location files inputs name out does there same);
   same_runs = written_is_read (8 * maus) runs (has-text text maus runs low high short is few);
 }

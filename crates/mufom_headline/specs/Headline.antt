@@ -20,7 +20,8 @@ use Rattle.mufom_titxt.specs.Written.{txt_text}
 use Rattle.mufom_groups.specs.Work.{gives}
 use Rattle.mufom_origins.specs.declared.origins.Origin.{Origin}
 use Rattle.mufom_origins.specs.Origins.{FileModule, origins_of}
-use Rattle.mufom_map.specs.MapText.{map_text}
+use Rattle.mufom_map.specs.MapText.{view_text}
+use Rattle.mufom_origins.specs.Words.{FileNames}
 use Rattle.mufom_outcome.specs.declared.outcome.Outcome.{Outcome}
 use Rattle.mufom_outcome.specs.declared.outcome.Outcome.TheVariants as outcome
 use Rattle.mufom_outcome.specs.declared.outcome.Refusal.TheVariants as refusal
@@ -32,6 +33,7 @@ use Rattle.mufom_task.specs.declared.task.Request.TheVariants as request
 use Rattle.mufom_task.specs.declared.task.Task.TheVariants as task
 use Rattle.mufom_task.specs.Calls.{Call}
 use Rattle.mufom_task.specs.Tasks.{request_of}
+use Rattle.mufom_command.specs.Roots.{Roots, roots_by}
 use Rattle.mufom_command.specs.Works.{Kept, kept_of, mapped_kept, maus_of}
 use Rattle.mufom_command.specs.FlatFiles.{AreFlatFiles}
 use Rattle.mufom_command.specs.Contract.{Answers}
@@ -43,41 +45,43 @@ use Rattle.mufom_headline.specs.ReadBack.{IsPutInFile}
 -- The output of a run is this location of what is kept, and nothing else. `locate` writes the file of the location's absolute module, from which a
 -- later run reads that module; `bin` writes the file of its raw image, and `txt` the file of its TI-TXT text. `dump` prints the text of its image;
 -- `addr` prints the lines of the function and the source line at the address in its arguments; `map` prints the sections and symbols with their
--- addresses and the modules from which they come. `origins` are the names of these modules, their files, and the numbers of their entries.
-abbrev pub PutsOutLocation : Product → List Origin → Plan → Kept → LocatedParts → Call → Type 0
-PutsOutLocation (product.Absolute out) origins plan kept r call = IsPutInFile out (absolute_of r) call
-PutsOutLocation (product.Raw fill out) origins plan kept r call = MakesFile out (raw_image fill r.runs) call
-PutsOutLocation (product.TiTxt out) origins plan kept r call = MakesFile out (txt_text r.runs) call
-PutsOutLocation product.Image origins plan kept r call = PrintsText (image_text r) call
-PutsOutLocation (product.Hit at) origins plan kept r call = PrintsText (hit_text r.maus (hit_at r.debug at)) call
-PutsOutLocation product.Map origins plan kept r call = PrintsText (map_text (mapped_kept origins plan kept r)) call
+-- addresses, the modules from which they come and the names of their files, or the lines of one address. `names` are the names of all files; `origins` are
+-- the names of these modules, their files, and the numbers of their entries.
+abbrev pub PutsOutLocation : Product → FileNames → List Origin → Plan → Kept → LocatedParts → Call → Type 0
+PutsOutLocation (product.Absolute out) names origins plan kept r call = IsPutInFile out (absolute_of r) call
+PutsOutLocation (product.Raw fill out) names origins plan kept r call = MakesFile out (raw_image fill r.runs) call
+PutsOutLocation (product.TiTxt out) names origins plan kept r call = MakesFile out (txt_text r.runs) call
+PutsOutLocation product.Image names origins plan kept r call = PrintsText (image_text r) call
+PutsOutLocation (product.Hit at) names origins plan kept r call = PrintsText (hit_text r.maus (hit_at r.debug at)) call
+PutsOutLocation (product.Map at) names origins plan kept r call = PrintsText (view_text names at (mapped_kept origins plan kept r)) call
 
 -- The output of a run over a list of modules is a location, by the plan, of what is kept of the list. Without `--keep`, that is the list
--- itself; with it, it is one module: the part of the list's link that the named public symbol needs.
+-- itself; with it, it is one module: the part of the list's link that the named public symbols need, and the sections that the plan keeps.
 --
 -- `IsLocation` defines the location: each public, the start and each debug expression has the value of its expression at the planned bases
 -- of sections and commons; each loaded address holds the byte of the literal or field that is loaded there; nothing else is loaded.
 --
 -- Located alone, by a plan without regions, the absolute module of the location gives the same location.
-pub record IsPutOut (keep : Option (List ℕ)) (p : Product) (origins : List Origin) (plan : Plan) (list : List Parts) (call : Call) : Type 0 where
+pub record IsPutOut (keep : Option Roots) (p : Product) (names : FileNames) (origins : List Origin) (plan : Plan) (list : List Parts) (call : Call)
+    : Type 0 where
   pub kept : Kept
   pub keeps : kept_of keep list (gives kept)
   pub location : LocatedParts
   pub is_location : IsLocation kept.modules plan location
   pub itself : IsLocation (absolute_of location ∷ []) no_regions location
-  pub puts_out : PutsOutLocation p origins plan kept location call
+  pub puts_out : PutsOutLocation p names origins plan kept location call
 
 -- The raw image that `bin` would make of the list is not too long for a file. This is always true for the other commands, which have no such limit.
-abbrev pub IsNotTooLong : Option (List ℕ) → Product → Plan → List Parts → Type 0
+abbrev pub IsNotTooLong : Option Roots → Product → Plan → List Parts → Type 0
 IsNotTooLong keep p plan list = (kept : Kept) (r : LocatedParts) → kept_of keep list (gives kept) → IsLocation kept.modules plan r → MayPutOut p r
 
 -- The result of the run is that of locating this list. It is `Done` if and only if the list can be linked, what is kept of it can be located, and the
 -- raw image of `bin` is not too long; the output is then the location. If the list can be linked but what is kept of it cannot be located, the run is
 -- refused with the first error of locating it. A raw image that is too long is refused with its length in bytes.
-pub record HasLocated (keep : Option (List ℕ)) (p : Product) (origins : List Origin) (plan : Plan) (call : Call) (result : Outcome) (list : List Parts)
-    : Type 0 where
+pub record HasLocated (keep : Option Roots) (p : Product) (names : FileNames) (origins : List Origin) (plan : Plan) (call : Call) (result : Outcome)
+    (list : List Parts) : Type 0 where
   pub done : (result ≡ outcome.Done) ↔ (HasNoFact keep list plan × IsNotTooLong keep p plan list)
-  pub output : result ≡ outcome.Done → IsPutOut keep p origins plan list call
+  pub output : result ≡ outcome.Done → IsPutOut keep p names origins plan list call
   pub refused : (kept : Kept) (f : LocateFact) → link_answer list ≡ None → kept_of keep list (gives kept)
       → locate_answer kept.modules plan ≡ Some f → result ≡ outcome.Refused (refusal.Locate (locate_refusal f) (maus_of kept.modules))
   pub too_long : (kept : Kept) (r : LocatedParts) (fill : ℕ) (out : List ℕ) → link_answer list ≡ None → kept_of keep list (gives kept)
@@ -89,19 +93,19 @@ pub record HasLocated (keep : Option (List ℕ)) (p : Product) (origins : List O
 --
 -- `modules` are those of the files, in their order. `files` are the modules of the flat list, each with the number of its file. A map names
 -- these modules and files for the other list too, since a partial link does not keep the names of the modules that it was made of.
-pub record LocatesAll (inputs : Inputs) (keep : Option (List ℕ)) (p : Product) (plan : Plan) (call : Call) (result : Outcome) (modules flat : List Parts)
+pub record LocatesAll (inputs : Inputs) (keep : List (List ℕ)) (p : Product) (plan : Plan) (call : Call) (result : Outcome) (modules flat : List Parts)
     : Type 0 where
   pub files : List FileModule
   pub are_files : AreFlatFiles (tree_of inputs.marks) modules files
-  pub located : HasLocated keep p (origins_of files) plan call result flat
-  pub staged : (leaves : List Parts) → CameByStages flat leaves → HasLocated keep p (origins_of files) plan call result leaves
+  pub located : HasLocated (roots_by keep plan) p inputs.files (origins_of files) plan call result flat
+  pub staged : (leaves : List Parts) → CameByStages flat leaves → HasLocated (roots_by keep plan) p inputs.files (origins_of files) plan call result leaves
 
 -- For all arguments, files and plans: if no I/O call failed, the run did not run out of memory, and the plan and the files were accepted,
 -- then `locate`, `bin`, `txt`, `dump`, `addr` and `map` locate the flat list of the modules, and each list from which that was linked in
 -- stages.
 abbrev pub TheHeadline : Type 0
 TheHeadline =
-    (words : List (List ℕ)) (files : List NamedFile) (call : Call) (result : Outcome) (c : Command) (inputs : Inputs) (keep : Option (List ℕ)) (p : Product)
+    (words : List (List ℕ)) (files : List NamedFile) (call : Call) (result : Outcome) (c : Command) (inputs : Inputs) (keep : List (List ℕ)) (p : Product)
     (plan : Plan) (flat : List Parts)
     → Answers words call result → IsUndisturbed files call result
     → answer_of words ≡ Ok c → request_of c ≡ request.Run (task.Locate inputs keep p) → (accepts : Accepts files inputs plan flat)

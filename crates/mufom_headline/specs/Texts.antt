@@ -47,7 +47,7 @@ pub record ComesBack (text : List ℕ) (maus : ℕ) (runs : List Run) : Type 0 w
   pub read_back : IsReadBack (text_parts maus runs)
   pub text_file : (files : List NamedFile) (inputs : Inputs) (name out : List ℕ) → IsFileAlone inputs name
       → file_named name files ≡ Some (written (text_parts maus runs))
-      → Makes files (task.Locate inputs None (product.TiTxt out)) out (txt_text runs)
+      → Makes files (task.Locate inputs [] (product.TiTxt out)) out (txt_text runs)
   pub same_runs : IsTxtOf (txt_text runs) (8 * maus) runs
 
 -- A text without an error comes back, if it and the file of its module are not too long.

@@ -7,6 +7,8 @@ use Rattle.mufom_plan.specs.declared.refusal.PlanField.{PlanField}
 use Rattle.mufom_plan.specs.declared.refusal.PlanField.TheVariants as field
 use Rattle.mufom_plan.specs.declared.refusal.PlanRefusal.{PlanRefusal}
 use Rattle.mufom_plan.specs.declared.refusal.PlanRefusal.TheVariants as plan
+use Rattle.mufom_plan.specs.declared.refusal.PlanTable.{PlanTable}
+use Rattle.mufom_plan.specs.declared.refusal.PlanTable.TheVariants as table
 use Rattle.mufom_place.specs.declared.refusal.PlaceRefusal.{PlaceRefusal}
 use Rattle.mufom_place.specs.declared.refusal.PlaceRefusal.TheVariants as place
 use Rattle.mufom_meaning.specs.declared.located.Descriptor.{Descriptor}
@@ -114,15 +116,29 @@ field_text field.Base = codes "base"
 field_text field.Size = codes "size"
 field_text field.Sections = codes "sections"
 field_text field.Common = codes "common"
+field_text field.Symbol = codes "symbol"
+field_text field.Kind = codes "kind"
+field_text field.Value = codes "value"
+field_text field.Start = codes "start"
+field_text field.End = codes "end"
+field_text field.Load = codes "load"
+field_text field.RegionEnd = codes "region_end"
+field_text field.Keep = codes "keep"
 
 -- the region, if there is one
 abbrev pub region_text : Option ℕ → Text
 region_text None = []
 region_text (Some n) = codes " region " ++ decimal n
 
+-- the table of a plan, if there is one
+abbrev pub table_text : Option PlanTable → Text
+table_text None = []
+table_text (Some (table.Region n)) = region_text (Some n)
+table_text (Some (table.Symbol n)) = codes " symbol " ++ decimal n
+
 abbrev pub plan_text : PlanRefusal → Text
 plan_text plan.Syntax = codes "Syntax"
-plan_text (plan.Shape region f) = codes "Shape" ++ region_text region ++ codes " " ++ field_text f
+plan_text (plan.Shape at f) = codes "Shape" ++ table_text at ++ codes " " ++ field_text f
 plan_text (plan.Beyond n) = codes "Beyond region " ++ decimal n
 plan_text plan.TooLong = codes "TooLong"
 plan_text plan.NoMemory = []

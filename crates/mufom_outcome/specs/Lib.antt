@@ -3,3 +3,4 @@ pub mod Stop
 pub mod LocateRefusals
 pub mod Complaint
 pub mod Topic
+pub mod TopicLaws

@@ -1,4 +1,4 @@
--- The help topic for an error line: the name of the error or, for wrong arguments, the command that they name.
+-- The help topic for an error line: the name of the error; for wrong arguments, the command that they name; for an input that could not be read, `read`.
 use Rattle.std.specs.Prelude.{List, [], ◌∷◌, Option, Some, None, codes, unwrap_or}
 use Rattle.mufom_help.specs.Topics.{commands, topic_in, topics}
 use Rattle.mufom_help.specs.declared.commands.TheConstants.{LIST}
@@ -102,9 +102,9 @@ usage_topic (word ∷ words) = unwrap_or (topic_in commands (command_name word))
 
 -- ---- the topic
 
--- The help text on the outcome of a run with these arguments. A run that is `Done` has none, nor has one in which an input could not be read, a write
--- failed, or memory ran out.
+-- The help text on the outcome of a run with these arguments. A run that is `Done` has none, nor has one in which a write failed or memory ran out.
 abbrev pub topic_of : List Text → Outcome → Option Text
 topic_of words (outcome.Refused r) = topic_in topics (refusal_name r)
 topic_of words (outcome.Usage f) = Some (usage_topic words)
+topic_of words (outcome.ReadFault at) = topic_in topics (codes "read")
 topic_of words _ = None

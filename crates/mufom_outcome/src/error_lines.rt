@@ -3,7 +3,8 @@
 ghost use Rattle.std.specs.Prelude.{◌≡◌, ◌++◌, IfOk, OnOk};
 ghost use Rattle.std.specs.String.{string_bytes};
 ghost use Rattle.mufom_text.specs.Show.{order_letter};
-ghost use Rattle.mufom_outcome.specs.Complaint.{build_reason_text, complaint, defect_text, field_text, plan_text, reason_text, txt_reason_text};
+ghost use Rattle.mufom_outcome.specs.Complaint.{build_reason_text, complaint, defect_text, field_text, plan_text, reason_text, table_text};
+ghost use Rattle.mufom_outcome.specs.Complaint.{txt_reason_text};
 
 use crate::locate_text::{push_locate, push_region};
 use crate::outcome::{Input, Outcome, Refusal};
@@ -13,7 +14,7 @@ use mufom_link::LinkRefusal;
 use mufom_meaning::Descriptor;
 use mufom_module::{Defect, Order};
 use mufom_numbers::{Bytes, NoMemory, Reason};
-use mufom_plan::{PlanField, PlanRefusal};
+use mufom_plan::{PlanField, PlanRefusal, PlanTable};
 use mufom_read::ReadRefusal;
 use mufom_text::quoted_name;
 use mufom_titxt::{TxtReason, TxtRefusal};
@@ -171,6 +172,28 @@ fn field_name(field: PlanField) -> &'static str
         PlanField::Size => "size",
         PlanField::Sections => "sections",
         PlanField::Common => "common",
+        PlanField::Symbol => "symbol",
+        PlanField::Kind => "kind",
+        PlanField::Value => "value",
+        PlanField::Start => "start",
+        PlanField::End => "end",
+        PlanField::Load => "load",
+        PlanField::RegionEnd => "region_end",
+        PlanField::Keep => "keep",
+    }
+}
+
+// Adds the table of a plan, if there is one.
+fn push_table(alloc: Global, text: &mut Vec<u8>, table: Option<PlanTable>) -> Result<(), NoMemory>
+    ensures { OnOk result (text.new.items ≡ text.old.items ++ table_text table) }
+{
+    match table {
+        Some(PlanTable::Region(region)) => push_region(alloc, text, Some(region)),
+        Some(PlanTable::Symbol(symbol)) => {
+            text.extend_from_slice(format!(in alloc; " symbol {symbol}")?.as_bytes())?;
+            Ok(())
+        }
+        None => Ok(()),
     }
 }
 
@@ -180,9 +203,9 @@ fn push_plan(alloc: Global, text: &mut Vec<u8>, refusal: PlanRefusal) -> Result<
 {
     match refusal {
         PlanRefusal::Syntax => text.extend_from_slice(b"Syntax")?,
-        PlanRefusal::Shape { region, field } => {
+        PlanRefusal::Shape { table, field } => {
             text.extend_from_slice(b"Shape")?;
-            push_region(alloc, text, region)?;
+            push_table(alloc, text, table)?;
             text.push(b' ')?;
             text.extend_from_slice(field_name(field).as_bytes())?;
         }

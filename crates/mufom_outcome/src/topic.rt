@@ -150,12 +150,13 @@ fn outcome_topic(words: &[String], outcome: &Outcome) -> Option<&'static str>
     match outcome {
         Outcome::Refused(refusal) => topic_text(refusal_name(refusal)),
         Outcome::Usage(_) => Some(usage_topic(words)),
+        Outcome::ReadFault(_) => topic_text("read"),
         _ => None,
     }
 }
 
 /// Returns the help text on the cause of a run's end with these arguments: that of the error for `Refused`,
-/// that of the command for `Usage`. Other outcomes have none.
+/// that of the command for `Usage`, and the text `read` for `ReadFault`. Other outcomes have none.
 pub fn topic_of(words: &[String], cause: &Cause<'_>) -> Option<&'static str>
     ensures { option_map (λ text. text.now) result ≡ topic (map (λ word. string_bytes word) words.now) (cause_outcome cause.now) }
 {

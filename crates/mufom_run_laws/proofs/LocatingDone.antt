@@ -4,6 +4,7 @@ use Rattle.std.proofs.lemmas.Bool.{ltb-true}
 use Rattle.mufom_numbers.specs.declared.limits.TheConstants.{MOST_FILE_BYTES}
 use Rattle.mufom_host.specs.World.{HoldBytes, NamedFile}
 use Rattle.mufom_map.specs.Mapped.{Mapped}
+use Rattle.mufom_origins.specs.Words.{FileNames}
 use Rattle.mufom_module.specs.declared.module.Parts.{Parts}
 use Rattle.mufom_plan.specs.declared.plan.Plan.{Plan}
 use Rattle.mufom_words.specs.Tree.{tree_of}
@@ -20,6 +21,7 @@ use Rattle.mufom_task.specs.declared.task.Inputs.{Inputs}
 use Rattle.mufom_task.specs.declared.task.Product.{Product}
 use Rattle.mufom_task.specs.declared.task.Product.TheVariants as product
 use Rattle.mufom_task.specs.declared.task.Task.TheVariants as task
+use Rattle.mufom_command.specs.Roots.{Roots, roots_by}
 use Rattle.mufom_command.specs.Works.{Kept, Output, kept_of, located_unless, locating_kept, producing, product_of, raw_file, unless_too_long, work_of}
 use Rattle.mufom_command.proofs.EndLaws.{location-of}
 use Rattle.mufom_command.proofs.Runs.{kept_of-single, of-files}
@@ -30,7 +32,7 @@ use Rattle.mufom_run_laws.proofs.Plain.{plain-answers}
 
 -- ---- what is put out of a list
 
-module _ (output : Kept → LocatedParts → Work Stop Output) (keep : Option (List ℕ)) (plan : Plan) (list : List Parts) where
+module _ (output : Kept → LocatedParts → Work Stop Output) (keep : Option Roots) (plan : Plan) (list : List Parts) where
   -- no fact stands against a list of which there is an output
   pub no-fact-there : (o : Output) → link_answer list ≡ None → locating_kept output keep plan list (gives o) → HasNoFact keep list plan
   no-fact-there o links (kept, is_kept, (r, is_located, puts)) =
@@ -58,39 +60,40 @@ raw-never fill out r few s = by (nat_lt MOST_FILE_BYTES (length (raw_image fill 
   by true is ends = absurd (omega (arith, few, ltb-true MOST_FILE_BYTES (length (raw_image fill r.runs)) is))
   by false is ends = ends
 
-pub product-never : (p : Product) (shown : Mapped) (r : LocatedParts) → MayPutOut p r → (s : Stop) → product_of p shown r (stops s) → ⊥
-product-never (product.Absolute out) shown r may s (held, never) = never
-product-never (product.Raw fill out) shown r may s ends = raw-never fill out r may s ends
-product-never (product.TiTxt out) shown r may s never = never
-product-never product.Image shown r may s never = never
-product-never product.Map shown r may s never = never
-product-never (product.Hit at) shown r may s never = never
+pub product-never : (p : Product) (names : FileNames) (shown : Mapped) (r : LocatedParts) → MayPutOut p r → (s : Stop) → product_of p names shown r (stops s)
+    → ⊥
+product-never (product.Absolute out) names shown r may s (held, never) = never
+product-never (product.Raw fill out) names shown r may s ends = raw-never fill out r may s ends
+product-never (product.TiTxt out) names shown r may s never = never
+product-never product.Image names shown r may s never = never
+product-never (product.Map at) names shown r may s never = never
+product-never (product.Hit at) names shown r may s never = never
 
 -- ---- the work of a task that locates
 
-module _ (files : List NamedFile) (c : Inputs) (keep : Option (List ℕ)) (p : Product) (plan : Plan) (flat : List Parts) (bytes : HoldBytes files)
+module _ (files : List NamedFile) (c : Inputs) (keep : List (List ℕ)) (p : Product) (plan : Plan) (flat : List Parts) (bytes : HoldBytes files)
     (accepts : Accepts files c plan flat) where
   abbrev work : List Parts → Plan → List Parts → Work Stop Output
-  work ms plan flat = locating_kept (producing p (tree_of c.marks) ms plan) keep plan flat
+  work ms plan flat = locating_kept (producing p c.files (tree_of c.marks) ms plan) (roots_by keep plan) plan flat
 
   -- no fact stands where there is an output
-  exact-there : (o : Output) → work_of (task.Locate c keep p) files (gives o) → HasNoFact keep flat plan
+  exact-there : (o : Output) → work_of (task.Locate c keep p) files (gives o) → HasNoFact (roots_by keep plan) flat plan
   exact-there o is =
       let (links, is_put) = accepted-gives files c plan flat bytes accepts work o is in
-      no-fact-there (producing p (tree_of c.marks) accepts.modules plan) keep plan flat o links is_put
+      no-fact-there (producing p c.files (tree_of c.marks) accepts.modules plan) (roots_by keep plan) plan flat o links is_put
 
   -- and where none stands the work has no end
-  exact-back : ((kept : Kept) (r : LocatedParts) → kept_of keep flat (gives kept) → IsLocation kept.modules plan r → MayPutOut p r)
-      → HasNoFact keep flat plan → (s : Stop) → work_of (task.Locate c keep p) files (stops s) → ⊥
+  exact-back : ((kept : Kept) (r : LocatedParts) → kept_of (roots_by keep plan) flat (gives kept) → IsLocation kept.modules plan r → MayPutOut p r)
+      → HasNoFact (roots_by keep plan) flat plan → (s : Stop) → work_of (task.Locate c keep p) files (stops s) → ⊥
   exact-back may none s ends = by (accepted-stops files c plan flat bytes accepts work s ends) where
-    never : (kept : Kept) (r : LocatedParts) → kept_of keep flat (gives kept) → IsLocation kept.modules plan r → (s : Stop)
-        → producing p (tree_of c.marks) accepts.modules plan kept r (stops s) → ⊥
+    never : (kept : Kept) (r : LocatedParts) → kept_of (roots_by keep plan) flat (gives kept) → IsLocation kept.modules plan r → (s : Stop)
+        → producing p c.files (tree_of c.marks) accepts.modules plan kept r (stops s) → ⊥
     never kept r keeps there s (inl nothing) = nothing
-    never kept r keeps there s (inr (own, are, ends)) = product-never p _ r (may kept r keeps there) s ends
+    never kept r keeps there s (inr (own, are, ends)) = product-never p c.files _ r (may kept r keeps there) s ends
 
     by : EndsAtFact flat s ⊎ ((link_answer flat ≡ None) × work accepts.modules plan flat (stops s)) → ⊥
     by (inl fact) = no-link-fact flat plan s none.links fact
-    by (inr (links, ends)) = no-end (producing p (tree_of c.marks) accepts.modules plan) keep plan flat never none s ends
+    by (inr (links, ends)) = no-end (producing p c.files (tree_of c.marks) accepts.modules plan) (roots_by keep plan) plan flat never none s ends
 
 -- Locating is done exactly where no fact stands against the flat list.
 pub locating-done : LocatingIsDone

@@ -29,7 +29,7 @@ linked-files-stand name out flat output valid (M, joined, (held, is)) = record {
 }
 
 pub absolute-files-stand : AbsoluteFilesStand
-absolute-files-stand keep out origins plan flat output valid (kept, is_kept, (r, is_located, (held, is))) =
+absolute-files-stand keep out names origins plan flat output valid (kept, is_kept, (r, is_located, (held, is))) =
     let there = location-of plan kept.modules r is_located in
     record {
       location = r;

@@ -1,5 +1,6 @@
 -- A list that was linked in stages is put out as the list that the stages began with.
-use Rattle.std.proofs.Common.{◌≡◌, ◌↔◌, ℕ, Bool, true, false, inl, inr, map, List, [], ◌∷◌, Option, Some, None, unwrap_or, refl, sym, ap, subst, ◌∙◌}
+use Rattle.std.proofs.Common.{◌≡◌, ◌↔◌, ℕ, inl, inr, map, not, List, [], ◌∷◌, Option, Some, None, unwrap_or, refl, sym, ap, subst, ◌∙◌}
+use Rattle.std.specs.List.{find}
 use Rattle.mufom_host.specs.World.{HoldBytes, NamedFile}
 use Rattle.mufom_words.specs.Tree.{tree_of}
 use Rattle.mufom_module.specs.declared.module.Parts.{Parts}
@@ -24,11 +25,13 @@ use Rattle.mufom_outcome.specs.Stop.{Stop, keep_unknown, link_fact}
 use Rattle.mufom_origins.specs.declared.origins.Origin.{Origin}
 use Rattle.mufom_origins.specs.Origins.{FileModule, origins_of}
 use Rattle.mufom_map.specs.Mapped.{Mapped}
+use Rattle.mufom_origins.specs.Words.{FileNames}
 use Rattle.mufom_task.specs.declared.task.Inputs.{Inputs}
 use Rattle.mufom_task.specs.declared.task.Product.{Product}
 use Rattle.mufom_task.specs.declared.task.Task.TheVariants as task
 use Rattle.mufom_task.specs.Reading.{plan_in, modules_in}
 use Rattle.mufom_command.specs.FlatFiles.{AreFlatFiles}
+use Rattle.mufom_command.specs.Roots.{Roots, first_unknown, roots_by}
 use Rattle.mufom_command.specs.Works.{Kept, Output, all_of, writes_module, kept_of, kept_unless, linked_file, linking, located, locating_kept, producing}
 use Rattle.mufom_command.specs.Works.{product_of, product_with, rest_of_link, work_of}
 use Rattle.mufom_command.proofs.LocatingLaws.{located-back, located-forth}
@@ -87,26 +90,27 @@ module _ (plan : Plan) (ms leaves : List Parts) (means : MeansTheSame ms leaves)
   link-same : (M : Parts) → IsJoined M ms (first_name ms) ↔ IsJoined M leaves (first_name leaves)
   link-same M = subst (λ (name : List ℕ). IsJoined M ms (first_name ms) ↔ IsJoined M leaves name) first-same (means.same_joined M (first_name ms))
 
-  rest-same : (name : List ℕ) → IsSameWork (rest_of_link name ms) (rest_of_link name leaves)
-  rest-same name (gives kept) = (
+  rest-same : (roots : Roots) → IsSameWork (rest_of_link roots ms) (rest_of_link roots leaves)
+  rest-same roots (gives kept) = (
     (λ (M, (sound, joined), rest). (M, (sound, (link-same M).0 joined), rest)),
     (λ (M, (sound, joined), rest). (M, (sound, (link-same M).1 joined), rest)),
   )
-  rest-same name (stops s) = (
-    (λ ends. absurd (never ms name s ends)),
-    (λ ends. absurd (never leaves name s ends)),
+  rest-same roots (stops s) = (
+    (λ ends. absurd (never ms roots s ends)),
+    (λ ends. absurd (never leaves roots s ends)),
   ) where
-    never : (list : List Parts) (name : List ℕ) (s : Stop) → rest_of_link name list (stops s) → ⊥
-    never list name s (inl none) = none
-    never list name s (inr (M, is, inl none)) = none
-    never list name s (inr (M, is, inr (marks, is_kept, none))) = none
+    never : (list : List Parts) (roots : Roots) (s : Stop) → rest_of_link roots list (stops s) → ⊥
+    never list roots s (inl none) = none
+    never list roots s (inr (M, is, inl none)) = none
+    never list roots s (inr (M, is, inr (marks, is_kept, none))) = none
 
-  kept-same : (name : List ℕ) → IsSameWork (kept_of (Some name) ms) (kept_of (Some name) leaves)
-  kept-same name = subst (λ (names : List (List ℕ)). IsSameWork (kept_of (Some name) ms) (kept_unless (has_name names name) name leaves)) names-same
-      (by (has_name (public_names ms) name)) where
-        by : (b : Bool) → IsSameWork (kept_unless b name ms) (kept_unless b name leaves)
-        by false = same-work (stop_at (keep_unknown name))
-        by true = rest-same name
+  kept-same : (roots : Roots) → IsSameWork (kept_of (Some roots) ms) (kept_of (Some roots) leaves)
+  kept-same roots =
+      subst (λ (names : List (List ℕ)). IsSameWork (kept_of (Some roots) ms)
+      (kept_unless (find (λ name. not (has_name names name)) roots.names) roots leaves)) names-same (by (first_unknown ms roots.names)) where
+        by : (o : Option (List ℕ)) → IsSameWork (kept_unless o roots ms) (kept_unless o roots leaves)
+        by (Some name) = same-work (stop_at (keep_unknown name))
+        by None = rest-same roots
 
   -- what is made of what is kept of one, and of the location of that, is what is made of the other
   module _ (output : Kept → LocatedParts → Work Stop Output)
@@ -114,7 +118,7 @@ module _ (plan : Plan) (ms leaves : List Parts) (means : MeansTheSame ms leaves)
     abbrev next : Kept → Work Stop Output
     next kept = located plan kept.modules >>= λ r. output kept r
 
-    pub of_kept : (keep : Option (List ℕ)) → IsSameWork (locating_kept output keep plan ms) (locating_kept output keep plan leaves)
+    pub of_kept : (keep : Option Roots) → IsSameWork (locating_kept output keep plan ms) (locating_kept output keep plan leaves)
     of_kept None =
         let here : IsSameWork (sure (all_of ms) >>= next) (next (all_of ms)) = then-known (sure (all_of ms)) next (all_of ms) (sure-single (all_of ms)) refl in
         let there : IsSameWork (sure (all_of leaves) >>= next) (next (all_of leaves))
@@ -123,21 +127,21 @@ module _ (plan : Plan) (ms leaves : List Parts) (means : MeansTheSame ms leaves)
         (same-trans (next (all_of ms)) (next (all_of leaves)) (sure (all_of leaves) >>= next)
         (then-same (located plan ms) (located plan leaves) (λ r. output (all_of ms) r) (λ r. output (all_of leaves) r) located-same each)
         (same-sym (sure (all_of leaves) >>= next) (next (all_of leaves)) there))
-    of_kept (Some name) =
-        then-same (kept_of (Some name) ms) (kept_of (Some name) leaves) next next (kept-same name) (λ kept. same-work (next kept))
+    of_kept (Some roots) =
+        then-same (kept_of (Some roots) ms) (kept_of (Some roots) leaves) next next (kept-same roots) (λ kept. same-work (next kept))
 
   -- whatever is made of the location of the whole list, with these origins
-  product-same : (p : Product) (origins : List Origin) (r : LocatedParts)
-      → IsSameWork (product_with p origins plan (all_of ms) r) (product_with p origins plan (all_of leaves) r)
-  product-same p origins r =
-      subst (λ (shown : Mapped). IsSameWork (product_with p origins plan (all_of ms) r) (product_of p shown r))
-      (same-map ms leaves means origins plan r) (same-work (product_with p origins plan (all_of ms) r))
+  product-same : (p : Product) (names : FileNames) (origins : List Origin) (r : LocatedParts)
+      → IsSameWork (product_with p names origins plan (all_of ms) r) (product_with p names origins plan (all_of leaves) r)
+  product-same p names origins r =
+      subst (λ (shown : Mapped). IsSameWork (product_with p names origins plan (all_of ms) r) (product_of p names shown r))
+      (same-map ms leaves means origins plan r) (same-work (product_with p names origins plan (all_of ms) r))
 
   pub put_out-alike : PutOutAlike plan ms leaves
   put_out-alike = record {
     linked = λ name out. then-same (with_stops link_fact (joined name ms)) (with_stops link_fact (joined name leaves)) (λ M. writes_module out M)
         (λ M. writes_module out M) (joined-same name) (λ M. same-work (writes_module out M));
-    located = λ keep p origins. of_kept (product_with p origins plan) (product-same p origins) keep;
+    located = λ keep p names origins. of_kept (product_with p names origins plan) (product-same p names origins) keep;
   }
 
 -- A list that earlier runs linked in stages is put out as the list that the stages began with.
@@ -160,7 +164,7 @@ linking-known output files c plan flat bytes leads =
     (stops-single link_fact (linked (tree_of c.marks) ms) (linked-single (tree_of c.marks) ms)) leads.linked))
 
 -- what is made of a location is the same where it is for each location of what is kept
-locating-each : (keep : Option (List ℕ)) (plan : Plan) (ms : List Parts) (output other : Kept → LocatedParts → Work Stop Output)
+locating-each : (keep : Option Roots) (plan : Plan) (ms : List Parts) (output other : Kept → LocatedParts → Work Stop Output)
     → ((kept : Kept) (r : LocatedParts) → IsSameWork (output kept r) (other kept r))
     → IsSameWork (locating_kept output keep plan ms) (locating_kept other keep plan ms)
 locating-each keep plan ms output other each =
@@ -180,23 +184,26 @@ module _ (files : List NamedFile) (c : Inputs) (plan : Plan) (flat leaves : List
       same-trans (work_of (task.Link c name out) files) (linked_file name out flat) (linked_file name out leaves)
       (linking-known (λ ms plan flat. linked_file name out flat) files c plan flat bytes leads) (alike.linked name out)
 
-  module _ (keep : Option (List ℕ)) (p : Product) where
+  module _ (keep : List (List ℕ)) (p : Product) where
+    abbrev roots : Option Roots
+    roots = roots_by keep plan
+
     -- the modules of the flat list are those of its files
     own-product : (kept : Kept) (r : LocatedParts)
-        → IsSameWork (producing p (tree_of c.marks) leads.modules plan kept r) (product_with p (origins_of own) plan kept r)
+        → IsSameWork (producing p c.files (tree_of c.marks) leads.modules plan kept r) (product_with p c.files (origins_of own) plan kept r)
     own-product kept r =
-        then-known (one_with (AreFlatFiles (tree_of c.marks) leads.modules)) (λ flat. product_with p (origins_of flat) plan kept r) own
+        then-known (one_with (AreFlatFiles (tree_of c.marks) leads.modules)) (λ flat. product_with p c.files (origins_of flat) plan kept r) own
         (flat-files-single (tree_of c.marks) leads.modules) are
 
-    locate-of-stages : IsSameWork (work_of (task.Locate c keep p) files) (locating_kept (product_with p (origins_of own) plan) keep plan leaves)
+    locate-of-stages : IsSameWork (work_of (task.Locate c keep p) files) (locating_kept (product_with p c.files (origins_of own) plan) roots plan leaves)
     locate-of-stages =
-        let here : Work Stop Output = locating_kept (producing p (tree_of c.marks) leads.modules plan) keep plan flat in
-        let there : Work Stop Output = locating_kept (product_with p (origins_of own) plan) keep plan flat in
-        same-trans (work_of (task.Locate c keep p) files) here (locating_kept (product_with p (origins_of own) plan) keep plan leaves)
-        (linking-known (λ ms plan flat. locating_kept (producing p (tree_of c.marks) ms plan) keep plan flat) files c plan flat bytes leads)
-        (same-trans here there (locating_kept (product_with p (origins_of own) plan) keep plan leaves)
-        (locating-each keep plan flat (producing p (tree_of c.marks) leads.modules plan) (product_with p (origins_of own) plan) own-product)
-        (alike.located keep p (origins_of own)))
+        let here : Work Stop Output = locating_kept (producing p c.files (tree_of c.marks) leads.modules plan) roots plan flat in
+        let there : Work Stop Output = locating_kept (product_with p c.files (origins_of own) plan) roots plan flat in
+        same-trans (work_of (task.Locate c keep p) files) here (locating_kept (product_with p c.files (origins_of own) plan) roots plan leaves)
+        (linking-known (λ ms plan flat. locating_kept (producing p c.files (tree_of c.marks) ms plan) (roots_by keep plan) plan flat) files c plan flat bytes leads)
+        (same-trans here there (locating_kept (product_with p c.files (origins_of own) plan) roots plan leaves)
+        (locating-each roots plan flat (producing p c.files (tree_of c.marks) leads.modules plan) (product_with p c.files (origins_of own) plan) own-product)
+        (alike.located roots p c.files (origins_of own)))
 
 pub runs-of-stages : RunsOfStages
 runs-of-stages files c plan flat leaves own bytes leads are came = record {

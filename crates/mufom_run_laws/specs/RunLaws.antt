@@ -26,9 +26,11 @@ use Rattle.mufom_outcome.specs.declared.outcome.Outcome.TheVariants as outcome
 use Rattle.mufom_write.specs.Raw.{raw_image}
 use Rattle.mufom_numbers.specs.declared.limits.TheConstants.{MOST_FILE_BYTES}
 use Rattle.mufom_origins.specs.declared.origins.Origin.{Origin}
+use Rattle.mufom_origins.specs.Words.{FileNames}
 use Rattle.mufom_origins.specs.Origins.{FileModule, origins_of}
 use Rattle.mufom_command.specs.FlatFiles.{AreFlatFiles}
 use Rattle.mufom_outcome.specs.Stop.{Stop}
+use Rattle.mufom_command.specs.Roots.{Roots, roots_by}
 use Rattle.mufom_command.specs.Works.{Kept, Output, made, kept_of, linked_file, locating_kept, product_with, work_of}
 use Rattle.mufom_task.specs.declared.task.Inputs.{Inputs}
 use Rattle.mufom_task.specs.declared.task.Product.{Product}
@@ -79,8 +81,8 @@ abbrev pub MayPutOut : Product → LocatedParts → Type 0
 MayPutOut (product.Raw fill out) r = length (raw_image fill r.runs) ≤ MOST_FILE_BYTES
 MayPutOut p r = Unit {0}
 
--- no error applies to the list: it can be linked, one of its publics has the name to keep, if one is given, and what is kept can be located
-pub record HasNoFact (keep : Option (List ℕ)) (ms : List Parts) (plan : Plan) : Type 0 where
+-- no error applies to the list: it can be linked, its publics have all names to keep, if roots are given, and what is kept can be located
+pub record HasNoFact (keep : Option Roots) (ms : List Parts) (plan : Plan) : Type 0 where
   pub links : link_answer ms ≡ None
   pub kept : Kept
   pub keeps : kept_of keep ms (gives kept)
@@ -90,12 +92,12 @@ pub record HasNoFact (keep : Option (List ℕ)) (ms : List Parts) (plan : Plan) 
 -- kept of it, whatever the groups of the files are. For a raw image, this assumes that it does not have too many bytes.
 abbrev pub LocatingIsDone : Type 0
 LocatingIsDone =
-    (words : List (List ℕ)) (files : List NamedFile) (call : Call) (result : Outcome) (c : Command) (inputs : Inputs) (keep : Option (List ℕ)) (p : Product)
+    (words : List (List ℕ)) (files : List NamedFile) (call : Call) (result : Outcome) (c : Command) (inputs : Inputs) (keep : List (List ℕ)) (p : Product)
     (plan : Plan) (flat : List Parts)
     → Answers words call result → IsUndisturbed files call result → answer_of words ≡ Ok c → request_of c ≡ request.Run (task.Locate inputs keep p)
     → Accepts files inputs plan flat
-    → ((kept : Kept) (r : LocatedParts) → kept_of keep flat (gives kept) → IsLocation kept.modules plan r → MayPutOut p r)
-    → (result ≡ outcome.Done) ↔ HasNoFact keep flat plan
+    → ((kept : Kept) (r : LocatedParts) → kept_of (roots_by keep plan) flat (gives kept) → IsLocation kept.modules plan r → MayPutOut p r)
+    → (result ≡ outcome.Done) ↔ HasNoFact (roots_by keep plan) flat plan
 
 -- ---- stages
 
@@ -107,8 +109,8 @@ IsSameWork {A = A} first second = (reached : Reached Stop A) → first reached �
 -- so it is the same for the same modules: a partial link forgets the modules that it was made of.
 pub record PutOutAlike (plan : Plan) (ms leaves : List Parts) : Type 0 where
   pub linked : (name : Option (List ℕ)) (out : List ℕ) → IsSameWork (linked_file name out ms) (linked_file name out leaves)
-  pub located : (keep : Option (List ℕ)) (p : Product) (origins : List Origin)
-      → IsSameWork (locating_kept (product_with p origins plan) keep plan ms) (locating_kept (product_with p origins plan) keep plan leaves)
+  pub located : (keep : Option Roots) (p : Product) (names : FileNames) (origins : List Origin)
+      → IsSameWork (locating_kept (product_with p names origins plan) keep plan ms) (locating_kept (product_with p names origins plan) keep plan leaves)
 
 -- `ms` was made from `leaves` in stages of partial links; the modules of `leaves` have no defect, have one descriptor, and define no public name
 -- twice
@@ -132,8 +134,9 @@ pub record LeadsTo (files : List NamedFile) (inputs : Inputs) (plan : Plan) (fla
 -- The tasks over these inputs have the outputs of this list. `own` is their flat list with its files, whose modules a map shows.
 pub record AreRunsOf (files : List NamedFile) (inputs : Inputs) (plan : Plan) (own : List FileModule) (list : List Parts) : Type 0 where
   pub linked : (name : Option (List ℕ)) (out : List ℕ) → IsSameWork (work_of (task.Link inputs name out) files) (linked_file name out list)
-  pub located : (keep : Option (List ℕ)) (p : Product)
-      → IsSameWork (work_of (task.Locate inputs keep p) files) (locating_kept (product_with p (origins_of own) plan) keep plan list)
+  pub located : (keep : List (List ℕ)) (p : Product)
+      → IsSameWork (work_of (task.Locate inputs keep p) files)
+      (locating_kept (product_with p inputs.files (origins_of own) plan) (roots_by keep plan) plan list)
 
 -- So a task whose files were linked in stages has the output for the list that the stages began with.
 abbrev pub RunsOfStages : Type 0
@@ -161,7 +164,7 @@ LinkedFilesStand =
 
 -- The output is the file of the absolute module of the location of what is kept of the list. Located alone, by the plan without regions, that module
 -- has the same location. A later run reads it from the bytes, as above.
-pub record IsFileOfLocation (keep : Option (List ℕ)) (out : List ℕ) (plan : Plan) (flat : List Parts) (output : Output) : Type 0 where
+pub record IsFileOfLocation (keep : Option Roots) (out : List ℕ) (plan : Plan) (flat : List Parts) (output : Output) : Type 0 where
   pub location : LocatedParts
   pub bytes : output ≡ made out (written (absolute_of location))
   pub kept : Kept
@@ -175,6 +178,6 @@ pub record IsFileOfLocation (keep : Option (List ℕ)) (out : List ℕ) (plan : 
 -- read back from the file.
 abbrev pub AbsoluteFilesStand : Type 0
 AbsoluteFilesStand =
-    (keep : Option (List ℕ)) (out : List ℕ) (origins : List Origin) (plan : Plan) (flat : List Parts) (output : Output)
-    → AreValid flat → locating_kept (product_with (product.Absolute out) origins plan) keep plan flat (gives output)
+    (keep : Option Roots) (out : List ℕ) (names : FileNames) (origins : List Origin) (plan : Plan) (flat : List Parts) (output : Output)
+    → AreValid flat → locating_kept (product_with (product.Absolute out) names origins plan) keep plan flat (gives output)
     → IsFileOfLocation keep out plan flat output

@@ -15,7 +15,7 @@ use Rattle.mufom_outcome.specs.Stop.{Stop, plan_refused, file_refused, past_limi
 use Rattle.mufom_task.specs.Inputs.{ComeTo, accepted}
 use Rattle.mufom_task.specs.Reading.{modules_in, plan_in}
 use Rattle.mufom_task.specs.FilesRead.{FilesStop, IsFileCount, OpensFiles}
-use Rattle.mufom_task.specs.InputsRead.{InputsStop, NamesPlan, PlanStops, inputs_in}
+use Rattle.mufom_task.specs.InputsRead.{InputsStop, KeepsPlan, NamesPlan, PlanStops, inputs_in}
 use Rattle.mufom_task.specs.Calls.{IsOpenedCount, OpensInputs}
 use Rattle.mufom_task.specs.Ends.{OverFiles}
 use Rattle.mufom_task.specs.Tasks.{input_names}
@@ -175,6 +175,25 @@ module _ (c : Inputs) (old mid : Meaning) (before between : Faults) (only : Only
   files-named new now (outcome.Usage f) why = tt
   files-named new now outcome.WriteFault why = tt
   files-named new now outcome.NoMemory why = tt
+
+  pub files-keep : (new : Meaning) (now : Faults) (files : Option (List NamedFile)) (text : List ℕ) (stop : Outcome)
+      → FilesStop c.options c.files (call_between mid new between now) stop → KeepsPlan c.plan files text stop
+  files-keep new now files text (outcome.Refused (refusal.Plan r)) why = absurd why
+  files-keep new now files text (outcome.ReadFault at) why = tt
+  files-keep new now files text (outcome.Refused (refusal.Bin count)) why = tt
+  files-keep new now files text (outcome.Refused (refusal.Keep kept)) why = tt
+  files-keep new now files text (outcome.Refused (refusal.Text r)) why = tt
+  files-keep new now files text (outcome.Refused (refusal.Build r)) why = tt
+  files-keep new now files text (outcome.Refused (refusal.Read n r)) why = tt
+  files-keep new now files text (outcome.Refused (refusal.InputLimit n)) why = tt
+  files-keep new now files text (outcome.Refused (refusal.TooManyFiles n)) why = tt
+  files-keep new now files text (outcome.Refused (refusal.TooDeep n)) why = tt
+  files-keep new now files text (outcome.Refused (refusal.Link l)) why = tt
+  files-keep new now files text (outcome.Refused (refusal.Locate l maus)) why = tt
+  files-keep new now files text outcome.Done why = tt
+  files-keep new now files text (outcome.Usage f) why = tt
+  files-keep new now files text outcome.WriteFault why = tt
+  files-keep new now files text outcome.NoMemory why = tt
 
   -- ---- the files were not all read
 

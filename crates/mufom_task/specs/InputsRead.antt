@@ -1,5 +1,5 @@
 -- The results of reading the inputs of a task: its plan and then the modules of its files, or its text.
-use Rattle.std.specs.Prelude.{◌≡◌, ◌≢◌, ◌⊎◌, ℕ, ◌<◌, List, [], ◌∷◌, ◌++◌, length, Option, Result, Err, IfSome, IsSome, true}
+use Rattle.std.specs.Prelude.{◌≡◌, ◌≢◌, ◌⊎◌, ℕ, ◌<◌, List, [], ◌∷◌, ◌++◌, length, Option, Some, Result, Err, IfSome, IsSome, true}
 use Rattle.mufom_host.specs.World.{NamedFile, Rose}
 use Rattle.mufom_module.specs.declared.module.Parts.{Parts}
 use Rattle.mufom_plan.specs.declared.plan.Plan.{Plan}
@@ -14,6 +14,7 @@ use Rattle.mufom_outcome.specs.declared.outcome.Refusal.TheVariants as refusal
 use Rattle.mufom_outcome.specs.Stop.{Stop, past_limit, plan_refused}
 use Rattle.mufom_task.specs.Reading.{modules_in, plan_in, text_in}
 use Rattle.mufom_task.specs.Calls.{Call}
+use Rattle.mufom_task.specs.FilesRead.{FileHas}
 use Rattle.mufom_task.specs.Ends.{IsInputReached, IsStopped}
 
 -- the greatest length of a plan, in bytes
@@ -44,6 +45,12 @@ PlanStops name call (outcome.Refused (refusal.Plan r)) =
 PlanStops name call (outcome.ReadFault input.Plan) = IsSome name × Rose call.before.reads call.now.reads
 PlanStops name call outcome.NoMemory = Unit {0}
 PlanStops name call _ = ⊥
+
+-- If the outcome is that the plan with this name is refused, these are the bytes of its file, unless there are too many.
+abbrev pub KeepsPlan : Option (List ℕ) → Option (List NamedFile) → List ℕ → Outcome → Type 0
+KeepsPlan plan files text (outcome.Refused (refusal.Plan r)) =
+    (name : List ℕ) → plan ≡ Some name → FileHas name files (λ all. (all ≡ text) ⊎ (r ≡ plan_refusal.TooLong))
+KeepsPlan plan files text _ = Unit {0}
 
 -- The outcome names the plan only if there is one.
 abbrev pub NamesPlan : Option (List ℕ) → Outcome → Type 0

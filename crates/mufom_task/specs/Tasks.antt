@@ -30,9 +30,9 @@ request_by verb.Check c = request.Run (task.Check (inputs_named c))
 request_by verb.Link c = request.Run (task.Link (inputs_named c) c.name (out_named c))
 request_by verb.Locate c = locating c (product.Absolute (out_named c))
 request_by verb.Dump c = locating c product.Image
-request_by verb.Map c = locating c product.Map
+request_by verb.Map c = locating c (product.Map c.at)
 request_by verb.Make c = request.Run (task.Make c.count)
-request_by verb.Addr c = locating c (product.Hit c.at)
+request_by verb.Addr c = locating c (product.Hit (unwrap_or c.at 0))
 request_by verb.Bin c = locating c (product.Raw c.fill (out_named c))
 request_by verb.Txt c = locating c (product.TiTxt (out_named c))
 request_by verb.FromTxt c = request.Run (task.FromTxt (inputs_named c) c.maus (out_named c))
@@ -83,10 +83,10 @@ out_of (task.FromTxt inputs maus out) = Some out
 out_of (task.Build inputs out) = Some out
 out_of _ = None
 
--- the public symbol of which the task keeps what is needed, if it names one
-abbrev pub keep_of : Task → Option (List ℕ)
+-- the public symbols of which the task keeps what they need
+abbrev pub keep_of : Task → List (List ℕ)
 keep_of (task.Locate inputs keep p) = keep
-keep_of _ = None
+keep_of _ = []
 
 -- the names of the inputs, in the order in which they are read
 abbrev pub input_names : Inputs → List (List ℕ)

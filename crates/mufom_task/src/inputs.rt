@@ -11,12 +11,13 @@ ghost use Rattle.mufom_groups.specs.Groups.{most_weight};
 ghost use Rattle.mufom_groups.specs.Work.{gives};
 ghost use Rattle.mufom_task.specs.FilesRead.{FileHas, FileStops, FilesStop, HasModule, OpensFiles, outcome_of_source_stop};
 ghost use Rattle.mufom_task.specs.Inputs.{ComeTo, accepted, most_input_bytes};
-ghost use Rattle.mufom_task.specs.InputsRead.{inputs_in, InputsStop, NamesPlan};
+ghost use Rattle.mufom_task.specs.InputsRead.{inputs_in, InputsStop, KeepsPlan, NamesPlan};
 ghost use Rattle.mufom_task.specs.Calls.{call_of, OpensInputs};
 ghost use Rattle.mufom_task.specs.Tasks.{input_names};
 
 use crate::plan_file::read_plan_of;
 use crate::task::Inputs;
+use crate::unread::Unread;
 use mufom_host::{Failed, Host};
 use mufom_module::{Module, a_module_is_valid};
 use mufom_numbers::limits::MOST_FILE_BYTES;
@@ -116,6 +117,38 @@ pub struct Loaded {
 }
 
 /// Reads the inputs of a task: its plan, and then its files in their order. Returns the outcome of the run if
+/// one of them is refused or cannot be read, or if memory runs out; then no further input was opened. If the
+/// plan is refused, its bytes are returned too, so that the place of the error can be looked up in them.
+pub fn read_or_unread<H: Host>(
+    alloc: Global,
+    inputs: &Inputs,
+    host: &mut H,
+) -> Result<Loaded, Unread>
+    requires { length inputs.now.files < 2 ^ 32 }
+    ensures read { IfOk result (λ loaded. IfSome (H.meaning host.old).files
+        (λ files. inputs_in files inputs.now (gives (loaded.plan, loaded.modules)))) }
+    ensures sound { IfOk result (λ loaded. IsSoundPlan loaded.plan) }
+    ensures count { IfOk result (λ loaded. length loaded.modules ≡ length inputs.now.files) }
+    ensures all { IfOk result (λ loaded. GrowsBy (H.meaning host.old).opened (H.meaning host.new).opened (input_names inputs.now)) }
+    ensures valid { IfOk result (λ loaded. AreValid loaded.modules) }
+    ensures light { IfOk result (λ loaded. total_weight loaded.modules ≤ most_weight) }
+    ensures stops { IfErr result (λ unread. InputsStop inputs.now (call_of H.meaning H.faults host.old host.new) unread.outcome) }
+    ensures named { IfErr result (λ unread. NamesPlan inputs.now.plan unread.outcome) }
+    ensures text { IfErr result (λ unread. KeepsPlan inputs.now.plan (H.meaning host.old).files unread.plan.items unread.outcome) }
+    ensures opened { IfErr result (λ unread. OpensInputs inputs.now (call_of H.meaning H.faults host.old host.new) unread.outcome) }
+    ensures only { OnlyOpens (H.meaning host.old) (H.meaning host.new) (H.faults host.old) (H.faults host.new) }
+{
+    let plan = match read_plan_of(alloc, inputs, host) {
+        Ok(plan) => plan,
+        Err(unread) => return Err(unread),
+    };
+    match read_files(alloc, inputs.files.as_slice(), inputs.options, host) {
+        Ok(modules) => Ok(Loaded { plan, modules }),
+        Err(stop) => Err(Unread::without_plan(alloc, stop)),
+    }
+}
+
+/// Reads the inputs of a task: its plan, and then its files in their order. Returns the outcome of the run if
 /// one of them is refused or cannot be read, or if memory runs out; then no further input was opened.
 pub fn read_inputs<H: Host>(alloc: Global, inputs: &Inputs, host: &mut H) -> Result<Loaded, Outcome>
     requires { length inputs.now.files < 2 ^ 32 }
@@ -131,12 +164,8 @@ pub fn read_inputs<H: Host>(alloc: Global, inputs: &Inputs, host: &mut H) -> Res
     ensures opened { IfErr result (λ stop. OpensInputs inputs.now (call_of H.meaning H.faults host.old host.new) stop) }
     ensures only { OnlyOpens (H.meaning host.old) (H.meaning host.new) (H.faults host.old) (H.faults host.new) }
 {
-    let plan = match read_plan_of(alloc, inputs, host) {
-        Ok(plan) => plan,
-        Err(stop) => return Err(stop),
-    };
-    match read_files(alloc, inputs.files.as_slice(), inputs.options, host) {
-        Ok(modules) => Ok(Loaded { plan, modules }),
-        Err(stop) => Err(stop),
+    match read_or_unread(alloc, inputs, host) {
+        Ok(loaded) => Ok(loaded),
+        Err(unread) => Err(unread.outcome),
     }
 }

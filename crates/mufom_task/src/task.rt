@@ -35,8 +35,8 @@ pub enum Product {
     TiTxt { out: Text },
     /// The text of the image.
     Image,
-    /// The text that shows what is at which address, with modules and files.
-    Map,
+    /// The text that shows what is at which address, with modules and files; or the lines of one address of it.
+    Map { at: Option<u64> },
     /// The lines of the function and the source line at an address.
     Hit { address: u64 },
 }
@@ -60,11 +60,11 @@ pub enum Task {
         name: Option<Bytes>,
         out: Text,
     },
-    /// Links and locates files, or what the public symbol `keep` needs of them, and puts out what is made of
-    /// the location.
+    /// Links and locates files, or what the public symbols `keep` need of them if there is one, and puts out
+    /// what is made of the location.
     Locate {
         inputs: Inputs,
-        keep: Option<Bytes>,
+        keep: List<Bytes>,
         product: Product,
     },
     /// Reads a TI-TXT text, and writes a module that loads its bytes to a file. An address has `maus` units.
@@ -146,13 +146,21 @@ fn link(alloc: Global, mut command: Command) -> Result<Request, NoMemory>
 }
 
 // Makes this of the location of a command's files.
-fn locate(mut command: Command, product: Product) -> Request
+fn locate(command: Command, product: Product) -> Request
     ensures { result ≡ locating command product }
 {
-    let keep = command.keep.take();
+    let inputs = Inputs {
+        plan: command.plan,
+        files: command.files,
+        marks: command.marks,
+        options: ReadOptions {
+            debug: !command.no_debug,
+            gnu: command.gnu,
+        },
+    };
     Request::Run(Task::Locate {
-        inputs: inputs_named(command),
-        keep,
+        inputs,
+        keep: command.keep,
         product,
     })
 }
@@ -221,8 +229,16 @@ fn show(command: Command) -> Request
 fn look_up(command: Command) -> Request
     ensures { result ≡ request_by Verb.Addr command }
 {
-    let address = command.at;
+    let address = command.at.unwrap_or(0);
     locate(command, Product::Hit { address })
+}
+
+// Prints a map, or the lines of one address of it.
+fn map(command: Command) -> Request
+    ensures { result ≡ request_by Verb.Map command }
+{
+    let at = command.at;
+    locate(command, Product::Map { at })
 }
 
 // What a command asks for.
@@ -238,7 +254,7 @@ fn request_named(alloc: Global, command: Command) -> Result<Request, NoMemory>
         Verb::Link => link(alloc, command),
         Verb::Locate => locate_module(alloc, command),
         Verb::Dump => Ok(locate(command, Product::Image)),
-        Verb::Map => Ok(locate(command, Product::Map)),
+        Verb::Map => Ok(map(command)),
         Verb::Make => Ok(Request::Run(Task::Make {
             count: command.count,
         })),

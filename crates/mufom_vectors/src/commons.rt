@@ -150,9 +150,9 @@ static ORDERED: [Case; 4] = [
         first: "",
         line: "map --plan=p x y z",
         status: 0,
-        text: "module 0 \"m\" file 0\n\
-            module 1 \"m\" file 1\n\
-            module 2 \"m\" file 2\n\
+        text: "module 0 \"m\" file 0: \"x\"\n\
+            module 1 \"m\" file 1: \"y\"\n\
+            module 2 \"m\" file 2: \"z\"\n\
             region 0 \"ram\" at 00000100 size 64 used 22 free 42 [######..###.##..................]\n\
             section 0 00000100 size 4 align 1 \"t\" module 0 region 0\n\
             section 1 00000104 size 4 align 1 \"t\" module 1 region 0\n\

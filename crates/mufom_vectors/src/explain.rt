@@ -8,8 +8,7 @@ use crate::locate::PAGE;
 use crate::runs::{Case, File, Held, all_come_to, explains, status_of};
 use crate::usage::deep;
 use mufom_command::run;
-use mufom_help::commands::command_topic;
-use mufom_help::{command_list, topic_text};
+use mufom_help::topic_text;
 use mufom_numbers::limits::MOST_STRING_BYTES;
 use std::alloc::Global;
 use std::process::Abort;
@@ -18,8 +17,6 @@ use std::process::Abort;
 #[derive(Clone, Copy)]
 enum Topic {
     Nothing,
-    List,
-    Command(&'static str),
     Error(&'static str),
 }
 
@@ -30,8 +27,6 @@ type Row = (&'static [File], &'static str, &'static str, Topic);
 fn text_of(topic: Topic) -> Option<&'static str> {
     match topic {
         Topic::Nothing => None,
-        Topic::List => Some(command_list()),
-        Topic::Command(name) => command_topic(name),
         Topic::Error(name) => topic_text(name),
     }
 }
@@ -51,16 +46,21 @@ const SINGLE: &[File] = &[
     ("cut", Held::Cut(20, b"")),
 ];
 
-static ENDS: [Row; 17] = [
+static ENDS: [Row; 10] = [
     // Runs that are done, also where the file or the folder could not be made.
     (SINGLE, "explain dump a", "done\n", Topic::Nothing),
     (SINGLE, "explain show --listing a", "done\n", Topic::Nothing),
     (SINGLE, "explain check a a", "done\n", Topic::Nothing),
-    (SINGLE, "explain link -o c a", "done\n", Topic::Nothing),
+    (
+        SINGLE,
+        "explain link -o c a",
+        "done\nnot tried: writing \"c\"\n",
+        Topic::Nothing,
+    ),
     (
         SINGLE,
         "explain locate -o none/c a",
-        "done\n",
+        "done\nnot tried: writing \"none/c\"\n",
         Topic::Nothing,
     ),
     (SINGLE, "explain make 2", "done\n", Topic::Nothing),
@@ -70,47 +70,14 @@ static ENDS: [Row; 17] = [
     (
         SINGLE,
         "explain show nothing",
-        "read fault: file 0\nfile 0: \"nothing\"\n",
-        Topic::Nothing,
+        "read fault: file 0\nfile 0: \"nothing\": no such file\n",
+        Topic::Error("read"),
     ),
     (
         SINGLE,
         "explain dump --plan none a",
-        "read fault: plan\nplan: \"none\"\n",
-        Topic::Nothing,
-    ),
-    // Arguments that are wrong.
-    (SINGLE, "explain lnk a", "usage: no command\n", Topic::List),
-    (
-        SINGLE,
-        "explain -- dump a",
-        "usage: no command\n",
-        Topic::List,
-    ),
-    (SINGLE, "explain Misfit", "usage: no command\n", Topic::List),
-    (
-        SINGLE,
-        "explain make 0",
-        "usage: bad count\n",
-        Topic::Command("make"),
-    ),
-    (
-        SINGLE,
-        "explain -h nothing",
-        "usage: bad words\n",
-        Topic::Command("help"),
-    ),
-    (
-        SINGLE,
-        "explain --version 1",
-        "usage: bad words\n",
-        Topic::Command("version"),
-    ),
-    (
-        SINGLE,
-        "explain link a explain",
-        "usage: bad words\n",
-        Topic::Command("link"),
+        "read fault: plan\nplan: \"none\": no such file\n",
+        Topic::Error("read"),
     ),
 ];
 
@@ -140,6 +107,12 @@ const COMMONS: &[File] = &[
     ("page", Held::Bytes(PAGE)),
     ("untrue", Held::Bytes(UNTRUE)),
     ("brackets", Held::Bytes(b"[[")),
+    ("third", Held::Bytes(b"keep = []\n\nregion = = 1\n")),
+    (
+        "lengthy",
+        Held::Bytes(b"region = [{ name = \"a\", base = 0, zz = 1, length = 1 }]"),
+    ),
+    ("other", Held::Bytes(b"zz = 1\nkeep = []\nother = 1\n")),
     (
         "beyond",
         Held::Bytes(
@@ -149,7 +122,7 @@ const COMMONS: &[File] = &[
     ("text", Held::Bytes(b"00 11\nq\n")),
 ];
 
-static INPUTS: [Row; 7] = [
+static INPUTS: [Row; 10] = [
     (
         SINGLE,
         "explain check a bad",
@@ -171,8 +144,26 @@ static INPUTS: [Row; 7] = [
     (
         COMMONS,
         "explain map --plan brackets a",
-        "refused: plan: Syntax\nplan: \"brackets\"\n",
+        "refused: plan: Syntax\nplan: \"brackets\" line 1\n",
         Topic::Error("Syntax"),
+    ),
+    (
+        COMMONS,
+        "explain dump --plan third a",
+        "refused: plan: Syntax\nplan: \"third\" line 3\n",
+        Topic::Error("Syntax"),
+    ),
+    (
+        COMMONS,
+        "explain dump --plan lengthy a",
+        "refused: plan: Shape region 0 extra\nplan: \"lengthy\"\nkey: \"length\"\n",
+        Topic::Error("Shape"),
+    ),
+    (
+        COMMONS,
+        "explain dump --plan other a",
+        "refused: plan: Shape extra\nplan: \"other\"\nkey: \"other\"\n",
+        Topic::Error("Shape"),
     ),
     (
         COMMONS,
@@ -189,8 +180,8 @@ static INPUTS: [Row; 7] = [
     (
         COMMONS,
         "explain fromtxt -o c none",
-        "read fault: file 0\nfile 0: \"none\"\n",
-        Topic::Nothing,
+        "read fault: file 0\nfile 0: \"none\": no such file\n",
+        Topic::Error("read"),
     ),
 ];
 
@@ -384,7 +375,7 @@ const VALUES: &[File] = &[
     ),
 ];
 
-static UNKNOWN_VALUES: [Row; 5] = [
+static UNKNOWN_VALUES: [Row; 4] = [
     (
         VALUES,
         "explain dump over",
@@ -411,12 +402,6 @@ static UNKNOWN_VALUES: [Row; 5] = [
         "explain addr --at 0 debug",
         "refused: locate: DivideByZero debug 0\n",
         Topic::Error("DivideByZero"),
-    ),
-    (
-        VALUES,
-        "explain dump [ [ over ] counter",
-        "usage: open group\n",
-        Topic::Command("dump"),
     ),
 ];
 
@@ -755,11 +740,18 @@ fn ends(
 fn failed_calls_are_explained_or_fail(rt: HostRuntime) {
     let alloc = rt.alloc();
     let line = "explain dump a";
-    let fault = b"read fault: file 0\nfile 0: \"a\"\n";
+    let mut fault = "read fault: file 0\nfile 0: \"a\"\n\n"
+        .to_string(alloc)
+        .expect(&rt, "memory");
+    fault
+        .push_str(topic_text("read").unwrap_or(""))
+        .expect(&rt, "memory");
+    let fault = fault.as_bytes();
     ends(&rt, alloc, line, (&[0], &[]), (0, fault, b""));
     ends(&rt, alloc, line, (&[1], &[]), (0, fault, b""));
     ends(&rt, alloc, line, (&[], &[0]), (4, b"", b"write fault\n"));
     // Writes of the run that is explained are not met.
     let line = "explain locate -o c a";
-    ends(&rt, alloc, line, (&[], &[1]), (0, b"done\n", b""));
+    let done = b"done\nnot tried: writing \"c\"\n";
+    ends(&rt, alloc, line, (&[], &[1]), (0, done, b""));
 }

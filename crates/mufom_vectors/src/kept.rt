@@ -18,8 +18,8 @@ const IMAGE: &str = "00000000: 00 00 00 04 01 02 03 04\npublic 00000000 \"main\"
 
 /// The map of what `main` needs, where another module is linked before its own: that one has a line, and no
 /// section of it is there.
-const MAP: &str = "module 0 \"m\" file 0\n\
-        module 1 \"m\" file 1\n\
+const MAP: &str = "module 0 \"m\" file 0: \"w\"\n\
+        module 1 \"m\" file 1: \"a\"\n\
         region 0 \"r\" at 00000000 size 16 used 8 free 8 [.#.#.#.#.#.#.#.#................]\n\
         section 0 00000000 size 4 align 1 \"a\" module 1 region 0\n\
         section 1 00000004 size 4 align 1 \"c\" module 1 region 0\n\
@@ -57,7 +57,7 @@ const ASKING: Held = Held::Section(
 );
 
 /// The map of what `main` needs of it.
-const ASKING_MAP: &str = "module 0 \"m\" file 0\n\
+const ASKING_MAP: &str = "module 0 \"m\" file 0: \"asking\"\n\
         region 0 \"r\" at 00000000 size 32 used 8 free 24 [####....####....................]\n\
         section 0 00000000 size 4 align 1 \"a\" module 0 region 0\n\
         common 1 00000008 size 4 align 8 \"v\" region 0\n\
@@ -71,6 +71,20 @@ const COUNTING: Held = Held::Section(
     b"\xE5\x01\xE2\xD0\x01\xD2\x01\xD2\x03\xA5\xD2\x03\xA6\xED\x04\x0A\x0B\x0C\x0D\xE5\x03\xED\x04\x01\x02\x03\x04",
 );
 
+/// Three sections: `main` is in the first, the second holds its address, and nothing needs the third.
+const VECTORS: Held = Held::Section(
+    b"\xE6\x01\xC3\x01a\xE2\xD3\x01\x04\xE6\x02\xC3\x01v\xE2\xD3\x02\x04\xE6\x03\xC3\x01u\xE2\xD3\x03\x04",
+    b"\xE8\x20\x04main\xE2\xC9\x20\xD2\x01",
+    b"\xE5\x01\xED\x04\x01\x02\x03\x04\xE5\x02\xE4\xBE\xD2\x01\xBF\xE5\x03\xED\x04\x05\x06\x07\x08",
+);
+
+/// A plan that keeps the section `v`, and one that keeps `b`.
+const KEEPS_V: &[u8] =
+    b"keep = [\"v\", \"none\"]\n[[region]]\nname = \"r\"\nbase = 0\nsize = 16\nsections = [\"v\", \"*\"]\n";
+
+const KEEPS_B: &[u8] =
+    b"keep = [\"b\"]\n[[region]]\nname = \"r\"\nbase = 0\nsize = 16\nsections = [\"*\"]\n";
+
 /// Modules of which more is needed than the section of a public and those that its fields name, and plans.
 const USES: &[File] = &[
     ("p", Held::Bytes(PLAN)),
@@ -79,6 +93,9 @@ const USES: &[File] = &[
     ("based", BASED),
     ("asking", ASKING),
     ("counting", COUNTING),
+    ("vectors", VECTORS),
+    ("keeps-v", Held::Bytes(KEEPS_V)),
+    ("keeps-b", Held::Bytes(KEEPS_B)),
     ("program", Held::Relocatable),
     ("library", Held::Library),
     // `main`, and a reference to `z`.
@@ -97,7 +114,7 @@ const USES: &[File] = &[
 ];
 
 /// What is kept by each rule of docs/COMMANDS.md.
-static RULES: [Case; 5] = [
+static RULES: [Case; 11] = [
     // What the start address uses, and what that needs: of `program` all but its public.
     Case {
         files: USES,
@@ -140,6 +157,54 @@ static RULES: [Case; 5] = [
         line: "dump --plan p --keep main counting",
         status: 0,
         text: "00000000: 0A 0B 0C 0D 01 02 03 04\npublic 00000000 \"main\"\n",
+    },
+    // Two symbols, the second of which needs `q`.
+    Case {
+        files: USES,
+        first: "",
+        line: "dump --plan p --keep main --keep u a",
+        status: 1,
+        text: "refused: locate: Undefined \"q\"\n",
+    },
+    // A symbol twice.
+    Case {
+        files: USES,
+        first: "",
+        line: "dump --plan p --keep main --keep=main a",
+        status: 0,
+        text: IMAGE,
+    },
+    // The first name that no public has.
+    Case {
+        files: USES,
+        first: "",
+        line: "dump --plan p --keep main --keep z --keep y a",
+        status: 1,
+        text: "refused: keep: Unknown \"z\"\n",
+    },
+    // A section that the plan keeps needs `q`.
+    Case {
+        files: USES,
+        first: "",
+        line: "dump --plan keeps-b --keep main a",
+        status: 1,
+        text: "refused: locate: Undefined \"q\"\n",
+    },
+    // A section that the plan keeps, though nothing mentions it.
+    Case {
+        files: USES,
+        first: "",
+        line: "dump --plan keeps-v --keep main vectors",
+        status: 0,
+        text: "00000000: 00 00 00 04 01 02 03 04\npublic 00000004 \"main\"\n",
+    },
+    // Without `--keep` the plan's key changes nothing.
+    Case {
+        files: USES,
+        first: "",
+        line: "dump --plan keeps-v vectors",
+        status: 0,
+        text: "00000000: 00 00 00 04 01 02 03 04 05 06 07 08\npublic 00000004 \"main\"\n",
     },
 ];
 

@@ -152,7 +152,11 @@ static EXPLAINED: [(&str, &str, &str); 3] = [
         "refused: listing: BadAlign\nfile 0: \"defect\"\n",
         "BadAlign",
     ),
-    ("explain build -o c good", "done\n", ""),
+    (
+        "explain build -o c good",
+        "done\nnot tried: writing \"c\"\n",
+        "",
+    ),
 ];
 
 #[test]

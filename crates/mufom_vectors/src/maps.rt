@@ -24,14 +24,35 @@ const FILES: &[File] = &[
     ("p", Held::Bytes(RAM)),
 ];
 
-const TEXT: &str = "module 0 \"m\" file 0\n\
-        module 1 \"m\" file 1\n\
+const TEXT: &str = "module 0 \"m\" file 0: \"a\"\n\
+        module 1 \"m\" file 1: \"b\"\n\
         region 0 \"ram\" at 00000100 size 64 used 14 free 50 [#######.........................]\n\
         section 0 00000100 size 4 align 1 \"t\" module 0 region 0\n\
         section 1 00000104 size 4 align 1 \"t\" module 1 region 0\n\
         common 2 00000108 size 6 align 8 \"c\" region 0\n\
         public 00000108 \"end\" module 1\n\
         sections 3 bytes 14 loaded 8\n";
+
+const TWO: &[u8] =
+    b"[[region]]\nname = \"rom\"\nbase = 512\nsize = 32\nsections = [\"code\", \"*\"]\n\
+    [[region]]\nname = \"ram\"\nbase = 256\nsize = 32\nsections = [\"tt\"]\ncommon = true\n";
+
+/// A module with a public after its section.
+const ENDED: Held = Held::Section(SECTION, b"\xE8\x20\x03end\xE2\xC9\x20\xD2\x01\x04\xA5", b"");
+
+/// A module with a section at 4,096, one that is placed, and a plan with entries that place no section.
+const SPELLED: &[File] = &[("a", Held::Absolute), ("b", ENDED), ("q", Held::Bytes(TWO))];
+
+/// The publics `w` = 4,096, and `y` and `z` = 4,098, beside a section of 4 bytes at 4,096.
+const LABELS: &[File] = &[
+    ("a", Held::Absolute),
+    (
+        "b",
+        Held::Names(
+            b"\xE8\x20\x01w\xE2\xC9\x20\x82\x10\x00\xE8\x21\x01y\xE2\xC9\x21\x82\x10\x02\xE8\x22\x01z\xE2\xC9\x22\x82\x10\x02",
+        ),
+    ),
+];
 
 /// A root that needs `g`, a member that defines `h`, and one that defines `g`.
 const MEMBERS: &[File] = &[
@@ -43,13 +64,13 @@ const MEMBERS: &[File] = &[
     ("m1", Held::Names(b"\xE8\x20\x01g\xE2\xC9\x20\x00")),
 ];
 
-static RUNS: [Case; 8] = [
+static RUNS: [Case; 13] = [
     Case {
         files: &[("a", Held::Absolute)],
         first: "",
         line: "map a",
         status: 0,
-        text: "module 0 \"A\" file 0\n\
+        text: "module 0 \"A\" file 0: \"a\"\n\
             section 0 00001000 size 4 align 2 \"code\" module 0\n\
             start 00001000 module 0\n\
             sections 1 bytes 4 loaded 4\n",
@@ -74,7 +95,7 @@ static RUNS: [Case; 8] = [
         first: "link -o c a b",
         line: "map --plan p c",
         status: 0,
-        text: "module 0 \"m\" file 0\n\
+        text: "module 0 \"m\" file 0: \"c\"\n\
             region 0 \"ram\" at 00000100 size 64 used 14 free 50 [#######.........................]\n\
             section 0 00000100 size 4 align 1 \"t\" module 0 region 0\n\
             section 1 00000104 size 4 align 1 \"t\" module 0 region 0\n\
@@ -82,14 +103,66 @@ static RUNS: [Case; 8] = [
             public 00000108 \"end\" module 0\n\
             sections 3 bytes 14 loaded 8\n",
     },
+    // An entry that only a section with a base of its own has the name of, and one of no section at all.
+    Case {
+        files: SPELLED,
+        first: "",
+        line: "map --plan q a b",
+        status: 0,
+        text: "module 0 \"A\" file 0: \"a\"\n\
+            module 1 \"m\" file 1: \"b\"\n\
+            region 0 \"rom\" at 00000200 size 32 used 4 free 28 [####............................]\n\
+            region 1 \"ram\" at 00000100 size 32 used 0 free 32 [................................]\n\
+            unused region 0 \"code\"\n\
+            unused region 1 \"tt\"\n\
+            section 1 00000200 size 4 align 1 \"t\" module 1 region 0\n\
+            section 0 00001000 size 4 align 2 \"code\" module 0\n\
+            public 00000204 \"end\" module 1\n\
+            start 00001000 module 0\n\
+            sections 2 bytes 8 loaded 4\n",
+    },
+    // One address: in a section whose end a public names, in a section without publics, and in no section.
+    Case {
+        files: FILES,
+        first: "",
+        line: "map --plan p --at 10A a b",
+        status: 0,
+        text: "common 2 00000108 size 6 align 8 \"c\" region 0\n\
+            public 00000108 \"end\" module 1 offset 2\n",
+    },
+    Case {
+        files: FILES,
+        first: "",
+        line: "map --plan p --at=107 a b",
+        status: 0,
+        text: "section 1 00000104 size 4 align 1 \"t\" module 1 region 0\n\
+            public none\n",
+    },
+    Case {
+        files: FILES,
+        first: "",
+        line: "map --plan p --at 10E a b",
+        status: 0,
+        text: "section none\n\
+            public none\n",
+    },
+    // The greatest value, and of equal values the first.
+    Case {
+        files: LABELS,
+        first: "",
+        line: "map --at 1003 a b",
+        status: 0,
+        text: "section 0 00001000 size 4 align 2 \"code\" module 0\n\
+            public 00001002 \"y\" module 1 offset 1\n",
+    },
     // A member has the number of its file.
     Case {
         files: MEMBERS,
         first: "",
         line: "map r + m0 m1",
         status: 0,
-        text: "module 0 \"m\" file 0\n\
-            module 1 \"m\" file 2\n\
+        text: "module 0 \"m\" file 0: \"r\"\n\
+            module 1 \"m\" file 2: \"m1\"\n\
             public 00000000 \"f\" module 0\n\
             public 00000000 \"g\" module 1\n\
             sections 0 bytes 0 loaded 0\n",

@@ -1,10 +1,14 @@
-use Rattle.std.proofs.Common.{List, map, refl, ℕ}
+use Rattle.std.proofs.Common.{List, Option, map, refl, subst, ℕ}
 use Rattle.std.specs.String.{string_bytes}
 use Rattle.mufom_command.proofs.DoesLaws.{opens-read}
 use Rattle.mufom_command.proofs.ExplainReading.{done-explains, task-explains}
 use Rattle.mufom_command.proofs.OtherLaws.{other-explained}
+use Rattle.mufom_command.specs.ExplainText.{explain_text}
+use Rattle.mufom_command.specs.InputLines.{untried_lines}
+use Rattle.mufom_command.specs.Making.{IsPrinted}
 use Rattle.mufom_command.specs.Ready.{ready_output}
 use Rattle.mufom_command.specs.Told.{told_text}
+use Rattle.mufom_task.proofs.InputLaws.{call_between}
 use Rattle.mufom_task.specs.Tasks.{inputs_of}
 use Rattle.mufom_outcome.specs.declared.outcome.Outcome.TheVariants as outcome
 use Rattle.mufom_command.proofs.explain.explain_other.Goals as goal
@@ -18,7 +22,8 @@ returns-in-Ok g c =
     let t = c.args.task.now in let is = c.in-Ok.ensures.ok in
     done-explains words t c.requires.asks old mid before between c.prepare.ensures.only new now c.print_done.ensures.only
     (opens-read (inputs_of t) old mid mid before between is.opened outcome.Done refl refl) (ready_output c.in-Ok.field-0) is.output c.print_done.result
-    c.print_done.ensures.answer
+    (subst (λ (o : Option (List ℕ)). IsPrinted (explain_text words outcome.Done (untried_lines o)) (call_between mid new between now) c.print_done.result)
+    c.out_of-out.ensures c.print_done.ensures.answer)
 
 pub returns : goal.returns
 returns g c =
@@ -29,5 +34,5 @@ returns g c =
     let t = c.args.task.now in let is = c.in-Err.ensures.err in let put = c.print_explanation.ensures in
     let details = told_text c.task_details-details.result in
     task-explains words t c.requires.asks old mid before between c.prepare.ensures.only new now put.only c.in-Err.answer is.opens details
-    (λ memory. other-explained t c.requires.sound c.requires.other old mid new before between now put.only c.in-Err.answer is memory details
+    (λ memory. other-explained t c.requires.sound c.requires.other old mid new before between now put.only c.in-Err.answer is memory c.cause.result details
     c.task_details-details.ensures) c.print_explanation.result put.answer put.told

@@ -1,4 +1,4 @@
-use Rattle.std.proofs.Common.{List, map, refl, subst, ℕ}
+use Rattle.std.proofs.Common.{List, [], map, refl, subst, ℕ}
 use Rattle.std.specs.String.{string_bytes}
 use Rattle.mufom_command.proofs.ExplainReading.{again-explains}
 use Rattle.mufom_command.specs.RunParts.{AskFor}
@@ -16,5 +16,5 @@ returns-in-Explain g c =
     let old = g.H.World.meaning c.args.host.now in let new = g.H.World.meaning c.print_explanation.new.host in
     let before = g.H.World.faults c.args.host.now in let now = g.H.World.faults c.print_explanation.new.host in
     let put = c.print_explanation.ensures in
-    again-explains words old before new now put.only (outcome.Usage usage.BadWords) c.print_explanation.result put.answer put.told
-    (subst (AskFor words) c.in-Explain.is c.requires.asks) refl
+    again-explains words old before new now put.only (outcome.Usage usage.BadWords) c.print_explanation.result [] put.answer put.told
+    (subst (AskFor words) c.in-Explain.is c.requires.asks) refl refl

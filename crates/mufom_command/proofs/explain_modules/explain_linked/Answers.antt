@@ -1,7 +1,8 @@
-use Rattle.std.proofs.Common.{List, [], map, refl, subst, ℕ}
+use Rattle.std.proofs.Common.{List, Some, map, refl, subst, ℕ}
 use Rattle.std.specs.String.{string_bytes}
 use Rattle.mufom_command.proofs.ToldEnds.{link-over}
 use Rattle.mufom_command.proofs.ToldLaws.{told-printed}
+use Rattle.mufom_command.specs.InputLines.{untried_lines}
 use Rattle.mufom_command.specs.RunParts.{MakesLink}
 use Rattle.mufom_groups.specs.Groups.{StopsWork}
 use Rattle.mufom_groups.specs.Linked.{linked_module}
@@ -18,7 +19,7 @@ returns-in-Ok-link_file g c = λ files plan read.
     let before = g.H.World.faults c.args.host.now in let now = g.H.World.faults c.print_done.new.host in
     let inputs = c.args.inputs.now in let name = c.args.name.now in let out = c.args.out.now in let ms = c.args.modules.now in
     let tree = tree_of inputs.marks in
-    told-printed words (task.Link inputs name out) files old new before now c.print_done.ensures.only outcome.Done [] c.print_done.result
+    told-printed words (task.Link inputs name out) files old new before now c.print_done.ensures.only outcome.Done (untried_lines (Some out)) c.print_done.result
     c.print_done.ensures.answer
     (link-over files inputs name out plan ms read c.in-Ok-link_file.field-0
     (subst (λ (l : List Parts). MakesLink tree name out l c.in-Ok-link_file.field-0) c.in-Ok.ensures c.in-Ok-link_file.ensures.ok))

@@ -2,6 +2,7 @@ use Rattle.std.proofs.Common.{None, ap, refl, subst, sym, ◌∙◌, ◌≡◌}
 use Rattle.mufom_command.proofs.KeptFlat.{told-ends, told-flat, told-kept}
 use Rattle.mufom_command.specs.FlatFiles.{files_with}
 use Rattle.mufom_command.specs.Locations.{HasPlan, IsObstacle}
+use Rattle.mufom_command.specs.Roots.{roots_by}
 use Rattle.mufom_command.specs.RunParts.{AreReadFrom}
 use Rattle.mufom_explain.specs.Flat.{flat_of}
 use Rattle.mufom_outcome.specs.Outcomes.{outcome_of_prune}
@@ -24,10 +25,12 @@ returns-in-Ok g c = λ files plan made read planned.
     let is = subst (IsObstacle tree keep ms) c.in-Unkept.is c.requires.obstacle in
     let places = c.in-Unkept.places in let flat = flat_of c.deref.result.now in
     let are : flat ≡ files_with tree ms places.chosen = ap flat_of c.deref.ensures.value ∙ c.in-Ok.ensures.flat in
-    c.explain_unkept.ensures files plan ms keep made (record {
-      linked = told-flat tree linkable.sound.tree.numbered ms linkable.valid keep places is.whole is.link flat are files inputs refl plan read;
-      ends = told-ends tree linkable.sound.tree.numbered ms linkable.valid keep places is.whole is.link flat are (outcome_of_prune c.in-Unkept.refusal)
-          is.ends;
+    let own = c.in-Unkept.plan in let same : own ≡ plan = subst (HasPlan plan) c.in-Unkept.is planned in let roots = roots_by keep own in
+    c.explain_unkept.ensures files own ms keep made (record {
+      linked = told-flat tree linkable.sound.tree.numbered ms linkable.valid roots places is.whole is.link flat are files inputs refl own
+          (subst (λ (x : Plan). AreReadFrom files inputs x ms) (sym same) read);
+      ends = told-ends tree linkable.sound.tree.numbered ms linkable.valid roots places is.whole is.link flat are
+          (outcome_of_prune c.in-Unkept.refusal) is.ends;
     })
 
 pub returns-in-Ok-flat_list : goal.returns-in-Ok-flat_list
@@ -39,9 +42,10 @@ returns-in-Ok-flat_list g c = λ files plan made read planned.
     let are : flat ≡ files_with tree ms places.chosen = ap flat_of c.deref-in-Unlocated.ensures.value ∙ c.in-Ok-flat_list.ensures.flat in
     let own = c.in-Unlocated.plan in let part = c.in-Unlocated.part in
     let same : own ≡ plan = subst (HasPlan plan) c.in-Unlocated.is planned in
-    let kept = told-kept tree linkable.sound.tree.numbered ms linkable.valid keep places is.whole is.link flat are own part is.kept in
+    let roots = roots_by keep own in
+    let kept = told-kept tree linkable.sound.tree.numbered ms linkable.valid roots places is.whole is.link flat are own part is.kept in
     c.explain_unlocated.ensures files ms keep made (record {
-      linked = told-flat tree linkable.sound.tree.numbered ms linkable.valid keep places is.whole is.link flat are files inputs refl own
+      linked = told-flat tree linkable.sound.tree.numbered ms linkable.valid roots places is.whole is.link flat are files inputs refl own
           (subst (λ (x : Plan). AreReadFrom files inputs x ms) (sym same) read);
       kept = kept.0;
       keeps = kept.1;

@@ -1,5 +1,6 @@
 use Rattle.std.proofs.Common.{subst}
 use Rattle.mufom_command.specs.WorkEnds.{EndsAt}
+use Rattle.mufom_command.specs.Roots.{roots_by}
 use Rattle.mufom_command.specs.Works.{kept_of}
 use Rattle.mufom_explain.specs.Flat.{flat_of}
 use Rattle.mufom_origins.specs.Origins.{modules_of}
@@ -11,5 +12,5 @@ pub returns-in-Unknown : goal.returns-in-Unknown
 returns-in-Unknown g c = λ files plan ms keep made is.
     c.explain_unknown.ensures files plan ms keep made (record {
       linked = is.linked;
-      ends = subst (λ (r : PruneRefusal). EndsAt (kept_of keep (modules_of (flat_of c.args.flat.now))) (outcome_of_prune r)) c.in-Unknown.is is.ends;
+      ends = subst (λ (r : PruneRefusal). EndsAt (kept_of (roots_by keep plan) (modules_of (flat_of c.args.flat.now))) (outcome_of_prune r)) c.in-Unknown.is is.ends;
     })

@@ -1,8 +1,7 @@
-use Rattle.std.proofs.Common.{List, Option, subst, sym, ℕ}
-use Rattle.mufom_command.proofs.MapLaws.{whole-kept}
-use Rattle.mufom_command.specs.Locations.{IsKeptPart}
+use Rattle.std.proofs.Common.{arith}
+use Rattle.mufom_command.proofs.MapLaws.{no-names, none-kept}
 use Rattle.mufom_command.proofs.locating.kept_part.Goals as goal
 
-pub returns-in-None-clause-ok : goal.returns-in-None-clause-ok
-returns-in-None-clause-ok c =
-    subst (λ (keep : Option (List ℕ)). IsKeptPart keep c.args.whole c.args.whole) (sym c.in-None.is) (whole-kept c.args.whole)
+pub returns-in-empty-clause-ok : goal.returns-in-empty-clause-ok
+returns-in-empty-clause-ok c =
+    none-kept c.args.keep.now c.args.stays.now c.args.whole (no-names c.args.keep.now (omega (arith, c.in-empty.len_below)))

@@ -1,7 +1,9 @@
+use Rattle.std.proofs.Common.{◌≡◌, Option, subst}
 use Rattle.mufom_command.proofs.EndLaws.{if-ok-map}
 use Rattle.mufom_command.proofs.LocatingLaws.{link-names}
 use Rattle.mufom_command.proofs.MapLaws.{part-mapped}
-use Rattle.mufom_command.specs.Locations.{AreMapped, LocatesPart}
+use Rattle.mufom_command.specs.Locations.{AreMapped, IsKeptPart, LocatesPart}
+use Rattle.mufom_command.specs.Roots.{Roots, roots_by, roots_with}
 use Rattle.mufom_words.specs.Tree.{tree_of}
 use Rattle.mufom_command.proofs.locating.locate_modules.Goals as goal
 
@@ -11,8 +13,9 @@ kept_part-requires-clause-names c =
 
 pub returns-in-Ok-kept_part-clause-ok : goal.returns-in-Ok-kept_part-clause-ok
 returns-in-Ok-kept_part-clause-ok c =
-    let tree = tree_of c.args.inputs.now.marks in let keep = c.args.keep.now in let plan = c.args.loaded.plan in let ms = c.args.loaded.modules in
+    let tree = tree_of c.args.inputs.now.marks in let keep = roots_by c.args.keep.now c.args.loaded.plan in let plan = c.args.loaded.plan in let ms = c.args.loaded.modules in
     let whole = c.in-Ok.link.0 in let places = c.in-Ok.link.1 in let part = c.in-Ok-kept_part.part in
+    let same : roots_with c.as_slice.result.now c.as_slice-2.result.now ≡ keep = λ i. roots_with (c.as_slice.ensures i) (c.as_slice-2.ensures i) in
     if-ok-map c.locate_part.result (LocatesPart part plan) (AreMapped tree keep plan ms)
     (λ m at. part-mapped tree c.requires.linkable.sound.tree.numbered ms c.requires.linkable.valid keep plan places whole part c.in-Ok.ensures.ok
-    c.in-Ok-kept_part.ensures.ok c.requires.plan m at) c.locate_part.ensures.ok
+    (subst (λ (k : Option Roots). IsKeptPart k whole part) same c.in-Ok-kept_part.ensures.ok) c.requires.plan m at) c.locate_part.ensures.ok

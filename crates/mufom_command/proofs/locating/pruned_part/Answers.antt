@@ -3,13 +3,14 @@ use Rattle.mufom_command.proofs.MapLaws.{part-is}
 use Rattle.mufom_command.proofs.locating.pruned_part.Goals as goal
 
 pub returns-in-Err-clause-stops : goal.returns-in-Err-clause-stops
-returns-in-Err-clause-stops c = prune-ends c.args.name.now c.args.whole.now.object c.in-Err.refusal c.in-Err.ensures.refused
+returns-in-Err-clause-stops c = prune-ends (record { names = c.args.names.now; stays = c.args.stays.now }) c.args.whole.now.object c.in-Err.refusal c.in-Err.ensures.refused
 
 pub returns-in-Ok-left_origins-clause-ok : goal.returns-in-Ok-left_origins-clause-ok
 returns-in-Ok-left_origins-clause-ok c =
-    part-is c.args.name.now c.args.whole.now c.in-Ok.left c.in-Ok-left_origins.origins c.in-Ok.ensures.pruned c.in-Ok.ensures.known
+    part-is (record { names = c.args.names.now; stays = c.args.stays.now }) c.args.whole.now c.in-Ok.left c.in-Ok-left_origins.origins c.in-Ok.ensures.pruned c.in-Ok.ensures.known
     c.in-Ok-left_origins.ensures.ok
 
 pub returns-in-Ok-left_origins-clause-names : goal.returns-in-Ok-left_origins-clause-names
 returns-in-Ok-left_origins-clause-names c =
-    pruned-names c.in-Ok.left.«module» c.args.whole.now.object c.args.name.now c.in-Ok.ensures.pruned.pruned c.requires.names
+    pruned-names c.in-Ok.left.«module» c.args.whole.now.object (record { names = c.args.names.now; stays = c.args.stays.now })
+    c.in-Ok.ensures.pruned.pruned c.requires.names

@@ -1,10 +1,11 @@
-use Rattle.std.proofs.Common.{refl, subst, sym}
+use Rattle.std.proofs.Common.{List, ℕ, refl, subst, sym}
 use Rattle.mufom_command.proofs.MapLaws.{obstacle-ends}
 use Rattle.mufom_command.proofs.PrepareLaws.{ended, readied, unread}
 use Rattle.mufom_command.proofs.WorkLaws.{linking-begins, locating-stops, product-comes, product-place}
 use Rattle.mufom_command.specs.Locations.{shown_of}
 use Rattle.mufom_command.specs.Ready.{ready_output}
 use Rattle.mufom_command.specs.WorkEnds.{EndsAt, location_of}
+use Rattle.mufom_command.specs.Roots.{roots_by}
 use Rattle.mufom_command.specs.Works.{locating_kept, producing, product_of}
 use Rattle.mufom_groups.specs.Work.{gives, stops}
 use Rattle.mufom_outcome.specs.declared.outcome.Outcome.{Outcome}
@@ -30,13 +31,13 @@ returns-in-Err-clause-err g c =
     let old = g.H.World.meaning c.args.host.now in let mid = g.H.World.meaning c.read_inputs.new.host in
     let before = g.H.World.faults c.args.host.now in let between = g.H.World.faults c.read_inputs.new.host in
     unread (task.Locate inputs keep p) (λ fs. inputs_in fs inputs) refl old mid before between
-    (linking-begins (λ ms plan flat. locating_kept (producing p (tree_of inputs.marks) ms plan) keep plan flat) inputs)
+    (linking-begins (λ ms plan flat. locating_kept (producing p inputs.files (tree_of inputs.marks) ms plan) (roots_by keep plan) plan flat) inputs)
     c.in-Err.stop read.stops read.opened read.named
 
 pub returns-in-Err-locate_modules-clause-err : goal.returns-in-Err-locate_modules-clause-err
 returns-in-Err-locate_modules-clause-err g c =
     let read = c.in-Ok.ensures in let inputs = c.args.inputs.now in let keep = c.args.keep.now in let p = c.args.product.now in
-    let loaded = c.in-Ok.loaded in let tree = tree_of inputs.marks in let location = location_of tree keep loaded.plan loaded.modules in
+    let loaded = c.in-Ok.loaded in let tree = tree_of inputs.marks in let location = location_of tree (roots_by keep loaded.plan) loaded.plan loaded.modules in
     let old = g.H.World.meaning c.args.host.now in let mid = g.H.World.meaning c.read_inputs.new.host in
     let before = g.H.World.faults c.args.host.now in let between = g.H.World.faults c.read_inputs.new.host in
     ended (task.Locate inputs keep p) (λ fs. inputs_in fs inputs) refl old mid before between (loaded.plan, loaded.modules) read.read read.all
@@ -51,10 +52,13 @@ returns-in-Ok-ready_of-clause-ok g c =
     let loaded = c.in-Ok.loaded in let m = c.in-Ok-locate_modules.location in let ready = c.in-Ok-ready_of.ready in
     let old = g.H.World.meaning c.args.host.now in let mid = g.H.World.meaning c.read_inputs.new.host in
     let before = g.H.World.faults c.args.host.now in let between = g.H.World.faults c.read_inputs.new.host in
+    let made : product_of p inputs.files (shown_of m) m.located (gives (ready_output ready))
+    = subst (λ (names : List (List ℕ)). product_of p names (shown_of m) m.located (gives (ready_output ready))) c.as_slice.ensures
+    c.in-Ok-ready_of.ensures.ok in
     readied (task.Locate inputs keep p) (λ fs. inputs_in fs inputs) refl old mid before between (loaded.plan, loaded.modules) read.read read.all
-    ready (product-place p (shown_of m) m.located (ready_output ready) c.in-Ok-ready_of.ensures.ok)
+    ready (product-place p inputs.files (shown_of m) m.located (ready_output ready) made)
     (λ fs is. product-comes inputs loaded.plan loaded.modules fs is keep p m c.in-Ok-locate_modules.ensures.ok (gives (ready_output ready))
-    c.in-Ok-ready_of.ensures.ok) c.in-Ok-ready_of.ensures.ready
+    made) c.in-Ok-ready_of.ensures.ready
 
 pub returns-in-Err-ready_of-clause-err : goal.returns-in-Err-ready_of-clause-err
 returns-in-Err-ready_of-clause-err g c =
@@ -63,6 +67,8 @@ returns-in-Err-ready_of-clause-err g c =
     let old = g.H.World.meaning c.args.host.now in let mid = g.H.World.meaning c.read_inputs.new.host in
     let before = g.H.World.faults c.args.host.now in let between = g.H.World.faults c.read_inputs.new.host in
     ended (task.Locate inputs keep p) (λ fs. inputs_in fs inputs) refl old mid before between (loaded.plan, loaded.modules) read.read read.all
-    (product_of p (shown_of m) m.located)
+    (product_of p inputs.files (shown_of m) m.located)
     (λ fs is s ends. product-comes inputs loaded.plan loaded.modules fs is keep p m c.in-Ok-locate_modules.ensures.ok (stops s) ends)
-    c.in-Err-ready_of.stop c.in-Err-ready_of.ensures.stops
+    c.in-Err-ready_of.stop
+    (subst (λ (names : List (List ℕ)). EndsAt (product_of p names (shown_of m) m.located) c.in-Err-ready_of.stop) c.as_slice.ensures
+    c.in-Err-ready_of.ensures.stops)
