@@ -6,7 +6,8 @@ The names come from the definition of the error lines, crates/mufom_outcome/spec
 from the enums of errors; the commands come from crates/mufom_words/specs/Options.antt. Each name must
 have a topic in crates/mufom_help whose text shows its line, and a row in docs/REFUSALS.md (or a
 paragraph that begins with the name); each command must have a topic, and a line in the list of
-commands. A topic that belongs to neither a command nor an error line is reported too. Whatever is
+commands. Each kind of error line without a name must have a topic that shows how it begins, and a row.
+A topic that belongs to none of these is reported too. Whatever is
 missing is printed, one line each, and the status is then 1.
 """
 
@@ -22,6 +23,8 @@ BEFORE = {"reason_text": "", "plan_text": "plan: ", "link_text": "link: ", "plac
 ENUMS = ("Reason", "TxtReason", "BuildReason", "Defect", "PlanRefusal", "LinkRefusal", "PruneRefusal", "PlaceRefusal", "LocateRefusal")
 # Variants that are not names: they have no line of their own, or only hold another error.
 NOT_NAMES = {"NoMemory", "Place"}
+# The topics on error lines without a name and on plans, and how such a line begins.
+BEGINNINGS = {"usage": "usage: ", "read": "read fault: ", "write": "write fault", "memory": "out of memory", "plan": "refused: plan: "}
 # Commands that are not in the table of commands, since they read no options.
 OTHER_COMMANDS = {"explain", "help", "version"}
 
@@ -98,8 +101,13 @@ def missing():
             yield f"no topic: {command}"
         if not re.search(rf"^  {command}\b", listed, re.M):
             yield f"not in the list of commands: {command}"
-    for name in sorted(set(known) - names - commands):
-        yield f"neither a command nor an error: {name}"
+    for topic, beginning in BEGINNINGS.items():
+        if f"\n  {beginning}" not in known.get(topic, ""):
+            yield f"no topic that shows its line: {topic}"
+        if not any(cell.startswith(beginning.removeprefix("refused: ")) for cell in cells):
+            yield f"no row: {beginning}"
+    for name in sorted(set(known) - names - commands - set(BEGINNINGS)):
+        yield f"neither a command nor an error line: {name}"
 
 
 def main():
