@@ -1,4 +1,5 @@
 -- The module that a location is written as.
+pub mod Alone
 pub mod Cells
 pub mod Counts
 pub mod Debug
@@ -9,6 +10,7 @@ pub mod Located
 pub mod Marks
 pub mod Places
 pub mod Rows
+pub mod Sound
 pub mod Valid
 pub mod Walk
 pub mod Weight

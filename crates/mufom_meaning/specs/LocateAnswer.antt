@@ -30,12 +30,15 @@ cycle_at ms name = if is_on_cycle ms name then Some (cycle name) else None
 abbrev pub image_limit_at : ℕ → Option LocateFact
 image_limit_at total = if nat_lt MOST_IMAGE_BYTES total then Some (image_limit total) else None
 
--- the fact that locating the list by the plan returns in place of a location, if any: the first one in this order
-unfoldable pub locate_answer : List Parts → Plan → Option LocateFact
-locate_answer ms plan = let s = setting ms (planned_bases ms plan) in
-    option_map placement (place_refusal (width ms) plan (flat_sections ms) (placed_commons ms plan))
-    or_else (option_map undefined (first_undefined ms)
+-- the fact that locating the list by the plan returns if everything can be placed, if any: the first one in this order
+abbrev pub after_placing : List Parts → Plan → Option LocateFact
+after_placing ms plan =
+    option_map undefined (first_undefined ms)
     or_else (option_map common_unplaced (first_unplaced_common ms plan)
     or_else (first_some (cycle_at ms) (public_names ms)
     or_else (image_limit_at (loaded_total ms)
-    or_else walk_answer ms s))))
+    or_else walk_answer ms (setting ms (planned_bases ms plan)))))
+
+-- the fact that locating the list by the plan returns in place of a location, if any: the first one, placing before all others
+unfoldable pub locate_answer : List Parts → Plan → Option LocateFact
+locate_answer ms plan = option_map placement (place_refusal (width ms) plan (flat_sections ms) (placed_commons ms plan)) or_else after_placing ms plan

@@ -14,7 +14,7 @@ use Rattle.mufom_meaning.specs.Location.{IsLocation, first_header}
 use Rattle.mufom_meaning.specs.Selection.{IsSelected}
 use Rattle.mufom_meaning.specs.Facts.{LinkFact, LocateFact}
 use Rattle.mufom_meaning.specs.LinkAnswer.{link_answer}
-use Rattle.mufom_meaning.specs.LocateAnswer.{locate_answer}
+use Rattle.mufom_meaning.specs.LocateAnswer.{after_placing, locate_answer}
 use Rattle.mufom_meaning.specs.Staging.{AreValid, HaveDescriptor, HaveDescriptorOf, StandsFor, HasSettledReferences, IsStaged}
 use Rattle.mufom_meaning.specs.Stands.{LinkFactStands, LocateFactStands}
 
@@ -77,6 +77,7 @@ pub record FactsAgreeOn (linked flat : List Parts) (plan : Plan) : Type 0 where
   pub link_facts : (fact : LinkFact) → LinkFactStands linked fact ↔ LinkFactStands flat fact
   pub locate_facts : (fact : LocateFact) → LocateFactStands linked plan fact ↔ LocateFactStands flat plan fact
   pub link_answers : link_answer linked ≡ link_answer flat
+  pub later_answers : after_placing linked plan ≡ after_placing flat plan
   pub locate_answers : locate_answer linked plan ≡ locate_answer flat plan
 
 -- This holds if the flat list has no defect, all its modules have the same descriptor, and no public name occurs twice.

@@ -1,4 +1,4 @@
--- The debug items of a location have no defect.
+-- The debug items of a sound location have no defect.
 use Rattle.std.proofs.Common.{◌≡◌, ℕ, ◌+◌, ◌-◌, ◌<◌, ◌≤◌, inl, inr, max, List, [], ◌∷◌, ◌++◌, map, length, Option, Some, None, Bool, true, false}
 use Rattle.std.proofs.Common.{◌||◌, ◌&&◌, refl, sym, ◌∙◌, ap, arith}
 use Rattle.std.specs.Prelude.{flat_map, nat_lt, option_map, option_to_list, unwrap_or, is_some, is_none, option_and_then, if◌then◌else◌}
@@ -16,12 +16,11 @@ use Rattle.mufom_module.specs.Contents.{HeadAndEnd, blocks_of, any_of, any_expre
 use Rattle.mufom_module.specs.Defects.{IsValid, counts_of, names_outside, has_bad_place, has_bad_mark, begins_badly, names_bad_section, has_long_name}
 use Rattle.mufom_module.specs.Defects.{is_long, has_unknown_attribute, has_other_counter, declared_after, ends_plainly, has_bad_end}
 use Rattle.mufom_plan.specs.declared.plan.Plan.{Plan}
-use Rattle.mufom_meaning.specs.Placed.{planned_bases, placed_commons}
+use Rattle.mufom_meaning.specs.Placed.{planned_bases}
 use Rattle.mufom_meaning.specs.Readings.{readings}
 use Rattle.mufom_meaning.specs.declared.located.LocatedParts.{LocatedParts}
-use Rattle.mufom_meaning.specs.Flat.{Sited, sited_from, sited, flat_sections, name_count}
+use Rattle.mufom_meaning.specs.Flat.{Sited, sited_from, sited, name_count}
 use Rattle.mufom_meaning.specs.Values.{Setting, setting, value}
-use Rattle.mufom_meaning.specs.Location.{IsLocation}
 use Rattle.mufom_meaning.specs.Staging.{AreValid}
 use Rattle.mufom_meaning.specs.Valued.{HaveValues}
 use Rattle.mufom_meaning.specs.Absolute.{absolute_of}
@@ -31,9 +30,9 @@ use Rattle.mufom_meaning.proofs.Members.{In, flat_map-In, map-In, none-In, fails
 use Rattle.mufom_meaning.proofs.NoDefects.{no_defect}
 use Rattle.mufom_meaning.proofs.values.Named.{site_module, valid_module, sections_end}
 use Rattle.mufom_meaning.proofs.values.ValueLaws.{values_exist}
-use Rattle.mufom_meaning.proofs.Placed.{located_count}
 use Rattle.mufom_meaning.proofs.locations.Single.{map_same}
 use Rattle.mufom_meaning.proofs.locations.Exists.{head_there, number_there, mark_there, block_there, debug_there, debug_located}
+use Rattle.mufom_meaning.proofs.absolute.Sound.{IsSoundLocation}
 use Rattle.mufom_meaning.proofs.absolute.Located.{numbered_mark}
 
 -- a test that fails at each number fails at a mark with numbers as expressions
@@ -49,7 +48,7 @@ numbers_fail p fails (name_mark name) numbers = refl
 numbers_fail p fails (note_mark name note) numbers = refl
 numbers_fail p fails (value_mark name t) numbers = let n = numbers t (inl refl) in ap p n.1 ∙ fails n.0
 
-module _ (m : Parts) (more : List Parts) (plan : Plan) (r : LocatedParts) (v : AreValid (m ∷ more)) (h : IsLocation (m ∷ more) plan r) where
+module _ (m : Parts) (more : List Parts) (plan : Plan) (r : LocatedParts) (v : AreValid (m ∷ more)) (h : IsSoundLocation (m ∷ more) plan r) where
   abbrev ms : List Parts
   ms = m ∷ more
 
@@ -137,7 +136,7 @@ module _ (m : Parts) (more : List Parts) (plan : Plan) (r : LocatedParts) (v : A
   head_inside site k (heads.Section section_type section offset) e =
       let less = of_not_le (length site.parts.sections) section e in
       let end = sections_end 0 0 0 ms site k in
-      let count : length r.sections ≡ length (flat_sections ms) + length (placed_commons ms plan) = ap length h.sections ∙ located_count ms plan in
+      let count = h.enough in
       by_value (value s site None offset) (omega (arith, less, end, count)) (omega (arith, less, end, count)) where
         by_value : (o : Option ℕ) → section < length r.sections → site.first_section + section < length r.sections
             → names_bad_section (counts_of (absolute_of r)) (unwrap_or

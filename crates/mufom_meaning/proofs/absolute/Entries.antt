@@ -268,15 +268,16 @@ room-sum n k (x ∷ sections) =
       by_case true e a rest = let less = of_lt k n e in omega (arith, a, rest, less)
       by_case false e a rest = omega (arith, a, rest)
 
-pub loads-lighter : (runs : List Run) (n : ℕ) (sections : List (ℕ × Section))
-    → ((t : ℕ × Section) → In t sections → (length (section_cells runs t) ≡ 0) ⊎ (10 ≤ room_at n t.0))
-    → sum_by load_weight (flat_map (section_loads runs) sections) ≤ sum_by (λ (t : ℕ × Section). room_at n t.0) sections + 31 * length
+-- the loads of all sections, if there is room for each with cells
+pub loads-lighter : (runs : List Run) (room : ℕ → ℕ) (sections : List (ℕ × Section))
+    → ((t : ℕ × Section) → In t sections → (length (section_cells runs t) ≡ 0) ⊎ (10 ≤ room t.0))
+    → sum_by load_weight (flat_map (section_loads runs) sections) ≤ sum_by (λ (t : ℕ × Section). room t.0) sections + 31 * length
     (absolute_cells runs sections)
-loads-lighter runs n [] some = omega arith
-loads-lighter runs n (t ∷ sections) some =
-    let own = section-lighter runs t (room_at n t.0) (some t (inl refl)) in
-    let rest = loads-lighter runs n sections (λ u k. some u (inr k)) in
+loads-lighter runs room [] some = omega arith
+loads-lighter runs room (t ∷ sections) some =
+    let own = section-lighter runs t (room t.0) (some t (inl refl)) in
+    let rest = loads-lighter runs room sections (λ u k. some u (inr k)) in
     let a = sum_by-append load_weight (section_loads runs t) (flat_map (section_loads runs) sections) in
-    let b = sum_by-cons (λ (t : ℕ × Section). room_at n t.0) t sections in
+    let b = sum_by-cons (λ (t : ℕ × Section). room t.0) t sections in
     let c = length-append (section_cells runs t) (absolute_cells runs sections) in
     omega (arith, own, rest, a, b, c)

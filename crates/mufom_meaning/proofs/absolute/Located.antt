@@ -1,4 +1,4 @@
--- The module of a location, located alone, is located as itself.
+-- The module of a sound location, located alone, is located as itself.
 use Rattle.std.proofs.Common.{◌≡◌, ℕ, zero, suc, ◌+◌, ◌<◌, ◌≤◌, inl, inr, List, [], ◌∷◌, ◌++◌, map, length, Option, Some, None, true, false, refl}
 use Rattle.std.proofs.Common.{sym, ◌∙◌, ap, subst, arith, append-nil, zero-add}
 use Rattle.std.specs.Prelude.{slice_get, option_map, option_to_list, IsTrue}
@@ -10,7 +10,7 @@ use Rattle.mufom_names.specs.Names.{AreDistinct}
 use Rattle.mufom_debug.specs.Marks.{DebugMark, marks_of, mark_expressions, expressions_of}
 use Rattle.mufom_module.specs.declared.module.Parts.{Parts}
 use Rattle.mufom_plan.specs.declared.plan.Plan.{Plan}
-use Rattle.mufom_place.specs.Bases.{site_of, site_with, placing_of, placings}
+use Rattle.mufom_place.specs.Bases.{site_with, placing_of, placings}
 use Rattle.mufom_place.specs.Facts.{place_refusal}
 use Rattle.mufom_place.proofs.FactLemmas.{refusal_complete}
 use Rattle.mufom_meaning.specs.declared.located.Site.{Site}
@@ -23,7 +23,7 @@ use Rattle.mufom_meaning.specs.Values.{Setting, setting, value, has_zero_divisor
 use Rattle.mufom_meaning.specs.Cycles.{leads_within, leads_from}
 use Rattle.mufom_meaning.specs.Walk.{SitedTree, start_trees, debug_trees}
 use Rattle.mufom_meaning.specs.Readings.{readings, PublicReading, public_reading, mark_reading}
-use Rattle.mufom_meaning.specs.Placed.{placed_commons, extended_sections, base_list, planned_bases}
+use Rattle.mufom_meaning.specs.Placed.{extended_sections, base_list, planned_bases}
 use Rattle.mufom_meaning.specs.Location.{placed_section, located_sections, located_public, located_mark, IsLocation}
 use Rattle.mufom_meaning.specs.LocationLaws.{AbsoluteIsLocatedAsItself}
 use Rattle.mufom_meaning.specs.Facts.{LocateFact, placement, undefined, common_unplaced, cycle, image_limit, zero_divisor, load_outside, loaded_twice, overflow}
@@ -37,10 +37,12 @@ use Rattle.mufom_meaning.proofs.Members.{In, In-at, map-In, In-map, flat_map-In}
 use Rattle.mufom_meaning.proofs.Names.{names_of, names_of-sited_publics}
 use Rattle.mufom_meaning.proofs.facts.Linkable.{no_link_answer_is_linkable}
 use Rattle.mufom_meaning.proofs.facts.AllAnswers.{answers_are_facts}
-use Rattle.mufom_meaning.proofs.absolute.Places.{placed_again, placing_there, base_there}
+use Rattle.mufom_meaning.proofs.absolute.Places.{base_there}
 use Rattle.mufom_meaning.proofs.absolute.Facts.{no_counter_divisor, no_field_divisor, no_overflow, none_outside, none_twice}
 use Rattle.mufom_meaning.proofs.absolute.Marks.{width_positive, value_below, number_value, IsNumbered, mark_numbered}
-use Rattle.mufom_meaning.proofs.absolute.Rows.{sections_alone, placed_alone, width_alone, modulus_alone, placement_none, clear, same_cells, fewer_bytes}
+use Rattle.mufom_meaning.proofs.absolute.Sound.{IsSoundLocation}
+use Rattle.mufom_meaning.proofs.absolute.Alone.{sections_alone, width_alone, modulus_alone, clear, same_cells, fewer_bytes}
+use Rattle.mufom_meaning.proofs.absolute.Rows.{sound}
 
 -- an empty list after another
 In-nil : {A : Type 0} (x : A) (xs : List A) → In x (xs ++ []) → In x xs
@@ -70,7 +72,7 @@ placed_as_they_are bs k (x ∷ sections) same =
     let next : (k + 1) + i ≡ k + suc i = omega arith in ap (λ n. record y { absolute = true; base = slice_get bs n }) next ∙ same (suc i) y e) in
     λ i. own i ∷ later i
 
-module _ (m : Parts) (more : List Parts) (plan : Plan) (r : LocatedParts) (v : AreValid (m ∷ more)) (h : IsLocation (m ∷ more) plan r) where
+module _ (m : Parts) (more : List Parts) (plan : Plan) (r : LocatedParts) (v : AreValid (m ∷ more)) (h : IsSoundLocation (m ∷ more) plan r) where
   abbrev ms : List Parts
   ms = m ∷ more
 
@@ -105,7 +107,7 @@ module _ (m : Parts) (more : List Parts) (plan : Plan) (r : LocatedParts) (v : A
 
   pub below : (site : Sited) (t : Tree) (n : ℕ) → value s site None t ≡ Some n → n < again.modulus
   below site t n e = let less = value_below ms (planned_bases ms plan) (width_positive m more v) site None t n e in
-      subst (λ modulus. n < modulus) (sym (modulus_alone m more plan r v h)) less
+      subst (λ modulus. n < modulus) (sym (modulus_alone m more plan r h)) less
 
   public_below : (p : PublicValue) → In p r.publics → p.value < again.modulus
   unfolding readings
@@ -195,16 +197,16 @@ module _ (m : Parts) (more : List Parts) (plan : Plan) (r : LocatedParts) (v : A
 
   no_zero_divisor : (place : Site) → ¬ HasZeroDivisor alone again place
   no_zero_divisor (sites.Public name) f = no_divisor f.0.site None f.0.entry.value (number_public f.0 (In-at f.0 (flat_publics alone) f.1.0 f.1.1)) f.3
-  no_zero_divisor (sites.Counter section) f = no_counter_divisor r.order again alone (clear m more plan r v h) section f
-  no_zero_divisor (sites.Field section at) f = no_field_divisor r.order again alone (clear m more plan r v h) section at f
+  no_zero_divisor (sites.Counter section) f = no_counter_divisor r.order again alone (clear m more plan r h) section f
+  no_zero_divisor (sites.Field section at) f = no_field_divisor r.order again alone (clear m more plan r h) section at f
   no_zero_divisor sites.Start f = no_divisor f.0.0 None f.0.1 (number_start f.0 (In-at f.0 (start_trees alone) f.1.0 f.1.1)) f.2
   no_zero_divisor (sites.Debug n) f = no_divisor f.0.0 None f.0.1 (number_debug f.0 (In-at f.0 (debug_trees alone) n f.1)) f.2
 
   not_in_walk : (fact : LocateFact) → ¬ StandsInWalk alone again fact
   not_in_walk (zero_divisor place) f = no_zero_divisor place f
-  not_in_walk (load_outside section address) f = none_outside r.order again alone (clear m more plan r v h) section address f
-  not_in_walk (loaded_twice address) f = none_twice r.order again alone (clear m more plan r v h) address f
-  not_in_walk (overflow section at kind size n) f = no_overflow r.order again alone (clear m more plan r v h) section at kind size n f
+  not_in_walk (load_outside section address) f = none_outside r.order again alone (clear m more plan r h) section address f
+  not_in_walk (loaded_twice address) f = none_twice r.order again alone (clear m more plan r h) address f
+  not_in_walk (overflow section at kind size n) f = no_overflow r.order again alone (clear m more plan r h) section at kind size n f
   not_in_walk (placement refusal) f = f
   not_in_walk (undefined name) f = f
   not_in_walk (common_unplaced name) f = f
@@ -212,9 +214,7 @@ module _ (m : Parts) (more : List Parts) (plan : Plan) (r : LocatedParts) (v : A
   not_in_walk (image_limit count) f = f
 
   placed_here : place_refusal (width alone) no_regions (flat_sections alone) [] ≡ None
-  placed_here =
-      (λ i. place_refusal (width_alone m more plan r v h i) no_regions (placed_alone m more plan r v h i) [])
-      ∙ placed_again plan (flat_sections ms) (placed_commons ms plan) (width ms) (placement_none m more plan r v h)
+  placed_here = (λ i. place_refusal (width_alone m more plan r h i) no_regions (sections_alone m more plan r h i) []) ∙ h.fits
 
   -- a number leads nowhere
   leads_nowhere : (k : ℕ) (name : List ℕ) (site : Sited) (t : Tree) → (n : ℕ) × (t ≡ number n) → leads_within (setting alone no_bases) k name site t ≡ false
@@ -233,7 +233,7 @@ module _ (m : Parts) (more : List Parts) (plan : Plan) (r : LocatedParts) (v : A
   not_before (undefined name) f = let e = f.0.1 in cc
   not_before (common_unplaced name) f = let e = f.1.1.1 in cc
   not_before (cycle name) f = no_circle f.0 name (first_named (flat_publics alone) name) refl f.1
-  not_before (image_limit count) f = let few = fewer_bytes m more plan r v h in omega (arith, few, f.0, f.1)
+  not_before (image_limit count) f = let few = fewer_bytes m more plan r h in omega (arith, few, f.0, f.1)
   not_before (zero_divisor place) f = f
   not_before (load_outside section address) f = f
   not_before (loaded_twice address) f = f
@@ -249,24 +249,21 @@ module _ (m : Parts) (more : List Parts) (plan : Plan) (r : LocatedParts) (v : A
     by_answer None e = refl
     by_answer (Some fact) e = absurd (not_stands fact ((answers_are_facts alone no_regions).locate_sound links fact e))
 
-  all_alone : extended_sections alone no_regions ≡ located_sections ms plan
-  all_alone = append-nil (flat_sections alone) ∙ placed_alone m more plan r v h
+  all_alone : extended_sections alone no_regions ≡ r.sections
+  all_alone = append-nil (flat_sections alone) ∙ sections_alone m more plan r h
 
   stays : (i : ℕ) (x : Section) → slice_get (extended_sections alone no_regions) i ≡ Some x
       → record x { absolute = true; base = slice_get (base_list alone no_regions) (0 + i) } ≡ x
   stays i x e =
-      let p = placing_there plan (flat_sections ms) (placed_commons ms plan) i x (ap (λ sections. slice_get sections i) (sym all_alone) ∙ e) in
-      let own : x.base ≡ Some (site_of plan (flat_sections ms) (placed_commons ms plan) (i, p.first)).base = ap (λ (y : Section). y.base) p.same in
-      let absolute : x.absolute ≡ true = ap (λ (y : Section). y.absolute) p.same in
+      let own = h.absolute x (subst (In x) all_alone (In-at x (extended_sections alone no_regions) i e)) in
       let base : slice_get (base_list alone no_regions) (0 + i) ≡ x.base
       = ap (slice_get (base_list alone no_regions)) (zero-add i) ∙ base_there no_regions (flat_sections alone) [] i x e
-      ∙ ap (λ o. Some (site_with o (placing_of (placings no_regions (flat_sections alone) []) i)).base) own ∙ sym own in
+      ∙ ap (λ o. Some (site_with o (placing_of (placings no_regions (flat_sections alone) []) i)).base) own.based ∙ sym own.based in
+      let absolute = own.absolute in
       λ j. record x { absolute = sym absolute j; base = base j }
 
   sections_there : r.sections ≡ located_sections alone no_regions
-  sections_there =
-      sym (sections_alone m more plan r v h) ∙ sym (append-nil (flat_sections alone))
-      ∙ sym (placed_as_they_are (base_list alone no_regions) 0 (extended_sections alone no_regions) stays)
+  sections_there = sym all_alone ∙ sym (placed_as_they_are (base_list alone no_regions) 0 (extended_sections alone no_regions) stays)
 
   pub located_as_itself : IsLocation alone no_regions r
   unfolding readings
@@ -278,9 +275,9 @@ module _ (m : Parts) (more : List Parts) (plan : Plan) (r : LocatedParts) (v : A
     publics = publics_there;
     start = start_there;
     debug = debug_there;
-    rows = record { apart = h.rows.apart; same = same_cells m more plan r v h };
+    rows = record { apart = h.apart; same = same_cells m more plan r h };
   }
 
 pub absolute_is_located_as_itself : AbsoluteIsLocatedAsItself
 absolute_is_located_as_itself [] plan r v h = let e = h.first in absurd cc
-absolute_is_located_as_itself (m ∷ more) plan r v h = located_as_itself m more plan r v h
+absolute_is_located_as_itself (m ∷ more) plan r v h = located_as_itself m more plan r v (sound m more plan r v h)

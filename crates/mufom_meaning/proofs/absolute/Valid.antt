@@ -1,13 +1,11 @@
--- The module of a location has no defect, if it is not too heavy.
-use Rattle.std.proofs.Common.{◌≡◌, ◌≢◌, ◌⊎◌, inl, inr, ℕ, ◌^◌, ◌<◌, List, [], ◌∷◌, map, length, Option, Some, None, Bool, true, false, not, ◌||◌}
+-- The module of a sound location has no defect, if it is not too heavy.
+use Rattle.std.proofs.Common.{◌≡◌, ℕ, ◌^◌, ◌<◌, List, [], ◌∷◌, map, length, Option, Some, None, Bool, false, not, ◌||◌}
 use Rattle.std.proofs.Common.{◌&&◌, refl, sym, ◌∙◌, ap, subst, cond}
-use Rattle.std.specs.Prelude.{slice_get, nat_lt, ◌==◌, option_map, is_none}
+use Rattle.std.specs.Prelude.{option_map, is_none}
 use Rattle.std.specs.List.{list_any, find, enumerate_from}
-use Rattle.mufom_numbers.specs.declared.limits.TheConstants.{MOST_ALIGNMENT}
 use Rattle.mufom_expr.specs.Tree.{Tree, number}
 use Rattle.mufom_sections.specs.declared.section.Section.{Section}
 use Rattle.mufom_names.specs.declared.name.Public.{Public}
-use Rattle.mufom_names.specs.declared.name.Reference.{Reference}
 use Rattle.mufom_debug.specs.Marks.{marks_of}
 use Rattle.mufom_module.specs.declared.module.Parts.{Parts}
 use Rattle.mufom_module.specs.declared.module.Defect.{Defect}
@@ -18,24 +16,23 @@ use Rattle.mufom_module.specs.Defects.{IsValid, has_defect, defects, counts_of, 
 use Rattle.mufom_module.specs.Defects.{has_other_counter, misplaces_counter, is_long, has_long_name, has_bad_alignment, lacks_base, is_unit_count}
 use Rattle.mufom_module.specs.Defects.{is_long_literal, has_bad_size}
 use Rattle.mufom_plan.specs.declared.plan.Plan.{Plan}
-use Rattle.mufom_place.specs.Bases.{site_of}
 use Rattle.mufom_meaning.specs.declared.located.PublicValue.{PublicValue}
 use Rattle.mufom_meaning.specs.declared.located.LocatedParts.{LocatedParts}
-use Rattle.mufom_meaning.specs.Flat.{SitedPublic, sited, flat_sections, flat_publics, flat_references}
+use Rattle.mufom_meaning.specs.Flat.{SitedPublic, sited, flat_publics}
 use Rattle.mufom_meaning.specs.Values.{Setting, setting}
 use Rattle.mufom_meaning.specs.Readings.{PublicReading, public_reading, readings}
-use Rattle.mufom_meaning.specs.Placed.{placed_commons, extended_sections, planned_bases}
-use Rattle.mufom_meaning.specs.Location.{Header, located_public, IsLocation}
+use Rattle.mufom_meaning.specs.Placed.{planned_bases}
+use Rattle.mufom_meaning.specs.Location.{Header, located_public}
 use Rattle.mufom_meaning.specs.LocationLaws.{AbsoluteIsValid}
 use Rattle.mufom_meaning.specs.Staging.{AreValid}
 use Rattle.mufom_meaning.specs.Absolute.{absolute_public, absolute_of}
 use Rattle.mufom_meaning.proofs.Tests.{either_false}
 use Rattle.mufom_numbers.proofs.Choices.{some_same, two_false, not_le}
-use Rattle.mufom_meaning.proofs.Members.{In, at-In, In-at, In-append, In-map, map-In, flat_map-In, none-In, fails-In}
+use Rattle.mufom_meaning.proofs.Members.{In, In-map, map-In, flat_map-In, none-In, fails-In}
 use Rattle.mufom_meaning.proofs.NoDefects.{no_defect}
 use Rattle.mufom_meaning.proofs.values.Named.{site_module, valid_module}
-use Rattle.mufom_meaning.proofs.absolute.Places.{placing_there}
-use Rattle.mufom_meaning.proofs.Placed.{common_reference}
+use Rattle.mufom_meaning.proofs.absolute.Sound.{IsPlainSection, IsSoundLocation, strings_after_name, after_processor, after_name}
+use Rattle.mufom_meaning.proofs.absolute.Rows.{sound, plain as plain_sections}
 use Rattle.mufom_meaning.proofs.absolute.Loads.{loads_plain, plain_place, plain_counter, plain_short, plain_size, placed-In, all_somewhere}
 use Rattle.mufom_meaning.proofs.absolute.Debug.{short_names, known, marks_inside, no_counters, shallow, plain_ends, declared}
 
@@ -47,7 +44,8 @@ number_start : (p : Tree → Bool) → ((n : ℕ) → p (number n) ≡ false) �
 number_start p fails None = refl
 number_start p fails (Some n) = fails n
 
-module _ (m : Parts) (more : List Parts) (plan : Plan) (r : LocatedParts) (v : AreValid (m ∷ more)) (h : IsLocation (m ∷ more) plan r) where
+module _ (m : Parts) (more : List Parts) (plan : Plan) (r : LocatedParts) (v : AreValid (m ∷ more)) (h : IsSoundLocation (m ∷ more) plan r)
+    (plain : (section : Section) → In section r.sections → IsPlainSection section) where
   abbrev ms : List Parts
   ms = m ∷ more
 
@@ -60,72 +58,20 @@ module _ (m : Parts) (more : List Parts) (plan : Plan) (r : LocatedParts) (v : A
   header : ◌≡◌ {A = Header} (m.processor, m.name, m.maus, m.order) (r.processor, r.name, r.maus, r.order)
   header = some_same _ _ h.first
 
-  -- a section of the location is one of a module or a common, at its base
-  abbrev IsSource : Section → Type 0
-  IsSource first = ((parts : Parts) × In parts ms × In first parts.sections) ⊎ In first (placed_commons ms plan)
-
-  of_section : (section : Section) → In section r.sections → (first : Section) × (base : Option ℕ)
-      × (section ≡ record first { absolute = true; base = base }) × (base ≢ None) × IsSource first
-  of_section section k =
-      let there = at-In section r.sections k in
-      let p = placing_there plan (flat_sections ms) (placed_commons ms plan) there.0 section
-      (ap (λ sections. slice_get sections there.0) (sym h.sections) ∙ there.1) in (
-        p.first,
-        Some (site_of plan (flat_sections ms) (placed_commons ms plan) (there.0, p.first)).base,
-        p.same,
-        λ e. cc,
-        source p.first (In-append p.first (flat_sections ms) (placed_commons ms plan) (In-at p.first (extended_sections ms plan) there.0 p.found)),
-      ) where
-        source : (first : Section) → In first (flat_sections ms) ⊎ In first (placed_commons ms plan) → IsSource first
-        source first (inl k) = inl (flat_map-In (λ m. m.sections) first ms k)
-        source first (inr k) = inr k
-
   valid_parts : (parts : Parts) → In parts ms → IsValid parts
   valid_parts parts k = valid_module ms v parts k
 
   -- ---- strings
 
-  abbrev strings_after_name : Parts → Bool
-  strings_after_name parts = list_any (λ s. is_long s.name) parts.sections
-      || (list_any (λ p. is_long p.name) parts.names.publics
-      || (list_any (λ r. is_long r.name) parts.names.references
-      || list_any has_long_name (debug_marks parts)))
-
   short_processor : is_long r.processor ≡ false
   short_processor = ap (λ (x : Header). is_long x.0) (sym header)
       ∙ (either_false (is_long m.processor) (is_long m.name || strings_after_name m) (no_defect m v.0 d.LongId)).0
 
-  after_processor : (parts : Parts) → IsValid parts → (is_long parts.name || strings_after_name parts) ≡ false
-  after_processor parts valid = (either_false (is_long parts.processor) (is_long parts.name || strings_after_name parts) (no_defect parts valid d.LongId)).1
-
   short_name : is_long r.name ≡ false
   short_name = ap (λ (x : Header). is_long x.1) (sym header) ∙ (either_false (is_long m.name) (strings_after_name m) (after_processor m v.0)).0
 
-  after_name : (parts : Parts) → IsValid parts → strings_after_name parts ≡ false
-  after_name parts valid = (either_false (is_long parts.name) (strings_after_name parts) (after_processor parts valid)).1
-
-  short_reference : (ref : Reference) → In ref (flat_references ms) → is_long ref.name ≡ false
-  short_reference ref k =
-      let there = flat_map-In (λ m. m.names.references) ref ms k in
-      let parts = there.0 in
-      let after_sections = (either_false (list_any (λ s. is_long s.name) parts.sections) (list_any (λ p. is_long p.name) parts.names.publics
-      || (list_any (λ r. is_long r.name) parts.names.references || list_any has_long_name (debug_marks parts)))
-      (after_name parts (valid_parts parts there.1))).1 in
-      let after_publics = (either_false (list_any (λ p. is_long p.name) parts.names.publics) (list_any (λ r. is_long r.name) parts.names.references
-      || list_any has_long_name (debug_marks parts)) after_sections).1 in
-      fails-In (λ r. is_long r.name) parts.names.references (either_false (list_any (λ r. is_long r.name) parts.names.references)
-      (list_any has_long_name (debug_marks parts)) after_publics).0 ref there.2
-
-  short_source : (first : Section) → IsSource first → is_long first.name ≡ false
-  short_source first (inl there) =
-      let own = (either_false (list_any (λ s. is_long s.name) there.0.sections) _ (after_name there.0 (valid_parts there.0 there.1))).0 in
-      fails-In (λ s. is_long s.name) there.0.sections own first there.2
-  short_source first (inr k) = let common = common_reference ms plan first k in ap (λ (x : Section). is_long x.name) common.2
-      ∙ short_reference common.0 common.1
-
   short_sections : list_any (λ s. is_long s.name) r.sections ≡ false
-  short_sections = none-In (λ s. is_long s.name) r.sections (λ section k.
-      let there = of_section section k in ap (λ (x : Section). is_long x.name) there.2 ∙ short_source there.0 there.4)
+  short_sections = none-In (λ s. is_long s.name) r.sections (λ section k. (plain section k).short)
 
   short_public : (p : PublicValue) → In p r.publics → is_long p.name ≡ false
   unfolding readings
@@ -158,20 +104,12 @@ module _ (m : Parts) (more : List Parts) (plan : Plan) (r : LocatedParts) (v : A
   units : has_defect alone d.BadMaus ≡ false
   units = ap (λ (x : Header). not (is_unit_count x.2)) (sym header) ∙ no_defect m v.0 d.BadMaus
 
-  aligned_source : (first : Section) → IsSource first → ((first.align == 0) || nat_lt MOST_ALIGNMENT first.align) ≡ false
-  aligned_source first (inl there) = fails-In has_bad_alignment there.0.sections (no_defect there.0 (valid_parts there.0 there.1) d.BadAlign) first there.2
-  aligned_source first (inr k) = let common = common_reference ms plan first k in ap (λ (x : Section). (x.align == 0) || nat_lt MOST_ALIGNMENT x.align) common.2
-
   aligned : has_defect alone d.BadAlign ≡ false
-  aligned = none-In has_bad_alignment r.sections (λ section k.
-      let there = of_section section k in ap (λ (x : Section). (x.align == 0) || nat_lt MOST_ALIGNMENT x.align) there.2 ∙ aligned_source there.0 there.4)
+  aligned = none-In has_bad_alignment r.sections (λ section k. (plain section k).aligned)
 
   based : has_defect alone d.MissingBase ≡ false
-  based = none-In lacks_base r.sections (λ section k. let there = of_section section k in ap (λ (x : Section). x.absolute && is_none x.base) there.2
-      ∙ some there.1 there.3) where
-        some : (o : Option ℕ) → o ≢ None → is_none o ≡ false
-        some None h = absurd (h refl)
-        some (Some n) h = refl
+  based = none-In lacks_base r.sections (λ section k.
+      let own = h.absolute section k in let both = own.absolute in let base = own.based in λ i. both i && is_none (base i))
 
   -- ---- positions and counters
 
@@ -227,4 +165,4 @@ module _ (m : Parts) (more : List Parts) (plan : Plan) (r : LocatedParts) (v : A
 
 pub absolute_is_valid : AbsoluteIsValid
 absolute_is_valid [] plan r v h light = let e = h.first in absurd cc
-absolute_is_valid (m ∷ more) plan r v h light = valid_alone m more plan r v h light
+absolute_is_valid (m ∷ more) plan r v h light = valid_alone m more plan r v (sound m more plan r v h) (plain_sections m more plan r v h) light

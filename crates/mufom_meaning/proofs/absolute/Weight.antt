@@ -37,7 +37,9 @@ use Rattle.mufom_meaning.specs.AddressMap.{Cell}
 use Rattle.mufom_meaning.proofs.absolute.Entries.{at_least_number, lighter-map, lighter-all, lighter-sited, sum-more, sections-lighter}
 use Rattle.mufom_meaning.proofs.absolute.Entries.{reading_weight, public-located, public-lighter, located_weight, mark-lighter, asked_weight}
 use Rattle.mufom_meaning.proofs.absolute.Entries.{asked-lighter, room_at, room-sum, loads-lighter}
-use Rattle.mufom_meaning.proofs.absolute.Rows.{fewer_cells, loaded_first}
+use Rattle.mufom_meaning.proofs.absolute.Sound.{IsSoundLocation}
+use Rattle.mufom_meaning.proofs.absolute.Alone.{fewer_cells}
+use Rattle.mufom_meaning.proofs.absolute.Rows.{sound, loaded_first}
 
 -- a second filter leaves no more
 two-filters : {X : Type 0} (w : X → ℕ) (p q : X → Bool) (xs : List X) → sum_by w (filter p (filter q xs)) ≤ sum_by w (filter p xs)
@@ -91,7 +93,7 @@ module _ (ms : List Parts) (plan : Plan) where
       let e = two-filters (λ (r : Reference). w r.name) is_common (λ reference. not (has_name (public_names ms) reference.name)) (flat_references ms) in
       omega (arith, a, b, c, d, e)
 
-  commons-lighter : sum_by (λ s. section_weight s + 21) (placed_commons ms plan) ≤ sum_by reference_weight (flat_references ms) + 42 * length asking
+  pub commons-lighter : sum_by (λ s. section_weight s + 21) (placed_commons ms plan) ≤ sum_by reference_weight (flat_references ms) + 42 * length asking
   commons-lighter = by_region (has_common plan.regions) (names-lighter common_weight) same_weights (sum-more asked_weight 42 asking)
       (asked-lighter (flat_references ms)) where
         same_weights : sum_by (λ (r : Reference). common_weight r.name) asking ≤ sum_by (λ (r : Reference). asked_weight r + 42) asking
@@ -113,7 +115,7 @@ start-located : (o : Option ℕ) → start_weight (option_map (λ n. number n) o
 start-located None = refl
 start-located (Some n) = refl
 
-module _ (m : Parts) (more : List Parts) (plan : Plan) (r : LocatedParts) (v : AreValid (m ∷ more)) (h : IsLocation (m ∷ more) plan r) where
+module _ (m : Parts) (more : List Parts) (plan : Plan) (r : LocatedParts) (h : IsSoundLocation (m ∷ more) plan r) where
   abbrev ms : List Parts
   ms = m ∷ more
 
@@ -127,20 +129,6 @@ module _ (m : Parts) (more : List Parts) (plan : Plan) (r : LocatedParts) (v : A
       let b : length m.name ≡ length r.name = ap (λ (x : Header). length x.1) header in
       let c = sum_by-cons frame_weight m more in
       omega (arith, a, b, c)
-
-  sections : sum_by section_weight r.sections
-      ≤ sum_by (λ m. sum_by section_weight m.sections) ms + 21 * length
-      (flat_sections ms) + (sum_by reference_weight (flat_references ms) + 42 * asking_count ms)
-  sections =
-      let own : sum_by section_weight r.sections ≡ sum_by section_weight
-      (map (placed_section (base_list ms plan)) (enumerate_from 0 (extended_sections ms plan))) = ap (sum_by section_weight) h.sections in
-      let a = sections-lighter (base_list ms plan) 0 (extended_sections ms plan) in
-      let b = sum_by-append section_weight (flat_sections ms) (placed_commons ms plan) in
-      let c = length-append (flat_sections ms) (placed_commons ms plan) in
-      let d = sum-more section_weight 21 (placed_commons ms plan) in
-      let e = commons-lighter ms plan in
-      let f = sum-flat section_weight (λ m. m.sections) ms in
-      omega (arith, own, a, b, c, d, e, f)
 
   publics : sum_by public_weight (map absolute_public r.publics) ≤ sum_by (λ m. sum_by public_weight m.names.publics) ms
   unfolding readings
@@ -177,33 +165,61 @@ module _ (m : Parts) (more : List Parts) (plan : Plan) (r : LocatedParts) (v : A
       (λ site t. let own = at_least_number t in omega (arith, own)) 0 0 0 ms in
       omega (arith, a, b, c)
 
+  -- the bound on all, if the sections and loads weigh no more than those of the list, its references and so much more
+  pub sound_weighs : (extra : ℕ) → sum_by section_weight r.sections + sum_by load_weight (absolute_of r).loads
+      ≤ sum_by section_weight (flat_sections ms) + sum_by reference_weight (flat_references ms) + extra
+      → weight (absolute_of r) ≤ total_weight ms + extra
+  sound_weighs extra light =
+      let all = split_weights ms in
+      let own = weight-sum (absolute_of r) in
+      let refs = sum-flat reference_weight (λ m. m.names.references) ms in
+      let here = sum-flat section_weight (λ m. m.sections) ms in
+      let a = frame in let c = publics in let d = marks in let e = starts in
+      omega (arith, all, own, refs, here, a, c, d, e, light)
+
+module _ (m : Parts) (more : List Parts) (plan : Plan) (r : LocatedParts) (v : AreValid (m ∷ more)) (h : IsLocation (m ∷ more) plan r) where
+  abbrev all : List Parts
+  all = m ∷ more
+
+  sections : sum_by section_weight r.sections
+      ≤ sum_by section_weight (flat_sections all) + 21 * length (flat_sections all) + sum_by reference_weight (flat_references all) + 42 * asking_count all
+  sections =
+      let own : sum_by section_weight r.sections ≡ sum_by section_weight
+      (map (placed_section (base_list all plan)) (enumerate_from 0 (extended_sections all plan))) = ap (sum_by section_weight) h.sections in
+      let a = sections-lighter (base_list all plan) 0 (extended_sections all plan) in
+      let b = sum_by-append section_weight (flat_sections all) (placed_commons all plan) in
+      let c = length-append (flat_sections all) (placed_commons all plan) in
+      let d = sum-more section_weight 21 (placed_commons all plan) in
+      let e = commons-lighter all plan in
+      omega (arith, own, a, b, c, d, e)
+
   abbrev numbered_sections : List (ℕ × Section)
   numbered_sections = enumerate_from 0 r.sections
 
   -- a section with loaded bytes is one of the modules'
-  roomy : (t : ℕ × Section) → In t numbered_sections → (length (section_cells r.runs t) ≡ 0) ⊎ (10 ≤ room_at (length (flat_sections ms)) t.0)
+  roomy : (t : ℕ × Section) → In t numbered_sections → (length (section_cells r.runs t) ≡ 0) ⊎ (10 ≤ room_at (length (flat_sections all)) t.0)
   roomy t k = by_cells (section_cells r.runs t) (loaded_first m more plan r v h t k) where
-    by_cells : (cells : List Cell) → ((cell : Cell) → In cell cells → t.0 < length (flat_sections ms)) → (length cells ≡ 0)
-        ⊎ (10 ≤ room_at (length (flat_sections ms)) t.0)
+    by_cells : (cells : List Cell) → ((cell : Cell) → In cell cells → t.0 < length (flat_sections all)) → (length cells ≡ 0)
+        ⊎ (10 ≤ room_at (length (flat_sections all)) t.0)
     by_cells [] first = inl refl
     by_cells (cell ∷ cells) first =
-        let less = is_lt t.0 (length (flat_sections ms)) (first cell (inl refl)) in
-        let room : room_at (length (flat_sections ms)) t.0 ≡ 10 = ap (λ b. if b then 10 else 0) less in inr (omega (arith, room))
+        let less = is_lt t.0 (length (flat_sections all)) (first cell (inl refl)) in
+        let room : room_at (length (flat_sections all)) t.0 ≡ 10 = ap (λ b. if b then 10 else 0) less in inr (omega (arith, room))
 
-  loads : sum_by load_weight (absolute_of r).loads ≤ 10 * length (flat_sections ms) + 31 * loaded_total ms
+  loads : sum_by load_weight (absolute_of r).loads ≤ 10 * length (flat_sections all) + 31 * loaded_total all
   loads =
-      let a = loads-lighter r.runs (length (flat_sections ms)) numbered_sections roomy in
-      let b = room-sum (length (flat_sections ms)) 0 r.sections in
-      let c = fewer_cells m more plan r v h in
+      let a = loads-lighter r.runs (room_at (length (flat_sections all))) numbered_sections roomy in
+      let b = room-sum (length (flat_sections all)) 0 r.sections in
+      let c = fewer_cells m more plan r (sound m more plan r v h) in
       omega (arith, a, b, c)
 
-  pub absolute_weighs_alone : weight (absolute_of r) ≤ total_weight ms + 31 * length (flat_sections ms) + 31 * loaded_total ms + 42 * asking_count ms
+  absolute_weighs_alone : weight (absolute_of r) ≤ total_weight all + 31 * length (flat_sections all) + 31 * loaded_total all + 42 * asking_count all
   absolute_weighs_alone =
-      let all = split_weights ms in
-      let own = weight-sum (absolute_of r) in
-      let refs = sum-flat reference_weight (λ m. m.names.references) ms in
-      let a = frame in let b = sections in let c = publics in let d = marks in let e = starts in let f = loads in
-      omega (arith, all, own, refs, a, b, c, d, e, f)
+      let a = sections in
+      let b = loads in
+      let extra = 31 * length (flat_sections all) + 31 * loaded_total all + 42 * asking_count all in
+      let whole = sound_weighs m more plan r (sound m more plan r v h) extra (omega (arith, a, b)) in
+      omega (arith, whole)
 
 pub absolute_weighs : AbsoluteWeighs
 absolute_weighs [] plan r v h = let e = h.first in absurd cc

@@ -35,7 +35,7 @@ use Rattle.mufom_meaning.specs.Joined.{IsJoined, joined_tree, joined_item, joine
 use Rattle.mufom_meaning.specs.Facts.{placement, zero_divisor, duplicate, cycle, undefined, common_unplaced}
 use Rattle.mufom_meaning.specs.Staging.{AreValid, HaveDescriptor}
 use Rattle.mufom_meaning.specs.LinkAnswer.{first_mismatch, first_duplicate, same_order, same_descriptor, two_starts, link_answer}
-use Rattle.mufom_meaning.specs.LocateAnswer.{cycle_at, image_limit_at, locate_answer}
+use Rattle.mufom_meaning.specs.LocateAnswer.{cycle_at, image_limit_at, locate_answer, after_placing}
 use Rattle.mufom_meaning.specs.Counts.{loaded_total}
 use Rattle.mufom_meaning.specs.Walk.{zero_divisor_at, public_fact, counted_from, outside_at, first_twice, addresses_at, step_addresses}
 use Rattle.mufom_meaning.specs.Walk.{loaded_addresses, overflow_at, item_fact, step_fact, steps_fact, SitedTree, start_trees, debug_trees, start_fact}
@@ -361,13 +361,10 @@ module _ (M : Parts) (ms before after : List Parts) (name : List ℕ) (j : IsJoi
       let b = same_cycles all in
       λ i. (if a i then Some (cycle s) else None) or_else b i
 
-  same_locate_answer : (plan : Plan) → locate_answer linked plan ≡ locate_answer flat plan
-  unfolding locate_answer
-  same_locate_answer plan =
+  same_after_placing : (plan : Plan) → after_placing linked plan ≡ after_placing flat plan
+  same_after_placing plan =
       let sections = same_sections M ms name j before after in
-      let widths = same_width M ms j.header before after in
       let n = same_needs M ms name j before after in let c = same_commons M ms name j before after in
-      let asked = same_placed_commons linked flat sections c plan in
       let placed = same_planned linked flat sections c plan in
       let all = same_names M ms name j before after in
       let cycles : first_some (cycle_at linked) (public_names linked) ≡ first_some (cycle_at flat) (public_names flat)
@@ -375,18 +372,30 @@ module _ (M : Parts) (ms before after : List Parts) (name : List ℕ) (j : IsJoi
       let total = same_total in
       let walk : walk_answer linked (setting linked (planned_bases linked plan)) ≡ walk_answer flat (setting flat (planned_bases flat plan))
       = ap (λ b. walk_answer linked (setting linked b)) placed ∙ same_walk (planned_bases flat plan) in
-      λ i. option_map placement (place_refusal (widths i) plan (sections i) (asked i))
-      or_else (option_map undefined (find (λ name. not (has_name (map (λ common. common.0) (c i)) name)) (n i))
+      λ i. option_map undefined (find (λ name. not (has_name (map (λ common. common.0) (c i)) name)) (n i))
       or_else (option_map common_unplaced (if has_common plan.regions then None else slice_get (map (λ common. common.0) (c i)) 0)
       or_else (cycles i
       or_else (image_limit_at (total i)
-      or_else walk i))))
+      or_else walk i)))
+
+  same_locate_answer : (plan : Plan) → locate_answer linked plan ≡ locate_answer flat plan
+  unfolding locate_answer
+  same_locate_answer plan =
+      let sections = same_sections M ms name j before after in
+      let widths = same_width M ms j.header before after in
+      let asked = same_placed_commons linked flat sections (same_commons M ms name j before after) plan in
+      let later = same_after_placing plan in
+      λ i. option_map placement (place_refusal (widths i) plan (sections i) (asked i)) or_else later i
 
 -- what is returned in place of a link or a location is what is returned for the flat list
 pub answers_agree : (M : Parts) (ms before after : List Parts) (name : List ℕ) (plan : Plan)
     → IsJoined M ms name → AreValid (before ++ (ms ++ after)) → HaveDescriptor M (before ++ (ms ++ after))
     → AreDistinct (public_names (before ++ (ms ++ after)))
     → (link_answer (before ++ (M ∷ after)) ≡ link_answer (before ++ (ms ++ after)))
+    × (after_placing (before ++ (M ∷ after)) plan ≡ after_placing (before ++ (ms ++ after)) plan)
     × (locate_answer (before ++ (M ∷ after)) plan ≡ locate_answer (before ++ (ms ++ after)) plan)
-answers_agree M ms before after name plan j valid descriptors names =
-    (same_link_answer M ms before after name j valid descriptors names, same_locate_answer M ms before after name j valid descriptors names plan)
+answers_agree M ms before after name plan j valid descriptors names = (
+  same_link_answer M ms before after name j valid descriptors names,
+  same_after_placing M ms before after name j valid descriptors names plan,
+  same_locate_answer M ms before after name j valid descriptors names plan,
+)

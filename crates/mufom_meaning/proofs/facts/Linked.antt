@@ -66,5 +66,6 @@ facts_agree M ms before after name plan j valid descriptors names =
       link_facts = link_facts_agree M ms before after name j valid descriptors names;
       locate_facts = locate_facts_agree M ms before after name j valid descriptors names plan;
       link_answers = answers.0;
-      locate_answers = answers.1;
+      later_answers = answers.1;
+      locate_answers = answers.2;
     }

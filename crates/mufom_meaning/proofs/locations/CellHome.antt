@@ -26,17 +26,22 @@ pub record HasHome (s : Setting) (cell : Cell) : Type 0 where
 
 module _ (order : Order) (ms : List Parts) (s : Setting) (once : (address : ℕ) → ¬ StandsInWalk ms s (loaded_twice address))
     (inside : (section address : ℕ) → ¬ StandsInWalk ms s (load_outside section address)) where
+  -- the cell lies in this section
+  abbrev pub IsAtHome : ℕ → Cell → Type 0
+  IsAtHome section cell = (home : HasHome s cell) × (home.place ≡ section)
+
   home_at : (section : ℕ) (cell : Cell) → base_number s section ≤ cell.0 → cell.0 < base_number s section + size_at s section → (o : Option Section)
-      → slice_get s.sections section ≡ o → HasHome s cell
+      → slice_get s.sections section ≡ o → IsAtHome section cell
   home_at section cell low high None e =
       absurd (let none : size_at s section ≡ 0 = ap (λ (o : Option Section). unwrap_or (option_map (λ found. found.size) o) 0) e in
       omega (arith, low, high, none))
   home_at section cell low high (Some found) e =
       let size : size_at s section ≡ found.size = ap (λ (o : Option Section). unwrap_or (option_map (λ found. found.size) o) 0) e in
-      record { place = section; section = found; found = e; low = low; high = omega (arith, high, size) }
+      (record { place = section; section = found; found = e; low = low; high = omega (arith, high, size) }, refl)
 
-  item_home : (before : List Step) (site : Sited) (section : ℕ) (item : Item) → IsStepAfter ms before (item_step site section item) → (cell : Cell)
-      → In cell (step_cells order s.modulus (item_reading s site section (counter s before section) item)) → HasHome s cell
+  -- a cell of an item lies in the section into which the item is loaded
+  pub item_home : (before : List Step) (site : Sited) (section : ℕ) (item : Item) → IsStepAfter ms before (item_step site section item) → (cell : Cell)
+      → In cell (step_cells order s.modulus (item_reading s site section (counter s before section) item)) → IsAtHome section cell
   item_home before site section item at cell h =
       let there = item_cell order ms s once site section (counter s before section) item cell h in
       let not_low : ¬ (there.0 + there.1 < base_number s section) =
@@ -48,7 +53,7 @@ module _ (order : Order) (ms : List Parts) (s : Setting) (once : (address : ℕ)
   step_home : (before : List Step) (step : Step) → IsStepAfter ms before step → (cell : Cell)
       → In cell (step_cells order s.modulus (step_reading s before step)) → HasHome s cell
   step_home before (counter_step site section t) at cell h = absurd h
-  step_home before (item_step site section item) at cell h = item_home before site section item at cell h
+  step_home before (item_step site section item) at cell h = (item_home before site section item at cell h).0
 
   pub cell_home : (cell : Cell) → In cell (address_map order s.modulus (readings_after s [] (steps ms))) → HasHome s cell
   cell_home cell h =

@@ -5,6 +5,7 @@ use Rattle.mufom_debug.specs.Marks.{marks_of}
 use Rattle.mufom_debug.proofs.Rebuilt.{same_items}
 use Rattle.mufom_meaning.specs.Placed.{planned_bases}
 use Rattle.mufom_meaning.specs.declared.located.PublicValue.{PublicValue}
+use Rattle.mufom_meaning.specs.declared.located.LocatedParts.{LocatedParts}
 use Rattle.mufom_meaning.specs.Flat.{width}
 use Rattle.mufom_meaning.specs.Readings.{readings, PublicReading}
 use Rattle.mufom_meaning.specs.AddressMap.{AreRunsOf, address_map}
@@ -41,26 +42,37 @@ start_same None (Some v) e = absurd cc
 start_same (Some v) None e = absurd cc
 start_same (Some v) (Some w) e = head_same (Some v) (Some w) [] [] e
 
+-- located parts with the same header and readings are the same, if their sections and runs are
+module _ (r q : LocatedParts) (same : ◌≡◌ {A = Header} (r.processor, r.name, r.maus, r.order) (q.processor, q.name, q.maus, q.order)) where
+  pub same_order : r.order ≡ q.order
+  same_order = λ i. (same i).3
+
+  pub same_parts : r.sections ≡ q.sections → map located_public r.publics ≡ map located_public q.publics
+      → map (λ v. Some v) (option_to_list r.start) ≡ map (λ v. Some v) (option_to_list q.start)
+      → map (λ mark. Some mark) (marks_of r.debug) ≡ map (λ mark. Some mark) (marks_of q.debug) → r.runs ≡ q.runs → r ≡ q
+  same_parts sections values starts records runs =
+      let order = same_order in
+      let publics : r.publics ≡ q.publics = map_same located_public public_same r.publics q.publics values in
+      let start : r.start ≡ q.start = start_same r.start q.start starts in
+      let marks : marks_of r.debug ≡ marks_of q.debug = map_same (λ mark. Some mark) some_same (marks_of r.debug) (marks_of q.debug) records in
+      let debug : r.debug ≡ q.debug = same_items r.debug q.debug marks in
+      λ i. record {
+        processor = (same i).0;
+        name = (same i).1;
+        maus = (same i).2;
+        order = order i;
+        sections = sections i;
+        publics = publics i;
+        runs = runs i;
+        start = start i;
+        debug = debug i;
+      }
+
 pub location_is_single : LocationIsSingle
 location_is_single ms plan r q h k =
     let first : ◌≡◌ {A = Header} (r.processor, r.name, r.maus, r.order) (q.processor, q.name, q.maus, q.order) = some_same _ _ (sym h.first ∙ k.first) in
-    let order : r.order ≡ q.order = λ i. (first i).3 in
-    let sections : r.sections ≡ q.sections = h.sections ∙ sym k.sections in
-    let publics : r.publics ≡ q.publics = map_same located_public public_same r.publics q.publics (h.publics ∙ sym k.publics) in
-    let start : r.start ≡ q.start = start_same r.start q.start (h.start ∙ sym k.start) in
-    let marks : marks_of r.debug ≡ marks_of q.debug = map_same (λ mark. Some mark) some_same (marks_of r.debug) (marks_of q.debug) (h.debug ∙ sym k.debug) in
-    let debug : r.debug ≡ q.debug = same_items r.debug q.debug marks in
+    let order = same_order r q first in
     let rows : AreRunsOf (address_map q.order (2 ^ width ms) (readings ms (planned_bases ms plan)).steps) r.runs
-    = subst (λ order. AreRunsOf (address_map order (2 ^ width ms) (readings ms (planned_bases ms plan)).steps) r.runs) order h.rows in
+    = subst (λ o. AreRunsOf (address_map o (2 ^ width ms) (readings ms (planned_bases ms plan)).steps) r.runs) order h.rows in
     let runs : r.runs ≡ q.runs = rows_are_single (address_map q.order (2 ^ width ms) (readings ms (planned_bases ms plan)).steps) r.runs q.runs rows k.rows in
-    λ i. record {
-      processor = (first i).0;
-      name = (first i).1;
-      maus = (first i).2;
-      order = order i;
-      sections = sections i;
-      publics = publics i;
-      runs = runs i;
-      start = start i;
-      debug = debug i;
-    }
+    same_parts r q first (h.sections ∙ sym k.sections) (h.publics ∙ sym k.publics) (h.start ∙ sym k.start) (h.debug ∙ sym k.debug) runs

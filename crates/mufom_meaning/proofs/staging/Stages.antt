@@ -11,7 +11,7 @@ use Rattle.mufom_meaning.specs.Readings.{readings}
 use Rattle.mufom_meaning.specs.Location.{first_header}
 use Rattle.mufom_meaning.specs.Staging.{AreValid, HaveDescriptor, IsStaged, unlinked, linked}
 use Rattle.mufom_meaning.specs.LinkAnswer.{link_answer}
-use Rattle.mufom_meaning.specs.LocateAnswer.{locate_answer}
+use Rattle.mufom_meaning.specs.LocateAnswer.{after_placing, locate_answer}
 use Rattle.mufom_meaning.specs.StagingLaws.{MeansTheSame, StagedMeansTheSame}
 use Rattle.mufom_meaning.proofs.staging.Staging.{same_readings_there}
 use Rattle.mufom_meaning.proofs.staging.Needs.{same_names}
@@ -22,12 +22,13 @@ use Rattle.mufom_meaning.proofs.staging.Composed.{joined_composes}
 use Rattle.mufom_meaning.proofs.staging.SameLocation.{location_there, same_first_header}
 
 -- what stays true of a list as its groups are linked
-record Stays (d : Parts) (ms leaves : List Parts) : Type 0 where
-  valid : AreValid ms
-  descriptors : HaveDescriptor d ms
-  names : public_names ms ≡ public_names leaves
-  first : first_header ms ≡ first_header leaves
-  meaning : MeansTheSame ms leaves
+pub record Stays (d : Parts) (ms leaves : List Parts) : Type 0 where
+  pub valid : AreValid ms
+  pub descriptors : HaveDescriptor d ms
+  pub names : public_names ms ≡ public_names leaves
+  pub first : first_header ms ≡ first_header leaves
+  pub later : (plan : Plan) → after_placing ms plan ≡ after_placing leaves plan
+  pub meaning : MeansTheSame ms leaves
 
 valid_linked : (M : Parts) → IsValid M → (before ms after : List Parts) → AreValid (before ++ (ms ++ after)) → AreValid (before ++ (M ∷ after))
 valid_linked M m [] ms after v = (m, valid_after ms after v) where
@@ -71,9 +72,16 @@ means_itself leaves = record {
   same_members = λ members chosen. (λ h. h, λ h. h);
 }
 
-stays_linked : (d : Parts) (ms leaves : List Parts) → IsStaged ms leaves → AreValid leaves → HaveDescriptor d leaves
+pub stays_linked : (d : Parts) (ms leaves : List Parts) → IsStaged ms leaves → AreValid leaves → HaveDescriptor d leaves
     → AreDistinct (public_names leaves) → Stays d ms leaves
-stays_linked d _ _ (unlinked leaves) v k n = record { valid = v; descriptors = k; names = refl; first = refl; meaning = means_itself leaves }
+stays_linked d _ _ (unlinked leaves) v k n = record {
+  valid = v;
+  descriptors = k;
+  names = refl;
+  first = refl;
+  later = λ plan. refl;
+  meaning = means_itself leaves;
+}
 stays_linked d _ _ (linked leaves before group after M name stages m j stay) v k n =
     let so_far : Stays d (before ++ (group ++ after)) leaves = stays_linked d (before ++ (group ++ after)) leaves stages v k n in
     let own = has_descriptor d M before group after j.header so_far.descriptors in
@@ -94,6 +102,7 @@ stays_linked d _ _ (linked leaves before group after M name stages m j stay) v k
       descriptors = descriptors_linked d M own before group after so_far.descriptors;
       names = same_names M group name j before after ∙ so_far.names;
       first = first;
+      later = λ plan. (facts plan).later_answers ∙ so_far.later plan;
       meaning = record {
         same_readings = read;
         same_first = first;
