@@ -56,6 +56,15 @@ impl Located {
         &self.parts
     }
 
+    /// Takes the parts out, which are the location of a module. Does not allocate.
+    pub fn into_parts(self) -> LocatedParts
+        ensures same { result ≡ self }
+        ensures located { IsLocated result }
+    {
+        let Located { parts } = self;
+        parts
+    }
+
     /// The weight in bytes of the module that [`absolute`](crate::absolute) makes: the length of its
     /// written form with nine bytes for each number, other than the eight offsets of its parts, and three
     /// for the lead of each string. Does not allocate.

@@ -54,7 +54,7 @@ fn raise(ends: &mut Vec<u128>, region: u32, end: u128)
 }
 
 /// Up to where each region is filled: the greatest end of what it places, or its base if it places nothing.
-pub(crate) fn filled_to(
+pub fn filled_to(
     alloc: Global,
     regions: &[Region],
     sections: &[Section],
@@ -86,7 +86,7 @@ fn extent_of(copy: &RegionCopy, address: u128) -> (u128, u128)
 
 /// Appends the bases of copies to those that regions give. The first copy has the position `first` in the list
 /// of sections; each goes to its region, after everything that the region places.
-pub(crate) fn add_copies(
+pub fn add_copies(
     alloc: Global,
     regions: &[Region],
     sections: &[Section],

@@ -17,10 +17,12 @@ mod placing;
 mod refusal;
 mod regions;
 
+pub use bases::planned;
 pub use copied::region_copies;
-pub use copies::place_copies;
+pub use copies::{add_copies, filled_to, place_copies};
+pub use entries::{index_of_entries, waiting_sections};
 pub use laws::{copies_move_nothing, fits_without_copies, place_refusals_are_facts};
 pub use placement::place;
-pub use placing::{Placing, RegionCopy};
+pub use placing::{Placing, RegionCopy, Waiting};
 pub use refusal::PlaceRefusal;
 pub use regions::{all_placings, section_regions};
