@@ -1,0 +1,12 @@
+pub mod LoadedLaws
+pub mod LinkLaws
+pub mod ListLaws
+pub mod EntryLaws
+pub mod LayoutLaws
+pub mod ShiftedLaws
+pub mod NumberLaws
+pub mod SectionLaws
+pub mod MoveLaws
+pub mod JoinLaws
+pub mod CopiedLaws
+pub mod LightLaws

@@ -1,0 +1,11 @@
+pub mod Plain
+pub mod Plans
+pub mod Refusals
+pub mod Loaded
+pub mod Placed
+pub mod Moves
+pub mod Listed
+pub mod Numbered
+pub mod Linked
+pub mod Copied
+pub mod Light

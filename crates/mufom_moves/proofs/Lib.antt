@@ -1,0 +1,4 @@
+pub mod ShiftLaws
+pub mod PieceLaws
+pub mod RunLaws
+pub mod LoadMaps

@@ -1,0 +1,12 @@
+//! Loaded bytes that are moved: those of some extents of addresses, each extent by a distance of its own.
+//!
+//! [`move_runs`] takes the runs of loaded bytes and the extents, and returns the runs of the bytes at their new
+//! addresses.
+#![tactic(auto)]
+
+mod moving;
+mod pieces;
+mod shift;
+
+pub use moving::move_runs;
+pub use shift::Shift;

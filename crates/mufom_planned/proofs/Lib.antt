@@ -1,0 +1,15 @@
+pub mod Rows
+pub mod Plain
+pub mod SymbolsModule
+pub mod Alike
+pub mod Loaded
+pub mod Locatable
+pub mod Copied
+pub mod PlacedAgain
+pub mod Apart
+pub mod Single
+pub mod SoundLocation
+pub mod Weight
+pub mod Absolute
+pub mod Exists
+pub mod NeverLacks

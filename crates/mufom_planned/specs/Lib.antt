@@ -1,0 +1,6 @@
+pub mod Layout
+pub mod Numbers
+pub mod PlanSymbols
+pub mod Planned
+pub mod PlanLaws
+pub mod Shown
