@@ -1,15 +1,16 @@
 -- The text on some arguments is one, and so a run comes to one end at most.
-use Rattle.std.proofs.Common.{◌≡◌, ℕ, Bool, true, false, List, Option, Some, None, Result, Ok, Err, inl, inr, sym, ap, subst, ◌∙◌}
+use Rattle.std.proofs.Common.{◌≡◌, ℕ, Bool, true, false, List, [], ◌∷◌, Option, Some, None, Result, Ok, Err, inl, inr, sym, ap, subst, ◌∙◌}
 use Rattle.mufom_host.specs.World.{HoldBytes, NamedFile, file_named}
 use Rattle.mufom_module.specs.declared.module.Parts.{Parts}
 use Rattle.mufom_meaning.specs.Facts.{LinkFact, LocateFact}
 use Rattle.mufom_meaning.proofs.locations.SelectionSingle.{selection_is_single}
+use Rattle.mufom_meaning.proofs.staging.JoinedSingle.{joined_is_single}
 use Rattle.mufom_words.specs.declared.command.Command.{Command}
 use Rattle.mufom_words.specs.declared.stop.WordsStop.{WordsStop}
 use Rattle.mufom_words.specs.Answer.{answer_of}
 use Rattle.mufom_words.specs.Explain.{explained}
 use Rattle.mufom_words.specs.Tree.{Forest, tree_of}
-use Rattle.mufom_groups.specs.Linked.{members, roots}
+use Rattle.mufom_groups.specs.Linked.{first_name, members, roots}
 use Rattle.mufom_groups.specs.Refused.{IsRefusedFlatList, IsRefusedList, flat_list, linked_lists, refused_among}
 use Rattle.mufom_groups.specs.Refusals.{link_refusal}
 use Rattle.mufom_groups.specs.Work.{IsSingle, Reached, Work, ◌>>=◌, gives, one_with, stops, sure}
@@ -21,7 +22,7 @@ use Rattle.mufom_text.specs.Words.{Text}
 use Rattle.mufom_outcome.specs.Stop.{Stop, words_refused, plan_refused, file_refused, past_limit, link_fact, keep_unknown, locate_fact, raw_too_long}
 use Rattle.mufom_outcome.specs.Stop.{text_refused, listing_refused}
 use Rattle.mufom_command.specs.Roots.{roots_by}
-use Rattle.mufom_command.specs.Works.{Output, kept_of, printed, work_by}
+use Rattle.mufom_command.specs.Works.{Kept, Output, kept_of, printed, work_by}
 use Rattle.mufom_task.specs.Reading.{modules_in, plan_in}
 use Rattle.mufom_command.specs.Contract.{run_by, run_of, work_with}
 use Rattle.mufom_task.specs.declared.task.Inputs.{Inputs}
@@ -33,9 +34,11 @@ use Rattle.mufom_command.specs.ExplainText.{explain_text}
 use Rattle.mufom_command.specs.FlatFiles.{AreFlatFiles}
 use Rattle.mufom_command.specs.HasDetails.{HasDetails, HasFileLine, HasPlanLines, IsRefusedFlat}
 use Rattle.mufom_command.specs.PlanLines.{ArePlanLines, AreLinesBy, is_syntax, plan_line_at}
+use Rattle.mufom_plan.specs.declared.plan.Plan.{Plan}
 use Rattle.mufom_plan.specs.declared.refusal.PlanRefusal.{PlanRefusal}
+use Rattle.mufom_prune.specs.Pruned.{Remains}
 use Rattle.mufom_plan_faults.proofs.LineLaws.{syntax-line-single}
-use Rattle.mufom_command.specs.HasDetails.{explained_by, files_at, lines_of_link, lines_of_locate, lines_of_name}
+use Rattle.mufom_command.specs.HasDetails.{IsObjectBy, IsObjectOf, explained_by, files_at, lines_of_link, lines_of_locate, lines_of_name}
 use Rattle.mufom_outcome.specs.LocateRefusals.{locate_refusal}
 use Rattle.mufom_command.specs.Run.{outcome_of}
 use Rattle.mufom_command.proofs.MapLaws.{flat-files-single}
@@ -84,19 +87,31 @@ module _ (files : List NamedFile) (bytes : HoldBytes files) (c : Inputs) (keep :
       then-single (one_with (AreFlatFiles (tree_of c.marks) ms)) (λ flat. sure (name_details c.files flat name))
       (flat-files-single (tree_of c.marks) ms) λ flat. sure-single (name_details c.files flat name)
 
+  -- there is one module that is located for what is kept
+  object-single : (rest : Option Remains) (ms : List Parts) (a b : Parts) → IsObjectBy rest ms a → IsObjectBy rest ms b → a ≡ b
+  object-single None ms a b one other = joined_is_single a b ms (first_name ms) one other
+  object-single (Some c) ms a b one other = let both : (a ∷ []) ≡ (b ∷ []) = sym one ∙ other in cc
+
+  abbrev object-lines : Plan → List FileModule → ℕ → LocateFact → Kept → Work Stop Text
+  object-lines plan flat maus f kept =
+      one_with (IsObjectOf kept) >>= λ object. sure (locate_details (explained_by c plan flat kept object maus) (locate_refusal f))
+
   locate-single : (maus : ℕ) (f : LocateFact) → IsSingle (lines_of_locate files c keep maus f)
   locate-single maus f =
       then-single (plan_in files c.plan) (λ plan. modules_in files c >>= λ ms. one_with (AreFlatFiles (tree_of c.marks) ms) >>= λ flat.
-      kept_of (roots_by keep plan) (modules_of flat) >>= λ kept. sure (locate_details (explained_by c plan flat kept maus) (locate_refusal f)))
+      kept_of (roots_by keep plan) (modules_of flat) >>= λ kept. object-lines plan flat maus f kept)
       (plan_in-single files c.plan) λ plan.
       then-single (modules_in files c) (λ ms. one_with (AreFlatFiles (tree_of c.marks) ms) >>= λ flat.
-      kept_of (roots_by keep plan) (modules_of flat) >>= λ kept. sure (locate_details (explained_by c plan flat kept maus) (locate_refusal f)))
+      kept_of (roots_by keep plan) (modules_of flat) >>= λ kept. object-lines plan flat maus f kept)
       (modules_in-single files bytes c) λ ms.
       then-single (one_with (AreFlatFiles (tree_of c.marks) ms)) (λ flat.
-      kept_of (roots_by keep plan) (modules_of flat) >>= λ kept. sure (locate_details (explained_by c plan flat kept maus) (locate_refusal f)))
+      kept_of (roots_by keep plan) (modules_of flat) >>= λ kept. object-lines plan flat maus f kept)
       (flat-files-single (tree_of c.marks) ms) λ flat.
-      then-single (kept_of (roots_by keep plan) (modules_of flat)) (λ kept. sure (locate_details (explained_by c plan flat kept maus) (locate_refusal f)))
-      (kept_of-single (roots_by keep plan) (modules_of flat)) λ kept. sure-single (locate_details (explained_by c plan flat kept maus) (locate_refusal f))
+      then-single (kept_of (roots_by keep plan) (modules_of flat)) (λ kept. object-lines plan flat maus f kept)
+      (kept_of-single (roots_by keep plan) (modules_of flat)) λ kept.
+      then-single (one_with (IsObjectOf kept)) (λ object. sure (locate_details (explained_by c plan flat kept object maus) (locate_refusal f)))
+      (one_with-single (IsObjectOf kept) (object-single kept.rest kept.modules)) λ object.
+      sure-single (locate_details (explained_by c plan flat kept object maus) (locate_refusal f))
 
   lines-by-single : (b : Bool) (name text : List ℕ) (r : PlanRefusal) (x y : Text) → AreLinesBy b name text r x → AreLinesBy b name text r y → x ≡ y
   lines-by-single true name text r x y (m, is_m, are) (n, is_n, also) = are ∙ (ap (plan_line_at name) (syntax-line-single text m n is_m is_n) ∙ sym also)

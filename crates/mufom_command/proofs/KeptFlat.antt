@@ -1,5 +1,5 @@
 -- The flat list of a tree with its files, and what is kept of it, in place of the link of the list.
-use Rattle.std.proofs.Common.{◌≡◌, ◌++◌, ◌+◌, ℕ, zero, suc, List, [], ◌∷◌, Option, None, length}
+use Rattle.std.proofs.Common.{◌≡◌, ◌++◌, ◌+◌, ℕ, zero, suc, List, [], ◌∷◌, Option, Some, None, length}
 use Rattle.std.proofs.Common.{drop, map, option_to_list, slice_get, refl, sym, ap, subst, ◌∙◌, inl, inr, arith}
 use Rattle.std.proofs.lemmas.Grind.{flat_map-append}
 use Rattle.std.proofs.lemmas.List.{drop-map, map-append}
@@ -14,7 +14,7 @@ use Rattle.mufom_meaning.proofs.facts.AllAnswers.{answers_are_facts}
 use Rattle.mufom_meaning.proofs.facts.LinkFacts.{link_facts_grow}
 use Rattle.mufom_words.specs.Sound.{numbers_from}
 use Rattle.mufom_words.specs.Tree.{Forest, leaves, tree_of}
-use Rattle.mufom_groups.specs.Linked.{linked, members, roots}
+use Rattle.mufom_groups.specs.Linked.{first_name, linked, members, roots}
 use Rattle.mufom_groups.specs.Work.{gives}
 use Rattle.mufom_groups.proofs.GroupsAlike.{linked-flat}
 use Rattle.mufom_groups.proofs.RefusedLaws.{numbers-count}
@@ -24,15 +24,18 @@ use Rattle.mufom_origins.specs.Origins.{FileModule, modules_of, numbered, origin
 use Rattle.mufom_origins.specs.Places.{at_positions, with_chosen}
 use Rattle.mufom_origins.proofs.FlatLaws.{chosen-map, members-chosen, modules-numbered}
 use Rattle.mufom_command.specs.declared.locating.TracedModule.{TracedModule}
-use Rattle.mufom_command.specs.Roots.{Roots}
+use Rattle.mufom_command.specs.Roots.{Roots, first_unknown}
 use Rattle.mufom_command.specs.Works.{Kept, kept_of, kept_origins}
 use Rattle.mufom_meaning.specs.Absolute.{no_regions}
+use Rattle.mufom_meaning.specs.Joined.{IsJoined}
+use Rattle.mufom_prune.specs.Pruned.{Remains, remains}
 use Rattle.mufom_task.specs.declared.task.Inputs.{Inputs}
 use Rattle.mufom_command.specs.declared.locating.Places.{Places}
 use Rattle.mufom_command.specs.FlatFiles.{AreFlatFiles, files_with}
 use Rattle.mufom_command.specs.Locations.{HasPlaces, IsKeptPart, IsTracedLink}
 use Rattle.mufom_command.specs.RunParts.{AreLinkedFlat, AreReadFrom, IsKeptFlat}
-use Rattle.mufom_command.specs.WorkEnds.{EndsAt, own_kept}
+use Rattle.mufom_command.specs.HasDetails.{IsObjectBy, IsObjectOf}
+use Rattle.mufom_command.specs.WorkEnds.{EndsAt, own_kept, own_rest}
 use Rattle.mufom_outcome.specs.declared.outcome.Outcome.{Outcome}
 use Rattle.mufom_command.proofs.EndLaws.{ends-along}
 use Rattle.mufom_command.proofs.LocatingLaws.{AreAlike, IsKeptAlike, own-ends, own-is}
@@ -117,6 +120,30 @@ means-itself ms = record {
   same_members = λ members chosen. ((λ is. is), (λ is. is));
 }
 
+-- ---- the one module that is located
+
+-- what remains for roots is not all
+rest-some : (roots : Roots) (M : Parts) (o : Option (List ℕ)) (own : Kept) → own_rest o roots M (gives own) → (c : Remains) × (own.rest ≡ Some c)
+rest-some roots M (Some name) own never = absurd never
+rest-some roots M None own (marks, is_kept, same) = (remains M marks, ap (λ (k : Kept). k.rest) same)
+
+alike-rest : (own kept : Kept) (c : Remains) (object : Parts) → own.rest ≡ Some c → own.modules ≡ object ∷ [] → AreAlike own kept → IsObjectOf kept object
+alike-rest own kept c object rest modules (inl same) =
+    subst (λ (k : Kept). IsObjectOf k object) same (subst (λ (r : Option Remains). IsObjectBy r own.modules object) (sym rest) modules)
+alike-rest own kept c object rest modules (inr (none, no_rest, alike)) =
+    let both : Some c ≡ None = sym rest ∙ none in absurd cc
+
+-- the module that is kept of the link of a list is the one that is located for what is kept of the list
+object-kept : (keep : Option Roots) (M object : Parts) (list : List Parts) → IsJoined M list (first_name list) → (own kept : Kept)
+    → own_kept keep M (gives own) → own.modules ≡ object ∷ [] → kept_of keep list (gives kept) → AreAlike own kept → IsObjectOf kept object
+object-kept None M object list joined own kept keeps modules all alike =
+    let both : (M ∷ []) ≡ (object ∷ []) = sym (ap (λ (k : Kept). k.modules) keeps) ∙ modules in
+    let same : M ≡ object = cc in
+    subst (λ (k : Kept). IsObjectOf k object) (sym all) (subst (λ (m : Parts). IsJoined m list (first_name list)) same joined)
+object-kept (Some roots) M object list joined own kept keeps modules all alike =
+    let (c, rest) = rest-some roots M (first_unknown (M ∷ []) roots.names) own keeps in
+    alike-rest own kept c object rest modules alike
+
 module _ (tree : Forest) (first : leaves tree ≡ numbers_from 0 (length (leaves tree))) (ms : List Parts) (valid : AreValid ms) (keep : Option Roots)
     (places : Places) (whole : TracedModule) (link : IsTracedLink tree ms places whole) (flat : List FileModule)
     (are : flat ≡ files_with tree ms places.chosen) where
@@ -155,6 +182,7 @@ module _ (tree : Forest) (first : leaves tree ≡ numbers_from 0 (length (leaves
           record {
             keeps = subst (λ (l : List Parts). kept_of keep l (gives like.kept)) (sym own-same) like.keeps;
             same = means like.kept like.alike;
+            object_is = object-kept keep whole.object part.object link.links.0 link.links.2 is.kept like.kept is.keeps is.modules like.keeps like.alike;
             from = is.origins ∙ (λ i. kept_origins (rests like.kept like.alike i) (origins-flat i));
           },
         )

@@ -2,6 +2,7 @@
 use Rattle.std.proofs.Common.{◌≡◌, ◌<◌, ℕ, arith, zero, suc, List, [], ◌∷◌, ◌++◌, length, take, drop}
 use Rattle.std.proofs.Common.{option_to_list, Option, None, Some, true, refl, sym, ap, subst, ◌∙◌, inl, inr}
 use Rattle.std.specs.Prelude.{slice_get}
+use Rattle.mufom_names.specs.Names.{AreDistinct, names_of}
 use Rattle.mufom_module.specs.declared.module.Parts.{Parts}
 use Rattle.mufom_module.specs.Defects.{IsValid}
 use Rattle.mufom_plan.specs.declared.plan.Plan.{Plan}
@@ -203,16 +204,16 @@ obstacle-ends tree first ms valid keep plan (obstacle.Unlocated r part own place
 
 -- a part that cannot be located is what keeps the modules from having a location
 pub unlocated-is : (tree : Forest) (keep : List (List ℕ)) (ms : List Parts) (places : Places) (whole part : TracedModule) (plan : Plan)
-    → IsTracedLink tree ms places whole → IsKeptPart (roots_by keep plan) whole part → IsSoundPlan plan → (o : Obstacle)
-    → IsUnlocatedPart part plan places o → IsObstacle tree keep ms o
-unlocated-is tree keep ms places whole part plan link kept sound (obstacle.Unlocated r own by at) (same, planned, placed, met) =
+    → IsTracedLink tree ms places whole → IsKeptPart (roots_by keep plan) whole part → AreDistinct (names_of part.object.names.publics)
+    → IsSoundPlan plan → (o : Obstacle) → IsUnlocatedPart part plan places o → IsObstacle tree keep ms o
+unlocated-is tree keep ms places whole part plan link kept names sound (obstacle.Unlocated r own by at) (same, planned, placed, met) =
     let is : IsUnlocated tree (roots_by keep plan) ms r part plan places
-    = record { whole = whole; link = link; kept = kept; sound = sound; met = met } in
+    = record { whole = whole; link = link; kept = kept; names = names; sound = sound; met = met } in
     subst (λ (x : TracedModule). IsUnlocated tree (roots_by keep by) ms r x by at) (sym same)
     (subst (λ (x : Plan). IsUnlocated tree (roots_by keep x) ms r part x at) (sym planned)
     (subst (λ (x : Places). IsUnlocated tree (roots_by keep plan) ms r part plan x) (sym placed) is))
-unlocated-is tree keep ms places whole part plan link kept sound (obstacle.Unlinked r) never = absurd never
-unlocated-is tree keep ms places whole part plan link kept sound (obstacle.Unkept r by at) never = absurd never
+unlocated-is tree keep ms places whole part plan link kept names sound (obstacle.Unlinked r) never = absurd never
+unlocated-is tree keep ms places whole part plan link kept names sound (obstacle.Unkept r by at) never = absurd never
 
 -- by this plan
 pub unlocated-plan : (part : TracedModule) (plan : Plan) (places : Places) (o : Obstacle) → IsUnlocatedPart part plan places o → HasPlan plan o

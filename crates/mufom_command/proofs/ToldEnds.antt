@@ -181,11 +181,11 @@ module _ (files : Option (List NamedFile)) (c : Inputs) (keep : List (List ℕ))
     module _ (object : Parts) (origins : List Origin) where
       -- what a fact against the module that is located is explained by
       abbrev own_explained : Explained
-      own_explained = record { names = c.files; flat = flat; origins = origins; maus = object.maus; modules = object ∷ []; plan = plan }
+      own_explained = record { names = c.files; flat = flat; origins = origins; maus = object.maus; modules = object ∷ []; object = object; plan = plan }
 
       module _ (is : AreUnlocated files c keep plan ms flat object origins) where
         -- it is explained as against what is kept of the flat list
-        explained-kept : (r : LocateRefusal) → locate_details own_explained r ≡ locate_details (explained_by c plan flat is.kept object.maus) r
+        explained-kept : (r : LocateRefusal) → locate_details own_explained r ≡ locate_details (explained_by c plan flat is.kept object object.maus) r
         explained-kept r =
             explained-alike own_explained (object ∷ []) is.kept.modules is.keeps.same r
             ∙ ap (λ (o : List Origin). locate_details (record own_explained { modules = is.kept.modules; origins = o }) r) is.keeps.from
@@ -224,7 +224,11 @@ module _ (files : Option (List NamedFile)) (c : Inputs) (keep : List (List ℕ))
                         (
                           is.kept,
                           is.keeps.keeps,
-                          are ∙ explained-kept r ∙ (λ i. locate_details (explained_by c plan flat is.kept (counted i)) (named i)),
+                          (
+                            object,
+                            is.keeps.object_is,
+                            are ∙ explained-kept r ∙ (λ i. locate_details (explained_by c plan flat is.kept object (counted i)) (named i)),
+                          ),
                         ),
                       ),
                     ),

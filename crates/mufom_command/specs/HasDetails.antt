@@ -1,11 +1,13 @@
 -- The lines about what the outcome of a task names: files, the plan, sections, regions, and the modules that mention a name.
-use Rattle.std.specs.Prelude.{◌≡◌, ◌⊎◌, ℕ, ◌<◌, List, [], length, Option, Some, None, IfSome, if◌then◌else◌}
+use Rattle.std.specs.Prelude.{◌≡◌, ◌⊎◌, ℕ, ◌<◌, List, [], ◌∷◌, length, Option, Some, None, IfSome, if◌then◌else◌}
 use Rattle.mufom_host.specs.World.{NamedFile, file_named}
 use Rattle.mufom_host.specs.declared.cause.Cause.{Cause}
 use Rattle.mufom_module.specs.declared.module.Parts.{Parts}
 use Rattle.mufom_meaning.specs.Facts.{LinkFact, LocateFact}
+use Rattle.mufom_meaning.specs.Joined.{IsJoined}
 use Rattle.mufom_words.specs.Tree.{tree_of}
 use Rattle.mufom_plan.specs.declared.plan.Plan.{Plan}
+use Rattle.mufom_groups.specs.Linked.{first_name}
 use Rattle.mufom_groups.specs.Refused.{IsRefusedList}
 use Rattle.mufom_groups.specs.Refusals.{link_refusal}
 use Rattle.mufom_groups.specs.Work.{Work, ◌>>=◌, gives, one_with, sure}
@@ -21,6 +23,7 @@ use Rattle.mufom_outcome.specs.declared.outcome.Outcome.TheVariants as outcome
 use Rattle.mufom_outcome.specs.declared.outcome.Refusal.TheVariants as refusal
 use Rattle.mufom_outcome.specs.Stop.{Stop, words_refused, plan_refused, file_refused, past_limit, link_fact, keep_unknown, locate_fact, raw_too_long}
 use Rattle.mufom_outcome.specs.Stop.{text_refused, listing_refused}
+use Rattle.mufom_prune.specs.Pruned.{Remains}
 use Rattle.mufom_command.specs.Roots.{roots_by}
 use Rattle.mufom_command.specs.Works.{Kept, kept_of, kept_origins}
 use Rattle.mufom_task.specs.Reading.{modules_in, plan_in}
@@ -103,15 +106,26 @@ lines_of_name files c name = do
 
 -- ---- locating
 
+-- The one module that is located for what is kept of a list: the partial link of the list under the name of its first module, if all is kept, and
+-- otherwise what remains of that link.
+abbrev pub IsObjectBy : Option Remains → List Parts → Parts → Type 0
+IsObjectBy None ms object = IsJoined object ms (first_name ms)
+IsObjectBy (Some c) ms object = ms ≡ object ∷ []
+
+abbrev pub IsObjectOf : Kept → Parts → Type 0
+IsObjectOf kept object = IsObjectBy kept.rest kept.modules object
+
 -- The context in which an error of locating is explained. Sections, sizes of commons and undefined names are those of what is kept of the flat list;
--- the modules that mention a name or request a common are looked up in the whole flat list. `maus` is the length of an address in units.
-abbrev pub explained_by : Inputs → Plan → List FileModule → Kept → ℕ → Explained
-explained_by c plan flat kept maus = record {
+-- the modules that mention a name or request a common are looked up in the whole flat list. The value of a field is that of the one module that is
+-- located. `maus` is the length of an address in units.
+abbrev pub explained_by : Inputs → Plan → List FileModule → Kept → Parts → ℕ → Explained
+explained_by c plan flat kept object maus = record {
   names = c.files;
   flat = flat;
   origins = kept_origins kept.rest (origins_of flat);
   maus = maus;
   modules = kept.modules;
+  object = object;
   plan = plan;
 }
 
@@ -122,7 +136,8 @@ lines_of_locate files c keep maus f = do
   ms ← modules_in files c
   flat ← one_with (AreFlatFiles (tree_of c.marks) ms)
   kept ← kept_of (roots_by keep plan) (modules_of flat)
-  sure (locate_details (explained_by c plan flat kept maus) (locate_refusal f))
+  object ← one_with (IsObjectOf kept)
+  sure (locate_details (explained_by c plan flat kept object maus) (locate_refusal f))
 
 -- ---- any end
 

@@ -2,6 +2,7 @@
 use Rattle.std.specs.Prelude.{◌≡◌, ℕ, ◌≤◌, List, [], ◌∷◌, length, Option, None}
 use Rattle.mufom_module.specs.declared.module.Parts.{Parts}
 use Rattle.mufom_module.specs.Defects.{IsValid}
+use Rattle.mufom_names.specs.Names.{AreDistinct, names_of}
 use Rattle.mufom_plan.specs.declared.plan.Plan.{Plan}
 use Rattle.mufom_image.specs.Placements.{IsSoundPlan}
 use Rattle.mufom_image.specs.declared.refusal.LocateRefusal.{LocateRefusal}
@@ -103,12 +104,13 @@ pub record IsUnkept (tree : Forest) (keep : Option Roots) (ms : List Parts) (r :
   pub link : IsTracedLink tree ms places whole
   pub ends : EndsAt (own_kept keep whole.object) (outcome_of_prune r)
 
--- what is kept of such a link cannot be located
+-- what is kept of such a link, in which no two publics have one name, cannot be located
 pub record IsUnlocated (tree : Forest) (keep : Option Roots) (ms : List Parts) (r : LocateRefusal) (part : TracedModule) (plan : Plan) (places : Places)
     : Type 0 where
   pub whole : TracedModule
   pub link : IsTracedLink tree ms places whole
   pub kept : IsKeptPart keep whole part
+  pub names : AreDistinct (names_of part.object.names.publics)
   pub sound : IsSoundPlan plan
   pub met : IsMet (locate_answer (part.object ∷ []) plan) r
 

@@ -35,7 +35,7 @@ use Rattle.mufom_command.specs.Works.{IsHeld, Kept, Output, kept_of, kept_origin
 use Rattle.mufom_command.specs.FlatFiles.{AreFlatFiles}
 use Rattle.mufom_command.specs.Explain.{ExplainsTo, OpensSome}
 use Rattle.mufom_command.specs.ExplainText.{explain_text}
-use Rattle.mufom_command.specs.HasDetails.{HasDetails}
+use Rattle.mufom_command.specs.HasDetails.{HasDetails, IsObjectOf}
 use Rattle.mufom_command.specs.InputLines.{untried_lines}
 use Rattle.mufom_command.specs.Making.{IsPrinted}
 use Rattle.mufom_command.specs.Ready.{IsHelp, IsReady, ready_output}
@@ -121,10 +121,11 @@ pub record AreLinkedFlat (files : Option (List NamedFile)) (inputs : Inputs) (pl
   pub links : linked (tree_of inputs.marks) ms (gives (modules_of flat))
 
 -- `kept` is what is kept of such a list. The module with these origins is located instead of it: it means the same, and its entries come from the
--- same modules as in the list.
+-- same modules as in the list. It is the link of the list, or what remains of it.
 pub record IsKeptFlat (keep : Option Roots) (flat : List FileModule) (object : Parts) (origins : List Origin) (kept : Kept) : Type 0 where
   pub keeps : kept_of keep (modules_of flat) (gives kept)
   pub same : MeansTheSame (object ∷ []) kept.modules
+  pub object_is : IsObjectOf kept object
   pub from : origins ≡ kept_origins kept.rest (origins_of flat)
 
 -- nothing is kept of such a list for this reason

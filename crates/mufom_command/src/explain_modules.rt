@@ -7,6 +7,7 @@ ghost use Rattle.mufom_image.specs.Placements.{IsSoundPlan};
 ghost use Rattle.mufom_image.specs.Refusals.{IsMet};
 ghost use Rattle.mufom_meaning.specs.LocateAnswer.{locate_answer};
 ghost use Rattle.mufom_module.specs.declared.module.Parts.{Parts};
+ghost use Rattle.mufom_names.specs.Names.{names_of, AreDistinct};
 ghost use Rattle.mufom_module.specs.Written.{weight};
 ghost use Rattle.mufom_plan.specs.declared.plan.Plan.{Plan as Planned};
 ghost use Rattle.mufom_meaning.specs.Absolute.{absolute_of};
@@ -199,6 +200,7 @@ fn explain_fact<H: Host>(
     host: &mut H,
 ) -> Outcome
     requires few { length flat.now < 2 ^ 32 }
+    requires names { AreDistinct (names_of part.now.object.names.publics) }
     requires plan { IsSoundPlan plan.now }
     requires met { IsMet (locate_answer (part.now.object ∷ []) plan.now) refusal.now }
     requires memory { refusal.now ≢ LocateRefusal.NoMemory }
@@ -239,6 +241,7 @@ fn explain_unlocated<H: Host>(
     host: &mut H,
 ) -> Outcome
     requires few { length flat.now < 2 ^ 32 }
+    requires names { AreDistinct (names_of part.now.object.names.publics) }
     requires plan { IsSoundPlan plan.now }
     requires met { IsMet (locate_answer (part.now.object ∷ []) plan.now) refusal.now }
     ensures { (files : option (list NamedFile)) (ms : list Parts) (keep : list (list ℕ)) (made : Made)

@@ -16,8 +16,10 @@ use Rattle.mufom_meaning.specs.Placed.{placed_commons, planned_bases}
 use Rattle.mufom_meaning.specs.Readings.{Readings, readings}
 use Rattle.mufom_meaning.specs.StagingLaws.{MeansTheSame}
 use Rattle.mufom_meaning.proofs.Placed.{same_placed_commons}
+use Rattle.mufom_text.specs.Words.{Text}
+use Rattle.mufom_field_values.specs.Fields.{field_of}
 use Rattle.mufom_explain.specs.Details.{Explained, entry_lines, locate_details, numbered_lines, placement_details, region_at, region_lines}
-use Rattle.mufom_explain.specs.Details.{site_details, undefined_names}
+use Rattle.mufom_explain.specs.Details.{field_details, lines_of_field, site_details, undefined_names}
 use Rattle.mufom_explain.specs.Laws.{with_modules}
 use Rattle.mufom_explain.specs.Mentions.{mention_text}
 use Rattle.mufom_explain.specs.Region.{region_line, taken_in}
@@ -62,6 +64,10 @@ module _ (e : Explained) (ms leaves : List Parts) (same : MeansTheSame ms leaves
       (λ i. numbered_lines one n (slice_get (own i) n) (slice_get (commons_same i) (n - length (own i))))
       ∙ numbered n (slice_get (flat_sections leaves) n) (slice_get (placed_commons leaves e.plan) (n - length (flat_sections leaves)))
 
+  -- the located module is the same one
+  fields : (n address : ℕ) → field_details one n address ≡ field_details other n address
+  fields n address = ap (λ (entry : Text). entry ++ lines_of_field e.object (field_of e.object e.plan n address)) (entries n)
+
   region : (n : ℕ) (o : Option Region) → region_at one n o ≡ region_at other n o
   region n None = refl
   region n (Some r) = let own = sections in let commons_same = placed in
@@ -80,7 +86,7 @@ module _ (e : Explained) (ms leaves : List Parts) (same : MeansTheSame ms leaves
   sites : (s : Site) → site_details one s ≡ site_details other s
   sites (site.Public name) = refl
   sites (site.Counter n) = entries n
-  sites (site.Field n address) = entries n
+  sites (site.Field n address) = fields n address
   sites site.Start = refl
   sites (site.Debug n) = refl
 
@@ -90,7 +96,7 @@ module _ (e : Explained) (ms leaves : List Parts) (same : MeansTheSame ms leaves
   explained-alike (locate.CommonUnplaced name) = refl
   explained-alike (locate.Cycle name) = refl
   explained-alike (locate.DivideByZero s) = sites s
-  explained-alike (locate.Overflow n address kind size value) = entries n
+  explained-alike (locate.Overflow n address kind size value) = fields n address
   explained-alike (locate.LoadOutside n address) = entries n
   explained-alike (locate.LoadedTwice address) = refl
   explained-alike (locate.ImageLimit count) = refl

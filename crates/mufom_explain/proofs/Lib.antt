@@ -6,5 +6,6 @@ pub mod UndefinedLaws
 pub mod RegionLaws
 pub mod LinkLaws
 pub mod PlacedLaws
+pub mod WalkedLaws
 pub mod AlikeLaws
 mod Rows

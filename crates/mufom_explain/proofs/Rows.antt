@@ -1,10 +1,14 @@
 -- Worked lines: a common that does not fit a region of 13 addresses, a name that two modules define, undefined names, sections at a border
--- of modules, modules with another descriptor and with a start, and a name that no module defines.
+-- of modules, modules with another descriptor and with a start, a name that no module defines, and a value that does not fit its field.
 use Rattle.std.proofs.Common.{◌≡◌, ℕ, List, [], ◌∷◌, ◌++◌, Some, None, true, false, refl}
 use Rattle.std.specs.Prelude.{codes}
 use Rattle.std.specs.Fmt.{digits}
 use Rattle.hex.proofs.OnLiterals.{hex_on_literals}
-use Rattle.mufom_expr.specs.Tree.{number}
+use Rattle.mufom_expr.specs.declared.token.FieldKind.TheVariants.{Unsigned}
+use Rattle.mufom_expr.specs.declared.token.Letter.TheVariants.{R, X}
+use Rattle.mufom_expr.specs.Tree.{number, plus, two, variable}
+use Rattle.mufom_loads.specs.declared.load.Item.TheVariants.{Field}
+use Rattle.mufom_loads.specs.declared.load.Load.TheVariants.{One, SetSection}
 use Rattle.mufom_module.specs.declared.module.Order.TheVariants.{Most}
 use Rattle.mufom_module.specs.declared.module.Parts.{Parts}
 use Rattle.mufom_names.specs.declared.name.Public.{Public}
@@ -12,7 +16,9 @@ use Rattle.mufom_names.specs.declared.name.Reference.{Reference}
 use Rattle.mufom_plan.specs.declared.plan.Plan.{Plan}
 use Rattle.mufom_place.specs.declared.refusal.PlaceRefusal.TheVariants.{Misfit, Overlap}
 use Rattle.mufom_link.specs.declared.refusal.LinkRefusal.TheVariants.{Duplicate, DuplicateStart, Mismatch}
-use Rattle.mufom_image.specs.declared.refusal.LocateRefusal.TheVariants.{Place, Undefined}
+use Rattle.mufom_image.specs.declared.refusal.LocateRefusal.TheVariants.{Overflow, Place, Undefined}
+use Rattle.mufom_meaning.specs.Steps.{counter}
+use Rattle.mufom_meaning.specs.Values.{value_within}
 use Rattle.mufom_text.specs.Words.{line}
 use Rattle.mufom_origins.specs.Origins.{FileModule, origins_of}
 use Rattle.mufom_explain.specs.Lines.{FileNames}
@@ -67,7 +73,7 @@ abbrev flat : List FileModule
 flat = (0, first) ∷ (1, second) ∷ []
 
 abbrev explained : Explained
-explained = record { names = files; flat = flat; origins = origins_of flat; maus = 4; modules = first ∷ second ∷ []; plan = plan }
+explained = record { names = files; flat = flat; origins = origins_of flat; maus = 4; modules = first ∷ second ∷ []; object = first; plan = plan }
 
 misfit_is : locate_details explained (Place (Misfit 2 (Some 0)))
     ≡ line (codes "common 2: \"c\" size 6 align 8") ++ line (codes "  module 0 \"a\" file 0: \"a.695\"") ++ line (codes "  module 1 \"b\" file 1: \"b.695\"")
@@ -111,6 +117,7 @@ lacking = record {
   origins = origins_of ((0, root) ∷ (2, member) ∷ []);
   maus = 4;
   modules = root ∷ member ∷ [];
+  object = root;
   plan = record { regions = []; symbols = []; keep = [] };
 }
 
@@ -142,6 +149,7 @@ bordered = record {
   origins = origins_of many;
   maus = 2;
   modules = empty ∷ small ∷ empty ∷ small ∷ [];
+  object = small;
   plan = record { regions = []; symbols = []; keep = [] };
 }
 
@@ -178,3 +186,20 @@ kept_is : name_details (codes "r" ∷ codes "k0" ∷ codes "k1" ∷ []) ((0, roo
     ++ line (codes "module 1 \"k1\" file 2: \"k1\"")
 unfolding hex_on_literals digits
 kept_is = refl
+
+-- ---- a value that does not fit its field
+
+abbrev sum : Parts
+sum = record first {
+  names = record { publics = []; references = weak (codes "far") ∷ [] };
+  loads = SetSection 0 ∷ One (Field Unsigned 1 (two plus (variable X 0) (variable R 0))) ∷ [];
+}
+
+abbrev summed : Explained
+summed = record explained { flat = (0, sum) ∷ []; origins = origins_of ((0, sum) ∷ []); modules = sum ∷ []; object = sum }
+
+overflow_is : locate_details summed (Overflow 0 256 Unsigned 1 256)
+    ≡ line (codes "section 0: \"t\" size 4 align 4, module 0 \"a\" file 0: \"a.695\"") ++ line (codes "value: (X0 + R0)") ++ line (codes "  X0: \"far\"")
+    ++ line (codes "  R0: \"t\"")
+unfolding hex_on_literals digits counter value_within
+overflow_is = refl

@@ -21,6 +21,9 @@ use Rattle.mufom_meaning.specs.Placed.{placed_commons}
 use Rattle.mufom_text.specs.Words.{Text}
 use Rattle.mufom_origins.specs.declared.origins.Origin.{Origin}
 use Rattle.mufom_origins.specs.Origins.{FileModule}
+use Rattle.mufom_expr.specs.Tree.{Tree}
+use Rattle.mufom_field_values.specs.Fields.{field_of}
+use Rattle.mufom_field_values.specs.Lines.{value_lines}
 use Rattle.mufom_explain.specs.Lines.{FileNames, common_lines, module_line, section_line}
 use Rattle.mufom_explain.specs.Mentions.{mention_text}
 use Rattle.mufom_explain.specs.Region.{region_line, taken_in}
@@ -71,13 +74,15 @@ name_details names flat name = mention_text names flat (name ∷ [])
 -- ---- locating
 
 -- The context in which an error of locating is explained: the names of the files, the flat list, the origins of the located entries, the length of an
--- address in units, the located modules (the flat list, its link, or what is kept of the link), and the plan.
+-- address in units, the located modules (the flat list, its link, or what is kept of the link), the one module that is located for them, in which the
+-- variables of expressions are numbered, and the plan.
 pub record Explained : Type 0 where
   pub names : FileNames
   pub flat : List FileModule
   pub origins : List Origin
   pub maus : ℕ
   pub modules : List Parts
+  pub object : Parts
   pub plan : Plan
 
 abbrev pub sections_of : Explained → List Section
@@ -111,10 +116,19 @@ placement_details e (place.Misfit n region) = entry_lines e n ++ region_lines e 
 placement_details e (place.Overlap m n) = entry_lines e m ++ entry_lines e n
 placement_details e place.NoMemory = []
 
+-- the lines of a field's expression, if there is a field
+abbrev pub lines_of_field : Parts → Option Tree → Text
+lines_of_field m None = []
+lines_of_field m (Some t) = value_lines m t
+
+-- the lines of the section with a number, and of the value of the first field that is loaded into it at an address
+abbrev pub field_details : Explained → ℕ → ℕ → Text
+field_details e n address = entry_lines e n ++ lines_of_field e.object (field_of e.object e.plan n address)
+
 abbrev pub site_details : Explained → Site → Text
 site_details e (site.Public name) = mention_text e.names e.flat (name ∷ [])
 site_details e (site.Counter n) = entry_lines e n
-site_details e (site.Field n address) = entry_lines e n
+site_details e (site.Field n address) = field_details e n address
 site_details e site.Start = []
 site_details e (site.Debug n) = []
 
@@ -129,7 +143,7 @@ locate_details e (locate.Undefined name) = mention_text e.names e.flat (undefine
 locate_details e (locate.CommonUnplaced name) = mention_text e.names e.flat (name ∷ [])
 locate_details e (locate.Cycle name) = mention_text e.names e.flat (name ∷ [])
 locate_details e (locate.DivideByZero s) = site_details e s
-locate_details e (locate.Overflow n address kind size value) = entry_lines e n
+locate_details e (locate.Overflow n address kind size value) = field_details e n address
 locate_details e (locate.LoadOutside n address) = entry_lines e n
 locate_details e (locate.LoadedTwice address) = []
 locate_details e (locate.ImageLimit count) = []

@@ -3,6 +3,7 @@ use Rattle.std.specs.Prelude.{ℕ, ◌-◌, ◌&&◌, Bool, List, [], ◌∷◌,
 use Rattle.mufom_plan.specs.declared.plan.Region.{Region}
 use Rattle.mufom_text.specs.Words.{Text}
 use Rattle.mufom_origins.specs.Origins.{FileModule}
+use Rattle.mufom_field_values.specs.Told.{value_text}
 use Rattle.mufom_explain.specs.declared.details.LinkDetails.{LinkDetails}
 use Rattle.mufom_explain.specs.declared.details.LinkKind.{LinkKind}
 use Rattle.mufom_explain.specs.declared.details.LinkKind.TheVariants as link
@@ -54,6 +55,7 @@ explained_of c = record {
   origins = c.origins.now;
   maus = c.object.now.maus;
   modules = c.object.now ∷ [];
+  object = c.object.now;
   plan = c.plan.now;
 }
 
@@ -69,6 +71,7 @@ abbrev pub locate_lines : Explained → LocateKind → Text
 locate_lines e (locate.Entry n) = entry_lines e n
 locate_lines e (locate.Entries m n) = entry_lines e m ++ entry_lines e n
 locate_lines e (locate.Misfit section region taken) = entry_lines e section ++ taken_text e region taken
+locate_lines e (locate.Field section value) = entry_lines e section ++ value_text value
 locate_lines e (locate.Mentions mentions) = mention_text e.names (flat_of mentions.flat.now) (wanted_names mentions.wanted)
 locate_lines e locate.Nothing = []
 

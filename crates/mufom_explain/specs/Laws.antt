@@ -5,7 +5,7 @@ use Rattle.mufom_image.specs.declared.refusal.LocateRefusal.{LocateRefusal}
 use Rattle.mufom_meaning.specs.StagingLaws.{MeansTheSame}
 use Rattle.mufom_explain.specs.Details.{Explained, locate_details}
 
--- the same context with other modules
+-- the same context with other modules, in place of which the same one is located
 abbrev pub with_modules : Explained → List Parts → Explained
 with_modules e ms = record e { modules = ms }
 

@@ -6,6 +6,7 @@ ghost use Rattle.mufom_text.specs.Fitting.{IsUnitCount};
 
 use crate::mentions::Mentions;
 use crate::modules::FlatModule;
+use mufom_field_values::FieldValue;
 use mufom_module::Module;
 use mufom_numbers::{List, Text};
 use mufom_origins::Origins;
@@ -63,6 +64,11 @@ pub(crate) enum LocateKind<'a> {
         section: u32,
         region: u32,
         taken: u128,
+    },
+    // A section, and the value of a field that is loaded into it.
+    Field {
+        section: u32,
+        value: FieldValue<'a>,
     },
     Mentions(Mentions<'a>),
     Nothing,

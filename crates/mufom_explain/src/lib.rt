@@ -2,8 +2,8 @@
 //! of a line refer, and the modules that define a name or refer to it.
 //!
 //! It depends on `mufom_link` and `mufom_image` for the errors, on `mufom_place` for the regions, on
-//! `mufom_origins` for the modules from which sections come, and on `mufom_text` for numbers
-//! and names in text. Its main clauses are those of [`explain_link`], [`explain_locate`] and
+//! `mufom_origins` for the modules from which sections come, on `mufom_field_values` for the expressions of
+//! fields, and on `mufom_text` for numbers and names in text. Its main clauses are those of [`explain_link`], [`explain_locate`] and
 //! [`explain_name`]: the lines are exactly those that `link_details`, `locate_details` and `name_details`
 //! define.
 #![tactic(auto)]

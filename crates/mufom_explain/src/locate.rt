@@ -1,15 +1,18 @@
 //! Explains the error of a module that cannot be located.
 
 ghost use Rattle.std.specs.Prelude.{◌≡◌, ◌∷◌, ◌<◌, ◌^◌, [], Some, None, IfOk, length, slice_get};
+ghost use Rattle.mufom_names.specs.Names.{names_of, AreDistinct};
 ghost use Rattle.mufom_text.specs.Fitting.{IsUnitCount};
-ghost use Rattle.mufom_image.specs.Placements.{IsSoundPlan};
+ghost use Rattle.mufom_image_values.specs.Resolutions.{resolutions_of};
+ghost use Rattle.mufom_image.specs.Placements.{placing_refusal, IsSoundPlan};
 ghost use Rattle.mufom_image.specs.Refusals.{IsMet};
-ghost use Rattle.mufom_meaning.specs.Facts.{placement};
+ghost use Rattle.mufom_image.specs.Stages.{circular};
+ghost use Rattle.mufom_meaning.specs.Facts.{placement, zero_divisor};
 ghost use Rattle.mufom_meaning.specs.LocateAnswer.{locate_answer};
 ghost use Rattle.mufom_place.specs.Bases.{numbered};
 ghost use Rattle.mufom_place.specs.Facts.{first_some, unplaced_at};
 ghost use Rattle.mufom_plan.specs.Names.{listed_names};
-ghost use Rattle.mufom_explain.specs.Details.{commons_of, entry_lines, locate_details, numbered_lines, placement_details, site_details};
+ghost use Rattle.mufom_explain.specs.Details.{commons_of, entry_lines, field_details, locate_details, numbered_lines, placement_details, site_details};
 ghost use Rattle.mufom_explain.specs.Details.{undefined_names};
 ghost use Rattle.mufom_explain.specs.Explained.{explained_of, locate_lines, locate_text, taken_text};
 ghost use Rattle.mufom_explain.specs.Flat.{flat_of};
@@ -21,8 +24,9 @@ use crate::finding::find_mentions;
 use crate::naming::one_name;
 use crate::regions::{region_line, taken_in};
 use crate::undefined::undefined_names;
+use mufom_field_values::{field_value, find_field};
 use mufom_image::{LocateRefusal, Site, planned_commons};
-use mufom_image_values::resolve_references;
+use mufom_image_values::{Resolution, resolve_references};
 use mufom_meaning::modules_may_be_placed;
 use mufom_module::a_module_is_valid;
 use mufom_numbers::{Bytes, NoMemory};
@@ -119,6 +123,10 @@ impl<'a> Lines for LocateDetails<'a> {
                 self.entry_lines(out, *section);
                 self.region_line(out, *region, *taken);
             }
+            LocateKind::Field { section, value } => {
+                self.entry_lines(out, *section);
+                value.put_lines(out);
+            }
             LocateKind::Mentions(mentions) => mentions.put(out, self.context.names),
             LocateKind::Nothing => {}
         }
@@ -206,19 +214,52 @@ fn about_placement<'a>(
     }
 }
 
-// The lines that explain the place of an expression.
+// The lines of a section, and of the value of the first field that is loaded into it at an address.
+fn about_field<'a>(
+    alloc: Global,
+    context: &LocateContext<'a>,
+    resolutions: &[Resolution],
+    section: u32,
+    address: u64,
+) -> Result<LocateKind<'a>, NoMemory>
+    requires names { AreDistinct (names_of context.now.object.now.names.publics) }
+    requires plan { IsSoundPlan context.now.plan.now }
+    requires resolved { resolutions.now ≡ resolutions_of context.now.object.now }
+    requires placed { placing_refusal context.now.object.now context.now.plan.now ≡ None }
+    requires acyclic { circular context.now.object.now ≡ None }
+    ensures { IfOk result (λ kind. locate_lines (explained_of context.now) kind ≡ field_details (explained_of context.now) section address) }
+{
+    let object = context.object;
+    let found = find_field(alloc, object, resolutions, context.plan, section, address)?;
+    match found {
+        Some(value) => {
+            let value = field_value(alloc, object, value)?;
+            Ok(LocateKind::Field { section, value })
+        }
+        None => Ok(LocateKind::Entry(section)),
+    }
+}
+
+// The lines that explain the place of an expression that divides by 0.
 fn about_site<'a>(
     alloc: Global,
     context: &LocateContext<'a>,
+    resolutions: &[Resolution],
     site: &'a Site,
 ) -> Result<LocateKind<'a>, NoMemory>
-    requires { length context.now.flat.now < 2 ^ 32 }
+    requires flat { length context.now.flat.now < 2 ^ 32 }
+    requires names { AreDistinct (names_of context.now.object.now.names.publics) }
+    requires plan { IsSoundPlan context.now.plan.now }
+    requires resolved { resolutions.now ≡ resolutions_of context.now.object.now }
+    requires met { locate_answer (context.now.object.now ∷ []) context.now.plan.now ≡ Some (zero_divisor site.now) }
     ensures { IfOk result (λ kind. locate_lines (explained_of context.now) kind ≡ site_details (explained_of context.now) site.now) }
 {
     match site {
         Site::Public(name) => about_name(alloc, context, name),
         Site::Counter(number) => Ok(LocateKind::Entry(*number)),
-        Site::Field { section, .. } => Ok(LocateKind::Entry(*section)),
+        Site::Field { section, address } => {
+            about_field(alloc, context, resolutions, *section, *address)
+        }
         Site::Start => Ok(LocateKind::Nothing),
         Site::Debug(_) => Ok(LocateKind::Nothing),
     }
@@ -228,11 +269,14 @@ fn about_site<'a>(
 fn about<'a>(
     alloc: Global,
     context: &LocateContext<'a>,
+    resolutions: &[Resolution],
     commons: &[Section],
     refusal: &'a LocateRefusal,
 ) -> Result<LocateKind<'a>, NoMemory>
     requires flat { length context.now.flat.now < 2 ^ 32 }
+    requires names { AreDistinct (names_of context.now.object.now.names.publics) }
     requires plan { IsSoundPlan context.now.plan.now }
+    requires resolved { resolutions.now ≡ resolutions_of context.now.object.now }
     requires commons { commons.now ≡ commons_of (explained_of context.now) }
     requires met { IsMet (locate_answer (context.now.object.now ∷ []) context.now.plan.now) refusal.now }
     ensures { IfOk result (λ kind. locate_lines (explained_of context.now) kind ≡ locate_details (explained_of context.now) refusal.now) }
@@ -242,8 +286,12 @@ fn about<'a>(
         LocateRefusal::Undefined(_) => about_undefined(alloc, context),
         LocateRefusal::CommonUnplaced(name) => about_name(alloc, context, name),
         LocateRefusal::Cycle(name) => about_name(alloc, context, name),
-        LocateRefusal::DivideByZero(site) => about_site(alloc, context, site),
-        LocateRefusal::Overflow { section, .. } => Ok(LocateKind::Entry(*section)),
+        LocateRefusal::DivideByZero(site) => about_site(alloc, context, resolutions, site),
+        LocateRefusal::Overflow {
+            section,
+            address,
+            ..
+        } => about_field(alloc, context, resolutions, *section, *address),
         LocateRefusal::LoadOutside { section, .. } => Ok(LocateKind::Entry(*section)),
         LocateRefusal::LoadedTwice(_) => Ok(LocateKind::Nothing),
         LocateRefusal::ImageLimit(_) => Ok(LocateKind::Nothing),
@@ -253,24 +301,33 @@ fn about<'a>(
 
 /// Returns the lines that follow the error line of a module that cannot be located: the sections and commons
 /// to which it refers, with the modules from which they come, a region with the space that its sections take,
-/// or all modules that mention the names; all undefined names are listed.
+/// all modules that mention the names, or the expression of a field with the names of its variables; all
+/// undefined names are listed.
 ///
-/// `refusal` must be the error of locating the module by the plan. The time is proportional to the number of
-/// names in the modules, the sections and the plan, and the memory to the number of mentions and sections.
-/// The only error is out of memory.
+/// `refusal` must be the error of locating the module by the plan, and no two publics of the module have the
+/// same name. The time is proportional to the number of names in the modules, the sections and the plan, and the
+/// memory to the number of mentions and sections; for a field, the time is that of locating. The only error is
+/// out of memory.
 pub fn explain_locate<'a>(
     alloc: Global,
     context: LocateContext<'a>,
     refusal: &'a LocateRefusal,
 ) -> Result<LocateDetails<'a>, NoMemory>
     requires flat { length context.flat.now < 2 ^ 32 }
+    requires names { AreDistinct (names_of context.object.now.names.publics) }
     requires plan { IsSoundPlan context.plan.now }
     requires met { IsMet (locate_answer (context.object.now ∷ []) context.plan.now) refusal.now }
     ensures { IfOk result (λ details. locate_text details ≡ locate_details (explained_of context.entry) refusal.now) }
 {
     let resolutions = resolve_references(alloc, context.object)?;
     let commons = planned_commons(alloc, context.object, resolutions.as_slice(), context.plan)?;
-    let kind = about(alloc, &context, commons.as_slice(), refusal)?;
+    let kind = about(
+        alloc,
+        &context,
+        resolutions.as_slice(),
+        commons.as_slice(),
+        refusal,
+    )?;
     a_module_is_valid(context.object);
     Ok(LocateDetails {
         context,

@@ -4,6 +4,7 @@ ghost use Rattle.std.specs.Prelude.{◌∷◌, []};
 ghost use Rattle.mufom_image.specs.Placements.{IsSoundPlan};
 ghost use Rattle.mufom_image.specs.Refusals.{IsMet};
 ghost use Rattle.mufom_meaning.specs.LocateAnswer.{locate_answer};
+ghost use Rattle.mufom_names.specs.Names.{names_of, AreDistinct};
 
 use mufom_explain::{FlatModule, LocateContext, explain_locate};
 use mufom_host::MemHost;
@@ -108,7 +109,8 @@ fn files(rt: &impl Abort, alloc: Global) -> Vec<Text> {
 // The error of a module that is not located by a plan.
 fn refusal(rt: &impl Abort, alloc: Global, object: &Module, plan: &Plan) -> LocateRefusal
     requires { IsSoundPlan plan.now }
-    ensures { IsMet (locate_answer («object».now ∷ []) plan.now) result }
+    ensures names { AreDistinct (names_of «object».now.names.publics) }
+    ensures met { IsMet (locate_answer («object».now ∷ []) plan.now) result }
 {
     let names = &object.parts().names;
     assert!(rt; names.publics.len() < 1 << 32);

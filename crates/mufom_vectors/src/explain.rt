@@ -350,11 +350,15 @@ const DIVIDED_START: &[u8] = b"\xE0\x0568000\x01m\xEC\x08\x04\xCD\xE2\xD7\x00\x8
     \xE2\xD7\x04\x84\x00\x00\x00\x00\xE2\xD7\x05\x84\x00\x00\x00\x00\xE2\xD7\x06\x84\x00\x00\x00\x4D\
     \xE2\xD7\x07\x84\x00\x00\x00\x54\xE2\xC7\xBE\x01\x00\xA7\xBF\xE1";
 
-/// The value 256 in one byte; divisions by zero in a counter, in a field and in the value of a debug name.
+/// A section's base and 256 in one byte; divisions by zero in a counter, in a field and in the value of a debug name.
 const VALUES: &[File] = &[
     (
         "over",
-        Held::Section(TWO_AT_16, b"", b"\xE5\x01\xE4\xBE\x82\x01\x00\x90\x01\xBF"),
+        Held::Section(
+            TWO_AT_16,
+            b"",
+            b"\xE5\x01\xE4\xBE\xD2\x01\x82\x01\x00\xA5\x90\x01\xBF",
+        ),
     ),
     (
         "counter",
@@ -379,8 +383,10 @@ static UNKNOWN_VALUES: [Row; 4] = [
     (
         VALUES,
         "explain dump over",
-        "refused: locate: Overflow section 0 at 00000010 either 1 value 00000100\n\
-            section 0: \"t\" size 2 align 1 base 00000010, module 0 \"m\" file 0: \"over\"\n",
+        "refused: locate: Overflow section 0 at 00000010 either 1 value 00000110\n\
+            section 0: \"t\" size 2 align 1 base 00000010, module 0 \"m\" file 0: \"over\"\n\
+            value: (R0 + 256)\n\
+            \x20 R0: \"t\"\n",
         Topic::Error("Overflow"),
     ),
     (
@@ -394,7 +400,8 @@ static UNKNOWN_VALUES: [Row; 4] = [
         VALUES,
         "explain txt -o c field",
         "refused: locate: DivideByZero field at 00000010 in section 0\n\
-            section 0: \"t\" size 2 align 1 base 00000010, module 0 \"m\" file 0: \"field\"\n",
+            section 0: \"t\" size 2 align 1 base 00000010, module 0 \"m\" file 0: \"field\"\n\
+            value: (1 / 0)\n",
         Topic::Error("DivideByZero"),
     ),
     (

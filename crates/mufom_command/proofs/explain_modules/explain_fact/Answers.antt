@@ -22,7 +22,7 @@ returns-in-Ok g c = λ files ms keep made is.
     let inputs = c.args.inputs.now in let plan = c.args.plan.now in let object = c.args.part.now.object in let origins = c.args.part.now.origins in
     let refused = c.args.refusal.now in let flat = flat_of c.args.flat.now in let text : List ℕ = locate_text c.in-Ok.details in
     let own : List (List ℕ) → Explained
-    = λ names. record { names = names; flat = flat; origins = origins; maus = object.maus; modules = object ∷ []; plan = plan } in
+    = λ names. record { names = names; flat = flat; origins = origins; maus = object.maus; modules = object ∷ []; object = object; plan = plan } in
     let units : c.parts.result.now.maus ≡ object.maus = ap (λ (m : Parts). m.maus) c.parts.ensures.same in
     told-printed words (task.Locate inputs keep made) files old new before now c.print_explanation.ensures.only
     (outcome.Refused (refusal.Locate refused object.maus)) text c.print_explanation.result

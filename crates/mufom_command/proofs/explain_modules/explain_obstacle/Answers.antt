@@ -11,6 +11,10 @@ use Rattle.mufom_words.specs.Tree.{tree_of}
 use Rattle.mufom_task.specs.declared.task.Task.TheVariants as task
 use Rattle.mufom_command.proofs.explain_modules.explain_obstacle.Goals as goal
 
+pub explain_unlocated-requires-clause-names : goal.explain_unlocated-requires-clause-names
+explain_unlocated-requires-clause-names g c =
+    (subst (IsObstacle (tree_of c.args.inputs.now.marks) c.args.keep.now c.args.modules.now) c.in-Unlocated.is c.requires.obstacle).names
+
 pub returns-in-Unlinked : goal.returns-in-Unlinked
 returns-in-Unlinked g c = λ files plan made read planned.
     let inputs = c.args.inputs.now in let keep = c.args.keep.now in let ms = c.args.modules.now in

@@ -1,8 +1,8 @@
 use Rattle.std.proofs.Common.{◌≡◌, Option, subst}
-use Rattle.mufom_command.proofs.EndLaws.{if-ok-map}
+use Rattle.mufom_command.proofs.EndLaws.{if-err-map, if-ok-map}
 use Rattle.mufom_command.proofs.LocatingLaws.{link-names}
-use Rattle.mufom_command.proofs.MapLaws.{part-mapped}
-use Rattle.mufom_command.specs.Locations.{AreMapped, IsKeptPart, LocatesPart}
+use Rattle.mufom_command.proofs.MapLaws.{part-mapped, unlocated-is}
+use Rattle.mufom_command.specs.Locations.{AreMapped, IsKeptPart, IsObstacle, IsUnlocatedPart, LocatesPart}
 use Rattle.mufom_command.specs.Roots.{Roots, roots_by, roots_with}
 use Rattle.mufom_words.specs.Tree.{tree_of}
 use Rattle.mufom_command.proofs.locating.locate_modules.Goals as goal
@@ -19,3 +19,14 @@ returns-in-Ok-kept_part-clause-ok c =
     if-ok-map c.locate_part.result (LocatesPart part plan) (AreMapped tree keep plan ms)
     (λ m at. part-mapped tree c.requires.linkable.sound.tree.numbered ms c.requires.linkable.valid keep plan places whole part c.in-Ok.ensures.ok
     (subst (λ (k : Option Roots). IsKeptPart k whole part) same c.in-Ok-kept_part.ensures.ok) c.requires.plan m at) c.locate_part.ensures.ok
+
+pub returns-in-Ok-kept_part-clause-obstacle : goal.returns-in-Ok-kept_part-clause-obstacle
+returns-in-Ok-kept_part-clause-obstacle c =
+    let tree = tree_of c.args.inputs.now.marks in let names = c.args.keep.now in let plan = c.args.loaded.plan in let ms = c.args.loaded.modules in
+    let whole = c.in-Ok.link.0 in let places = c.in-Ok.link.1 in let part = c.in-Ok-kept_part.part in
+    let same : roots_with c.as_slice.result.now c.as_slice-2.result.now ≡ roots_by names plan
+    = λ i. roots_with (c.as_slice.ensures i) (c.as_slice-2.ensures i) in
+    if-err-map c.locate_part.result (IsUnlocatedPart part plan places) (IsObstacle tree names ms)
+    (λ o is. unlocated-is tree names ms places whole part plan c.in-Ok.ensures.ok
+    (subst (λ (k : Option Roots). IsKeptPart k whole part) same c.in-Ok-kept_part.ensures.ok) c.in-Ok-kept_part.ensures.names c.requires.plan o is)
+    c.locate_part.ensures.refused

@@ -5,3 +5,6 @@ use Rattle.mufom_origins_tests.proofs.explanations.refusal.Goals as goal
 
 pub locate-requires-clause-names : goal.locate-requires-clause-names
 locate-requires-clause-names g c = subst (λ (parts : Parts). AreDistinct (names_of parts.names.publics)) c.parts.ensures.same c.in-None.ensures
+
+pub returns-clause-names : goal.returns-clause-names
+returns-clause-names g c = subst (λ (parts : Parts). AreDistinct (names_of parts.names.publics)) c.parts.ensures.same c.in-None.ensures
