@@ -14,18 +14,23 @@ first-commands-pages : are_pages (take 4 commands) ≡ true
 unfolding piece_lengths are_ended
 first-commands-pages = refl
 
-middle-commands-pages : are_pages (take 4 (drop 4 commands)) ≡ true
+image-commands-pages : are_pages (take 2 (drop 4 commands)) ≡ true
 unfolding piece_lengths are_ended
-middle-commands-pages = refl
+image-commands-pages = refl
 
-last-commands-pages : are_pages (drop 4 (drop 4 commands)) ≡ true
+file-commands-pages : are_pages (take 2 (drop 2 (drop 4 commands))) ≡ true
+unfolding piece_lengths are_ended
+file-commands-pages = refl
+
+last-commands-pages : are_pages (drop 2 (drop 2 (drop 4 commands))) ≡ true
 unfolding piece_lengths are_ended
 last-commands-pages = refl
 
 commands-pages : are_pages commands ≡ true
 commands-pages =
     joined-pages (take 4 commands) (drop 4 commands) first-commands-pages
-    (joined-pages (take 4 (drop 4 commands)) (drop 4 (drop 4 commands)) middle-commands-pages last-commands-pages)
+    (joined-pages (take 2 (drop 4 commands)) (drop 2 (drop 4 commands)) image-commands-pages
+    (joined-pages (take 2 (drop 2 (drop 4 commands))) (drop 2 (drop 2 (drop 4 commands))) file-commands-pages last-commands-pages))
 
 first-records-pages : are_pages (take 7 records) ≡ true
 unfolding piece_lengths are_ended
@@ -65,9 +70,16 @@ linking-pages : are_pages linking ≡ true
 unfolding piece_lengths are_ended
 linking-pages = refl
 
-locating-pages : are_pages locating ≡ true
+first-locating-pages : are_pages (take 6 locating) ≡ true
 unfolding piece_lengths are_ended
-locating-pages = refl
+first-locating-pages = refl
+
+last-locating-pages : are_pages (drop 6 locating) ≡ true
+unfolding piece_lengths are_ended
+last-locating-pages = refl
+
+locating-pages : are_pages locating ≡ true
+locating-pages = joined-pages (take 6 locating) (drop 6 locating) first-locating-pages last-locating-pages
 
 link-pages : are_pages link_errors ≡ true
 link-pages = joined-pages linking locating linking-pages locating-pages

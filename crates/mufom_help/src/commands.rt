@@ -208,8 +208,7 @@ Usage: mufom map [--gnu] [--no-debug] [--plan PLAN] [--keep NAME]
 Links and locates FILES as `locate` does, and prints these lines:
   module J NAME file N: WORD   each module that was linked, and its file
   region K NAME at ADDRESS size S used U free F [BAR]
-                               each region of the plan; the bar has 32 cells:
-                               # full, + partly used, . empty
+                               each region; 32 cells: # full, + partly, . empty
   unused region K ENTRY        an entry of its list that places no section
   section I ADDRESS size S align A NAME module J region K
   common I ADDRESS size S align 8 NAME region K
@@ -227,10 +226,9 @@ Options:
   --gnu         accept the forms in which GNU binutils writes modules
   --no-debug    skip the debug parts without reading them
   --plan PLAN   the file of the memory plan, a TOML document
-  --keep NAME   keep only what is reachable from the public symbol NAME, from
-                the start address and from the sections with a base address
-                or in the plan's keep; all modules that are linked are still
-                printed. May be given several times
+  --keep NAME   keep only what is reachable from the public symbol NAME, the
+                start address and sections with a base or in the plan's keep;
+                modules are printed all. May be given several times
   --at ADDRESS  print only the section at this hexadecimal address, and the
                 nearest public in it, with the offset from that
   --            end the options; brackets and + keep their meaning

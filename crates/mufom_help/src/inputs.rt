@@ -84,31 +84,36 @@ pub const SHAPE: &str = "Shape: a key of the plan is missing, unknown, or has a 
 
   refused: plan: Shape FIELD
   refused: plan: Shape region R FIELD
+  refused: plan: Shape symbol S FIELD
 
-R is the number of the region in the plan, from 0. FIELD is what is wrong:
-  extra      a key that a plan does not have. At the top there is only
-             `region`; a region has only the five keys below
-  region     `region` is not an array of tables: write [[region]], not [region]
-  name       missing, not a text, empty, or the name of an earlier region
-  base       missing, not an integer, or negative
-  size       missing, not an integer, or negative
-  sections   missing, not an array of texts, or it has a name that is already
-             in the plan
-  common     not true or false, or true in a second region
+R and S are the numbers of the region and of the symbol in the plan, from 0.
+FIELD without a number is a key at the top: `region`, `symbol` or `keep`, or
+`extra` for any other. This version carries out neither symbols nor `load`: it
+refuses a plan that has them as `extra`, unless a field of theirs is wrong.
+FIELD of a region or of a symbol is what is wrong:
+  extra       a key that it does not have
+  name        missing, not a text, empty, or that of an earlier one
+  base, size  missing, not an integer, or negative
+  sections    missing, not an array of texts, or a name that is already listed
+  common      not true or false, or true in a second region
+  load        not the name of another region, or of one that has `load` itself;
+              for a symbol, not a name in the list of a region
+  kind        a symbol has none of the five keys value, start, end, load and
+              region_end, or more than one
+  value       not an integer, or negative
+  start, end  not a name in the list of a region
+  region_end  not the name of a region
 
 Usual causes:
-  - A key is misspelled or missing: all five but `common` are required.
+  - A key is misspelled or missing: a region needs name, base, size, sections.
+  - `region` or `symbol` is written as [region] instead of [[region]].
+  - `keep` is not an array of texts, or has a name twice.
   - A number is in quotes.
   - A section is listed in two regions, or * is.
 
 What to do:
-  - Correct the field. A region looks like this:
-      [[region]]
-      name = \"ram\"
-      base = 0x10000
-      size = 0x8000
-      sections = [\"data\", \"*\"]
-      common = true
+  - Put `explain` before the command: it prints a key that is not allowed.
+  - Correct the field. `mufom help plan` shows a plan.
 ";
 
 /// The text of `help Beyond`.

@@ -10,8 +10,9 @@ pub const USAGE: &str = "usage: the arguments give no command that mufom can car
   usage: bad byte        --fill needs two hexadecimal digits
   usage: bad count       `make` needs 1 to 65,536, and --maus one digit 1 to 8
   usage: bad members     a + is not between files and members, or comes twice
-  usage: bad words       an option is unknown, given twice, without its value or
-                         missing; or `help` has no text for the argument
+  usage: bad words       an option is unknown, missing, without its value, or
+                         given twice (only --keep may be); or `help` has no
+                         text for the argument
   usage: empty group     a group has no file
   usage: file count      a command for one file has more, or `make` has not one
                          number
@@ -118,6 +119,7 @@ pub const PLAN: &str = "plan: the memory plan could not be used
 the file. `read fault: plan` means that it could not be read: `mufom help read`.
 
 A plan is the file after --plan. It says where the sections go:
+  keep = [\"vectors\"]         # sections that stay with --keep, if there are any
   [[region]]
   name = \"rom\"
   base = 0x1000              # the lowest address
@@ -129,12 +131,6 @@ A plan is the file after --plan. It says where the sections go:
   size = 0x4000
   sections = [\"data\", \"bss\"]
   common = true              # commons go here too; one region at most
-  load = \"rom\"               # the region from which they are copied
-  [[symbol]]
-  name = \"stack_top\"         # a public symbol that the plan defines by one of
-  value = 0x14000            # value, start, end, load and region_end
-Above all regions there may be a list of sections that stay with --keep:
-  keep = [\"vectors\"]
 ";
 
 /// The text about error lines that begin with a word.

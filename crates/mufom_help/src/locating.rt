@@ -179,8 +179,8 @@ Usual causes:
 
 What to do:
   - Put `explain` before the command: it names the section and its file, or the
-    module that defines the symbol. Then look for the section or the symbol in
-    what `mufom show FILE` prints.
+    module that defines the symbol, and of a field the expression, after
+    `value:`. Then look for the others in what `mufom show FILE` prints.
   - Correct the divisor in the source, or link the module that defines it.
   - For a debug expression, use --no-debug.
 ";
@@ -245,8 +245,8 @@ Usual causes:
   - A constant is too large, or is negative in an unsigned field.
 
 What to do:
-  - Put `explain` before the command: it names section N and its file. Then look
-    at the lines `field` of that section in what `mufom show FILE` prints.
+  - Put `explain` before the command: it names section N and its file, and after
+    `value:` the expression of the field, with what its variables are.
   - Use the long form of the instruction in the source.
   - Or place the target nearer: list the two sections next to each other in the
     plan, or move the region to low addresses.
