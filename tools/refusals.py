@@ -2,9 +2,9 @@
 
     python3 tools/refusals.py PROGRAM
 
-Makes the file of each example, runs the program, and compares the line on standard error with the row. Then
-it compares what `explain` prints for the same arguments: that line, the file, the plan, the modules or the
-argument that the error is about, an empty line and what `help` prints.
+Makes the files of each example, runs the program, and compares the line on standard error with the row. Then
+it compares what `explain` prints for the same arguments: that line, the lines of the row's column or of the
+sentence above the table, an empty line and what `help` prints.
 Examples that are only described are skipped. The last line gives the number of comparisons that hold
 and of those that do not; the status is 0 if all hold.
 """
@@ -18,22 +18,10 @@ import tempfile
 TOP = os.path.dirname(os.path.dirname(os.path.abspath(__file__)))
 SAMPLE = open(os.path.join(TOP, "crates/mufom/data/a.695"), "rb").read()
 SECTIONS_END = 100
-# The lines that `explain` prints below an error line about modules, arguments or an input that is not there.
-DETAILS = {
-    "refused: link: DuplicateStart": 'module 0 "A" file 0: "a.695"\nmodule 1 "A" file 1: "a.695"\n',
-    "usage: bad address": 'word 2: "0x1000"\n',
-    "usage: bad byte": 'word 2: "100"\n',
-    "usage: bad count": 'word 1: "0"\n',
-    "usage: bad members": 'word 1: "+"\n',
-    "usage: bad words": 'word 1: "--zip"\n',
-    "usage: empty group": 'word 4: "]"\n',
-    "usage: file count": 'word 2: "a.695"\n',
-    "usage: no command": 'word 0: "dmup"\n',
-    "usage: open group": 'word 3: "["\n',
-    "usage: stray bracket": 'word 1: "]"\n',
-    "read fault: file 0": 'file 0: "absent.695": no such file\n',
-    "read fault: plan": 'plan: "absent": no such file\n',
-}
+HEADER = 'module "m" processor "68000" maus 4 order M'
+# How the columns of explain's lines are called. The second begins with the error line, without `refused: `.
+BELOW = "below the line `explain` prints"
+WHOLE = "what `explain` prints"
 # The positions, in the sample, of the four bytes of each part's offset.
 OFFSETS = {"external": 13 + 8 * 3 + 4, "debug": 13 + 8 * 4 + 4, "data": 13 + 8 * 5 + 4, "trailer": 13 + 8 * 6 + 4, "end": 13 + 8 * 7 + 4}
 
@@ -70,50 +58,81 @@ def file_of(example):
     return None
 
 
-def plan_example(name, cells):
-    """Returns the arguments, the plan, the error line and the lines of `explain` of a row about a plan; None if it has no such example."""
-    example = re.fullmatch(r"`plan ([^`]*)`", cells[2])
-    if not example:
-        return None
-    plan = "".join(line.strip() + "\n" for line in example.group(1).split(" / "))
-    lines = "".join(line + "\n" for line in re.findall(r"`([^`]*)`", cells[3]))
-    return ["dump", "--plan", "p", "a.695"], ("p", plan.encode()), "refused: " + name.replace(" N", " 0"), lines
+def listing_of(text):
+    """Returns the listing of an example, with a first line if it has none."""
+    lines = [line.strip() for line in text.split(";")]
+    if not lines[0].startswith("module"):
+        lines.insert(0, HEADER)
+    return "".join(line + "\n" for line in lines).encode()
 
 
-def wanted_of(name, place):
-    """Returns the arguments with which a file is tried, and the error line that names this place."""
-    if name.startswith("text line N: "):
-        return ["fromtxt", "-o", "c", "x.695"], "refused: " + name.replace(" N:", f" {place}:").replace("ADDRESS", "0")
-    return ["check", "x.695"], f"refused: file 0 at {place}: {name}"
+class Row:
+    """A row of a table: its name, its example, and what `explain` prints, by the columns of the table."""
+
+    def __init__(self, header, cells):
+        columns = dict(zip(header, cells))
+        self.name = re.fullmatch(r"`([^`]*)`", cells[0]).group(1)
+        self.parts = dict(part.partition(" ")[::2] for part in re.findall(r"`([^`]*)`", columns.get("example", "")))
+        self.place = re.search(r"` at ([0-9 ]+)$", columns.get("example", ""))
+        self.line = None
+        told = columns.get(WHOLE) or columns.get(BELOW)
+        self.details = re.findall(r"`([^`]*)`", told) if told else None
+        if WHOLE in columns:
+            self.line = self.details.pop(0)
+
+    def files(self):
+        """Returns the files of the example, and the names of those that `build` makes modules of."""
+        files, built = {}, []
+        if "plan" in self.parts:
+            files["p"] = "".join(line.strip() + "\n" for line in self.parts["plan"].split(" / ")).encode()
+        for name, text in zip(("x", "y"), self.parts.get("listing", "").split("//") if "listing" in self.parts else []):
+            files[name + ".txt"] = listing_of(text)
+            if "words" in self.parts:
+                built.append(name)
+        for kind, rest in self.parts.items():
+            data = file_of(kind + " " + rest)
+            if data is not None and self.place:
+                files["x.695"] = data
+        return files, built
+
+    def arguments(self):
+        """Returns the arguments that give the error, and its line; None if the example is only described."""
+        if "words" in self.parts:
+            words = self.parts["words"].split()
+            if self.line is not None:
+                return words, "refused: " + self.line
+            return words, self.name.replace(" N", " 0")
+        if "plan" in self.parts:
+            return ["dump", "--plan", "p", "a.695"], "refused: " + self.name.replace(" N", " 0")
+        if "listing" in self.parts:
+            place = self.place.group(1).split() if self.place else ["", ""]
+            return ["build", "-o", "c", "x.txt"], "refused: " + self.name.replace("line N column M", "line %s column %s" % tuple(place))
+        if not self.place or not self.files()[0]:
+            return None
+        place = self.place.group(1)
+        if self.name.startswith("text line N: "):
+            return ["fromtxt", "-o", "c", "x.695"], "refused: " + self.name.replace(" N:", f" {place}:").replace("ADDRESS", "0")
+        return ["check", "x.695"], f"refused: file 0 at {place}: {self.name}"
+
+    def explained_lines(self):
+        """Returns the lines between the error line and the text of `help`."""
+        if self.details is None:
+            # The sentence above the table: the file is named.
+            file = "x.txt" if "listing" in self.parts else "x.695"
+            return f'file 0: "{file}"\n'
+        return "".join(line + "\n" for line in self.details)
 
 
 def examples():
+    header = []
     for line in open(os.path.join(TOP, "docs/REFUSALS.md")):
         cells = [cell.strip() for cell in line.strip().strip("|").split("|")]
-        name = re.fullmatch(r"`([^`]*)`", cells[0])
-        if not name:
-            continue
-        if name.group(1).startswith("plan: "):
-            found = plan_example(name.group(1), cells)
-            if found:
-                yield found
-            continue
-        if len(cells) in (4, 5):
-            # Only rows of an object file have a column for the offset, before the example.
-            cell = cells[-2]
-            example = re.fullmatch(r"`([^`]*)` at (\d+)", cell)
-            if example and file_of(example.group(1)) is not None:
-                words, wanted = wanted_of(name.group(1), example.group(2))
-                yield words, ("x.695", file_of(example.group(1))), wanted, 'file 0: "x.695"\n'
-            example = re.fullmatch(r"`words ([^`]*)`", cell)
-            if example:
-                wanted = "refused: " + name.group(1).replace("NAME", '"z"')
-                yield example.group(1).split(), None, wanted, DETAILS.get(wanted, "")
-        elif len(cells) == 3:
-            example = re.fullmatch(r"`words ([^`]*)`", cells[2])
-            if example:
-                wanted = name.group(1).replace(" N", " 0")
-                yield example.group(1).split(), None, wanted, DETAILS.get(wanted, "")
+        if cells[0] in ("error", "line"):
+            header = cells
+        elif line.startswith("| `"):
+            row = Row(header, cells)
+            if row.arguments() is not None:
+                yield row
 
 
 def topic_of(words, wanted):
@@ -135,6 +154,35 @@ def explained(program, folder, words, wanted, details):
     return wanted + "\n" + details + "\n" + text.stdout
 
 
+def prepare(program, folder, row):
+    """Writes the files of an example. Returns the error of `build`, empty if there is none."""
+    files, built = row.files()
+    for name, data in files.items():
+        open(os.path.join(folder, name), "wb").write(data)
+    for name in built:
+        run = subprocess.run([program, "build", "-o", name + ".695", name + ".txt"], cwd=folder, capture_output=True, text=True, check=False)
+        if run.returncode != 0:
+            return run.stderr
+    return ""
+
+
+def try_row(program, folder, row):
+    """Compares the error line of an example, and what `explain` prints; returns what differs."""
+    words, wanted = row.arguments()
+    broken = prepare(program, folder, row)
+    if broken:
+        return ["%s: its listing has an error: %s" % (row.name, broken)] * 2
+    differ = []
+    run = subprocess.run([program, *words], cwd=folder, capture_output=True, text=True, check=False)
+    if run.stderr != wanted + "\n" or run.stdout != "":
+        differ.append("%s: wanted %r, got %r, %r" % (" ".join(words), wanted, run.stderr, run.stdout))
+    want = explained(program, folder, words, wanted, row.explained_lines())
+    run = subprocess.run([program, "explain", *words], cwd=folder, capture_output=True, text=True, check=False)
+    if run.stdout != want or run.stderr != "" or run.returncode != 0:
+        differ.append("explain %s: wanted %r, got %r, %r" % (" ".join(words), want, run.stdout, run.stderr))
+    return differ
+
+
 def main():
     if len(sys.argv) < 2:
         sys.exit(__doc__.strip())
@@ -142,22 +190,12 @@ def main():
     passed = failed = 0
     with tempfile.TemporaryDirectory() as folder:
         open(os.path.join(folder, "a.695"), "wb").write(SAMPLE)
-        for words, file, wanted, details in examples():
-            if file is not None:
-                open(os.path.join(folder, file[0]), "wb").write(file[1])
-            run = subprocess.run([program, *words], cwd=folder, capture_output=True, text=True, check=False)
-            if run.stderr == wanted + "\n" and run.stdout == "":
-                passed += 1
-            else:
-                failed += 1
-                print("%s: wanted %r, got %r, %r" % (" ".join(words), wanted, run.stderr, run.stdout))
-            want = explained(program, folder, words, wanted, details)
-            run = subprocess.run([program, "explain", *words], cwd=folder, capture_output=True, text=True, check=False)
-            if run.stdout == want and run.stderr == "" and run.returncode == 0:
-                passed += 1
-            else:
-                failed += 1
-                print("explain %s: wanted %r, got %r, %r" % (" ".join(words), want, run.stdout, run.stderr))
+        for row in examples():
+            differ = try_row(program, folder, row)
+            failed += len(differ)
+            passed += 2 - len(differ)
+            for line in differ:
+                print(line)
     print("%d passed, %d failed" % (passed, failed))
     sys.exit(1 if failed else 0)
 
