@@ -62,6 +62,7 @@ try_page README.md crates/mufom/data || status=1
 try_page docs/GUIDE.md examples || status=1
 try_page docs/COMMANDS.md crates/mufom/data || status=1
 try_page docs/REFUSALS.md crates/mufom/data || status=1
+try_page docs/PLANS.md examples || status=1
 try_page docs/GNU.md examples || status=1
 try_page docs/LD-USERS.md examples || status=1
 exit $status

@@ -1,5 +1,5 @@
 -- The outcome where modules are not linked or not located, and the end of a task whose work on what was read ends.
-use Rattle.std.proofs.Common.{◌≡◌, ◌≢◌, ◌∙◌, ℕ, Bool, cond, length, true, false, List, Option, Some, None, option_map, Result, Ok, Err, IfSome, IfOk, IfErr}
+use Rattle.std.proofs.Common.{◌≡◌, ◌≢◌, ◌∙◌, ℕ, Bool, cond, length, true, false, List, [], Option, Some, None, option_map, Result, Ok, Err, IfSome, IfOk, IfErr}
 use Rattle.std.proofs.Common.{nat_lt, slice_get, refl, sym, ap, subst, inl, inr}
 use Rattle.mufom_host.specs.World.{Faults, Meaning, NamedFile, GrowsBy, OnlyOpens}
 use Rattle.mufom_module.specs.declared.module.Parts.{Parts}
@@ -7,22 +7,18 @@ use Rattle.mufom_plan.specs.declared.plan.Plan.{Plan}
 use Rattle.mufom_meaning.specs.declared.located.LocatedParts.{LocatedParts}
 use Rattle.mufom_meaning.specs.Facts.{LinkFact, LocateFact, placement, undefined, common_unplaced, cycle, image_limit, zero_divisor, load_outside}
 use Rattle.mufom_meaning.specs.Facts.{loaded_twice, overflow}
-use Rattle.mufom_numbers.specs.declared.limits.TheConstants.{MOST_IMAGE_BYTES}
-use Rattle.mufom_plan.specs.Commons.{has_common}
-use Rattle.mufom_place.specs.declared.refusal.PlaceRefusal.{PlaceRefusal}
 use Rattle.mufom_place.specs.declared.refusal.PlaceRefusal.TheVariants as place_refusal
-use Rattle.mufom_place.specs.Facts.{◌or_else◌, first_some, place_refusal as placing}
-use Rattle.mufom_place.proofs.FactLemmas.{refusal_sound}
-use Rattle.mufom_meaning.specs.Counts.{loaded_total}
-use Rattle.mufom_meaning.specs.Cycles.{is_on_cycle}
-use Rattle.mufom_meaning.specs.Flat.{common_names, flat_sections, public_names, width}
-use Rattle.mufom_meaning.specs.LocateAnswer.{cycle_at, first_undefined, first_unplaced_common, image_limit_at, locate_answer}
-use Rattle.mufom_meaning.specs.Placed.{placed_commons, planned_bases}
-use Rattle.mufom_meaning.specs.Values.{setting}
-use Rattle.mufom_meaning.specs.Walk.{walk_answer}
-use Rattle.mufom_meaning.proofs.facts.Answers.{first_some_at}
-use Rattle.mufom_meaning.proofs.facts.WalkAnswers.{walk_sound}
+use Rattle.mufom_place.specs.Facts.{◌or_else◌}
+use Rattle.mufom_planned.specs.PlanSymbols.{first_shared, with_symbols}
+use Rattle.mufom_planned.specs.Planned.{IsPlanned, PlanFact, copied_answer, of_list, planned_answer, shared_name}
+use Rattle.mufom_planned.specs.PlanLaws.{AreLoadedInPlace}
+use Rattle.mufom_planned.proofs.NeverLacks.{planned_never_lacks}
+use Rattle.mufom_planned.proofs.Plain.{plain_plans_mean_the_same}
+use Rattle.mufom_meaning.specs.LocateAnswer.{locate_answer}
 use Rattle.mufom_meaning.specs.Location.{IsLocation}
+use Rattle.mufom_locating.specs.Refusals.{IsMetBy, list_fact}
+use Rattle.mufom_locating.specs.declared.refusal.PlannedRefusal.{PlannedRefusal}
+use Rattle.mufom_locating.specs.declared.refusal.PlannedRefusal.TheVariants as planned
 use Rattle.mufom_image.specs.declared.refusal.LocateRefusal.{LocateRefusal}
 use Rattle.mufom_image.specs.declared.refusal.LocateRefusal.TheVariants as locate
 use Rattle.mufom_image.specs.Refusals.{IsMet}
@@ -33,9 +29,9 @@ use Rattle.mufom_groups.specs.Work.{Work, gives, stops, with_stops}
 use Rattle.mufom_outcome.specs.declared.outcome.Outcome.{Outcome}
 use Rattle.mufom_outcome.specs.declared.outcome.Outcome.TheVariants as outcome
 use Rattle.mufom_outcome.specs.declared.outcome.Refusal.TheVariants as refusal
-use Rattle.mufom_outcome.specs.Stop.{Stop, words_refused, plan_refused, file_refused, past_limit, link_fact, keep_unknown, locate_fact, raw_too_long}
+use Rattle.mufom_outcome.specs.Stop.{Stop, words_refused, plan_refused, file_refused, past_limit, link_fact, keep_unknown, name_shared, locate_fact, bytes_refused}
 use Rattle.mufom_outcome.specs.Stop.{text_refused, listing_refused}
-use Rattle.mufom_command.specs.Works.{located, located_unless, maus_of, work_of}
+use Rattle.mufom_command.specs.Works.{located, located_unless, maus_of, stop_of, work_of}
 use Rattle.mufom_task.specs.declared.task.Inputs.{Inputs}
 use Rattle.mufom_task.specs.declared.task.Task.{Task}
 use Rattle.mufom_task.specs.Calls.{IsOpenedCount}
@@ -44,7 +40,8 @@ use Rattle.mufom_task.specs.InputsRead.{NamesPlan, ReadingStops}
 use Rattle.mufom_task.specs.Tasks.{input_names, inputs_of, reads_files}
 use Rattle.mufom_command.specs.RunParts.{StopsFor}
 use Rattle.mufom_command.specs.WorkEnds.{EndsAt, IsOfModules}
-use Rattle.mufom_outcome.specs.Outcomes.{outcome_of_link, outcome_of_locate}
+use Rattle.mufom_outcome.specs.Outcomes.{outcome_of_link, outcome_of_locate, outcome_of_planned}
+use Rattle.mufom_outcome.specs.LocateRefusals.{locate_refusal}
 use Rattle.mufom_task.proofs.InputLaws.{call_between}
 use Rattle.mufom_task.proofs.InputsLaws.{over-map}
 
@@ -58,88 +55,97 @@ link-ends work link.DuplicateStart (f, is, ends) = inr (link_fact f, tt, ap (λ 
 
 -- ---- a locate fact
 
-pub location-of : (plan : Plan) (ms : List Parts) (r : LocatedParts) → located plan ms (gives r) → IsLocation ms plan r
-location-of plan ms r is = by (locate_answer ms plan) is where
-  by : (o : Option LocateFact) → located_unless o plan ms (gives r) → IsLocation ms plan r
+pub location-of : (plan : Plan) (ms : List Parts) (r : LocatedParts) → located plan ms (gives r) → IsPlanned ms plan r
+location-of plan ms r is = by (planned_answer ms plan) is where
+  by : (o : Option PlanFact) → located_unless o plan ms (gives r) → IsPlanned ms plan r
   by None is = is
   by (Some f) is = absurd is
 
--- the answer in place of a placement that was not made for lack of memory
-abbrev lacking : LocateFact
-lacking = placement place_refusal.NoMemory
+-- no symbol of the plan has the name of a public of a list that is located, or that another fact keeps from it
+pub unshared : (ms : List Parts) (plan : Plan) → planned_answer ms plan ≡ None → first_shared ms plan ≡ None
+unshared ms plan none = by (first_shared ms plan) none where
+  by : (o : Option (List ℕ)) → (option_map shared_name o or_else option_map of_list (copied_answer (with_symbols ms plan) plan)) ≡ None → o ≡ None
+  by None is = refl
+  by (Some name) never = absurd cc
 
-or-lacking : (o u : Option LocateFact) → o ≢ Some lacking → u ≢ Some lacking → (o or_else u) ≢ Some lacking
-or-lacking None u first second = second
-or-lacking (Some f) u first second = first
+pub unshared-by : (ms : List Parts) (plan : Plan) (f : LocateFact) → planned_answer ms plan ≡ Some (of_list f) → first_shared ms plan ≡ None
+unshared-by ms plan f is = by (first_shared ms plan) is where
+  by : (o : Option (List ℕ)) → (option_map shared_name o or_else option_map of_list (copied_answer (with_symbols ms plan) plan)) ≡ Some (of_list f) → o ≡ None
+  by None is = refl
+  by (Some name) never = absurd cc
 
-named-lacks : (make : List ℕ → LocateFact) → ((name : List ℕ) → make name ≢ lacking) → (o : Option (List ℕ)) → option_map make o ≢ Some lacking
-named-lacks make other None = λ same. cc
-named-lacks make other (Some name) = λ same. let is : make name ≡ lacking = cc in other name is
+own-fact : (o : Option LocateFact) → list_fact (option_map of_list o) ≡ o
+own-fact None = refl
+own-fact (Some f) = refl
 
-chosen-lacks : (b : Bool) (f : LocateFact) → f ≢ lacking → cond b (Some f) None ≢ Some lacking
-chosen-lacks true f other = λ same. let is : f ≡ lacking = cc in other is
-chosen-lacks false f other = λ same. cc
+-- an error that reports a fact about the list with the plan's symbols
+met-none : (r : LocateRefusal) → r ≢ locate.NoMemory → IsMet None r → ⊥
+met-none (locate.Place p) other met = absurd cc
+met-none (locate.Undefined name) other met = absurd cc
+met-none (locate.CommonUnplaced name) other met = absurd cc
+met-none (locate.Cycle name) other met = absurd cc
+met-none (locate.DivideByZero s) other met = absurd cc
+met-none (locate.Overflow section address kind size value) other met = absurd cc
+met-none (locate.LoadOutside section address) other met = absurd cc
+met-none (locate.LoadedTwice address) other met = absurd cc
+met-none (locate.ImageLimit count) other met = absurd cc
+met-none locate.NoMemory other met = other refl
+
+met-by : (shared : Option (List ℕ)) (o : Option LocateFact) (r : LocateRefusal) → r ≢ locate.NoMemory
+    → IsMet (list_fact (option_map shared_name shared or_else option_map of_list o)) r → (shared ≡ None) × IsMet o r
+met-by None o r other met = (refl, subst (λ (u : Option LocateFact). IsMet u r) (own-fact o) met)
+met-by (Some name) o r other met = absurd (met-none r other met)
+
+pub met-listed : (ms : List Parts) (plan : Plan) (r : LocateRefusal) → r ≢ locate.NoMemory → IsMet (list_fact (planned_answer ms plan)) r
+    → (first_shared ms plan ≡ None) × IsMet (copied_answer (with_symbols ms plan) plan) r
+met-listed ms plan r other met = met-by (first_shared ms plan) (copied_answer (with_symbols ms plan) plan) r other met
+
+-- the fact about the list, which is the first one
+pub listed : (o : Option PlanFact) (f : LocateFact) → list_fact o ≡ Some f → o ≡ Some (of_list f)
+listed None f is = absurd cc
+listed (Some (shared_name name)) f is = absurd cc
+listed (Some (of_list own)) f is = let same : own ≡ f = cc in ap (λ (l : LocateFact). Some (of_list l)) same
 
 module _ (ms : List Parts) (plan : Plan) where
-  -- no placement is refused for lack of memory
-  never-lacking : locate_answer ms plan ≢ Some lacking
-  unfolding locate_answer
-  never-lacking =
-      let s = setting ms (planned_bases ms plan) in
-      or-lacking _ _ (placed (placing (width ms) plan (flat_sections ms) (placed_commons ms plan)) refl)
-      (or-lacking _ _ (named-lacks undefined (λ name same. cc) (first_undefined ms))
-      (or-lacking _ _ (named-lacks common_unplaced (λ name same. cc) (first_unplaced_common ms plan))
-      (or-lacking _ _ cycles
-      (or-lacking _ _ (chosen-lacks (nat_lt MOST_IMAGE_BYTES (loaded_total ms)) (image_limit (loaded_total ms)) (λ same. cc))
-      (λ same. walk_sound ms s lacking same)))))
-    where
-      placed : (o : Option PlaceRefusal) → placing (width ms) plan (flat_sections ms) (placed_commons ms plan) ≡ o → option_map placement o ≢ Some lacking
-      placed None is = λ same. cc
-      placed (Some r) is = λ same. let lacks : r ≡ place_refusal.NoMemory = cc in
-          refusal_sound (width ms) plan (flat_sections ms) (placed_commons ms plan) place_refusal.NoMemory (is ∙ ap (λ (p : PlaceRefusal). Some p) lacks)
+  pub is-located : (r : LocatedParts) → IsPlanned ms plan r → located plan ms (gives r)
+  is-located r is = subst (λ (o : Option PlanFact). located_unless o plan ms (gives r)) (sym is.locates) is
 
-      cycles : first_some (cycle_at ms) (public_names ms) ≢ Some lacking
-      cycles = λ same. let found = first_some_at (cycle_at ms) (public_names ms) lacking same in
-          chosen-lacks (is_on_cycle ms found.0) (cycle found.0) (λ is. cc) found.2
+  pub is-unlocated : (f : PlanFact) → planned_answer ms plan ≡ Some f → located plan ms (stops (stop_of (maus_of ms) f))
+  is-unlocated f met = subst (λ (o : Option PlanFact). located_unless o plan ms (stops (stop_of (maus_of ms) f))) (sym met) refl
 
-  pub is-located : (r : LocatedParts) → IsLocation ms plan r → located plan ms (gives r)
-  is-located r is = subst (λ (o : Option LocateFact). located_unless o plan ms (gives r)) (sym is.locates) is
+  fact-ends : (f : LocateFact) → f ≢ placement place_refusal.NoMemory → list_fact (planned_answer ms plan) ≡ Some f
+      → EndsAt (located plan ms) (outcome.Refused (refusal.Locate (locate_refusal f) (maus_of ms)))
+  fact-ends f other met =
+      inr (locate_fact (maus_of ms) f, other, refl, is-unlocated (of_list f) (listed (planned_answer ms plan) f met))
 
-  pub is-unlocated : (f : LocateFact) → locate_answer ms plan ≡ Some f → located plan ms (stops (locate_fact (maus_of ms) f))
-  is-unlocated f met = subst (λ (o : Option LocateFact). located_unless o plan ms (stops (locate_fact (maus_of ms) f))) (sym met) refl
+  list-ends : (r : LocateRefusal) → IsMet (list_fact (planned_answer ms plan)) r → EndsAt (located plan ms) (outcome_of_locate (maus_of ms) r)
+  list-ends locate.NoMemory met = inl refl
+  list-ends (locate.Place p) met = fact-ends (placement p) (λ same. planned_never_lacks ms plan
+      (listed (planned_answer ms plan) (placement p) met ∙ ap (λ (f : LocateFact). Some (of_list f)) same)) met
+  list-ends (locate.Undefined name) met = fact-ends (undefined name) (λ same. cc) met
+  list-ends (locate.CommonUnplaced name) met = fact-ends (common_unplaced name) (λ same. cc) met
+  list-ends (locate.Cycle name) met = fact-ends (cycle name) (λ same. cc) met
+  list-ends (locate.DivideByZero s) met = fact-ends (zero_divisor s) (λ same. cc) met
+  list-ends (locate.Overflow section address kind size value) met = fact-ends (overflow section address kind size value) (λ same. cc) met
+  list-ends (locate.LoadOutside section address) met = fact-ends (load_outside section address) (λ same. cc) met
+  list-ends (locate.LoadedTwice address) met = fact-ends (loaded_twice address) (λ same. cc) met
+  list-ends (locate.ImageLimit count) met = fact-ends (image_limit count) (λ same. cc) met
 
-  pub locate-ends : (r : LocateRefusal) → IsMet (locate_answer ms plan) r → EndsAt (located plan ms) (outcome_of_locate (maus_of ms) r)
-  locate-ends locate.NoMemory met = inl refl
-  locate-ends (locate.Place p) met = inr (
-    locate_fact (maus_of ms) (placement p),
-    (λ same. never-lacking (met ∙ ap (λ (f : LocateFact). Some f) same)),
-    refl,
-    is-unlocated (placement p) met,
-  )
-  locate-ends (locate.Undefined name) met = inr (locate_fact (maus_of ms) (undefined name), (λ same. cc), refl, is-unlocated (undefined name) met)
-  locate-ends (locate.CommonUnplaced name) met = inr (
-    locate_fact (maus_of ms) (common_unplaced name),
-    (λ same. cc),
-    refl,
-    is-unlocated (common_unplaced name) met,
-  )
-  locate-ends (locate.Cycle name) met = inr (locate_fact (maus_of ms) (cycle name), (λ same. cc), refl, is-unlocated (cycle name) met)
-  locate-ends (locate.DivideByZero s) met = inr (locate_fact (maus_of ms) (zero_divisor s), (λ same. cc), refl, is-unlocated (zero_divisor s) met)
-  locate-ends (locate.Overflow section address kind size value) met =
-      inr (locate_fact (maus_of ms) (overflow section address kind size value), (λ same. cc), refl, is-unlocated (overflow section address kind size value) met)
-  locate-ends (locate.LoadOutside section address) met = inr (
-    locate_fact (maus_of ms) (load_outside section address),
-    (λ same. cc),
-    refl,
-    is-unlocated (load_outside section address) met,
-  )
-  locate-ends (locate.LoadedTwice address) met = inr (
-    locate_fact (maus_of ms) (loaded_twice address),
-    (λ same. cc),
-    refl,
-    is-unlocated (loaded_twice address) met,
-  )
-  locate-ends (locate.ImageLimit count) met = inr (locate_fact (maus_of ms) (image_limit count), (λ same. cc), refl, is-unlocated (image_limit count) met)
+  pub locate-ends : (r : PlannedRefusal) → IsMetBy (planned_answer ms plan) r → EndsAt (located plan ms) (outcome_of_planned (maus_of ms) r)
+  locate-ends (planned.SharedName name) met = inr (name_shared name, tt, refl, is-unlocated (shared_name name) met)
+  locate-ends (planned.Locate r) met = list-ends r met
+
+-- ---- a plan without symbols, all of whose regions are loaded where they are
+
+module _ (ms : List Parts) (plan : Plan) (none : plan.symbols ≡ []) (in_place : AreLoadedInPlace plan.regions) where
+  pub plain-answer : planned_answer ms plan ≡ option_map of_list (locate_answer ms plan)
+  plain-answer = (plain_plans_mean_the_same ms plan none in_place).0
+
+  pub plain-located : (r : LocatedParts) → IsLocation ms plan r → located plan ms (gives r)
+  plain-located r is = is-located ms plan r (((plain_plans_mean_the_same ms plan none in_place).1 r).1 is)
+
+  pub plain-ends : (r : LocateRefusal) → IsMet (locate_answer ms plan) r → EndsAt (located plan ms) (outcome_of_locate (maus_of ms) r)
+  plain-ends r met = list-ends ms plan r (subst (λ (o : Option LocateFact). IsMet o r) (sym (ap list_fact plain-answer ∙ own-fact (locate_answer ms plan))) met)
 
 pub if-ok-map : {A E : Type 0} (r : Result A E) (P Q : A → Type 0) → ((a : A) → P a → Q a) → IfOk r P → IfOk r Q
 if-ok-map (Ok a) P Q along is = along a is
@@ -163,7 +169,8 @@ ended-stop : (t : Task) (s : Stop) (old mid : Meaning) (before between : Faults)
 ended-stop t (link_fact f) old mid before between is cause = record { stop = link_fact f; is = refl; of_inputs = tt; cause = cause }
 ended-stop t (keep_unknown name) old mid before between is cause = record { stop = keep_unknown name; is = refl; of_inputs = tt; cause = cause }
 ended-stop t (locate_fact maus f) old mid before between is cause = record { stop = locate_fact maus f; is = refl; of_inputs = is; cause = cause }
-ended-stop t (raw_too_long count) old mid before between is cause = record { stop = raw_too_long count; is = refl; of_inputs = tt; cause = cause }
+ended-stop t (bytes_refused b) old mid before between is cause = record { stop = bytes_refused b; is = refl; of_inputs = tt; cause = cause }
+ended-stop t (name_shared name) old mid before between is cause = record { stop = name_shared name; is = refl; of_inputs = tt; cause = cause }
 ended-stop t (text_refused r) old mid before between is cause = record { stop = text_refused r; is = refl; of_inputs = tt; cause = cause }
 ended-stop t (listing_refused r) old mid before between is cause = record { stop = listing_refused r; is = refl; of_inputs = tt; cause = cause }
 ended-stop t (words_refused w) old mid before between is cause = absurd is
@@ -218,7 +225,8 @@ pub ended-count : (c : Inputs) (s : Stop) → IsOfModules s → IsOpenedCount c 
 ended-count c (link_fact f) is = refl
 ended-count c (keep_unknown name) is = refl
 ended-count c (locate_fact maus f) is = refl
-ended-count c (raw_too_long count) is = refl
+ended-count c (bytes_refused b) is = refl
+ended-count c (name_shared name) is = refl
 ended-count c (text_refused r) is = refl
 ended-count c (listing_refused r) is = refl
 ended-count c (words_refused s) is = absurd is
@@ -236,7 +244,8 @@ ended-names : (plan : Option (List ℕ)) (s : Stop) → IsOfModules s → NamesP
 ended-names plan (link_fact f) is = tt
 ended-names plan (keep_unknown name) is = tt
 ended-names plan (locate_fact maus f) is = tt
-ended-names plan (raw_too_long count) is = tt
+ended-names plan (bytes_refused b) is = tt
+ended-names plan (name_shared name) is = tt
 ended-names plan (text_refused r) is = tt
 ended-names plan (listing_refused r) is = tt
 ended-names plan (words_refused s) is = absurd is

@@ -22,7 +22,7 @@ use Rattle.mufom_outcome.specs.declared.outcome.Outcome.{Outcome}
 use Rattle.mufom_outcome.specs.declared.outcome.Outcome.TheVariants as outcome
 use Rattle.mufom_outcome.specs.declared.outcome.Refusal.TheVariants as refusal
 use Rattle.mufom_outcome.specs.Outcomes.{stop_answer}
-use Rattle.mufom_outcome.specs.Stop.{Stop, words_refused, plan_refused, file_refused, past_limit, link_fact, keep_unknown, locate_fact, raw_too_long}
+use Rattle.mufom_outcome.specs.Stop.{Stop, words_refused, plan_refused, file_refused, past_limit, link_fact, keep_unknown, name_shared, locate_fact, bytes_refused}
 use Rattle.mufom_outcome.specs.Stop.{text_refused, listing_refused}
 use Rattle.mufom_task.specs.declared.task.Inputs.{Inputs}
 use Rattle.mufom_task.specs.declared.task.Request.{Request}
@@ -32,14 +32,14 @@ use Rattle.mufom_task.specs.Calls.{Call, OpensInputs}
 use Rattle.mufom_task.specs.Ends.{IsInputReached, IsOfInputs, stop_outcome}
 use Rattle.mufom_task.specs.FilesRead.{FileHas}
 use Rattle.mufom_task.specs.InputsRead.{KeepsPlan, NamesPlan, ReadingStops, inputs_in}
-use Rattle.mufom_task.specs.Reading.{carried_out, modules_in, plan_by, plan_in, text_in, unless_past_limit}
+use Rattle.mufom_task.specs.Reading.{modules_in, plan_by, plan_in, text_in, unless_past_limit}
 use Rattle.mufom_task.specs.Tasks.{input_names, inputs_of, keep_of, out_of, reads_files, request_of}
 use Rattle.mufom_task.proofs.InputLaws.{call_between}
 use Rattle.mufom_task.proofs.InputsLaws.{over-map}
 use Rattle.mufom_command.specs.Explain.{EndsBy, EndsFor, EndsWith}
 use Rattle.mufom_command.specs.ExplainText.{explain_text}
 use Rattle.mufom_command.specs.HasDetails.{HasDetails, HasPlanLine, HasPlanLines, HasUnreadLine, HasUnreadPlan, IsInputDetail, IsUnreadDetail}
-use Rattle.mufom_command.specs.HasDetails.{lines_of_link, lines_of_locate, lines_of_name}
+use Rattle.mufom_command.specs.HasDetails.{lines_of_link, lines_of_locate, lines_of_name, lines_of_shared}
 use Rattle.mufom_command.specs.InputLines.{unread_plan, untried_lines, usage_lines}
 use Rattle.mufom_command.specs.PlanLines.{ArePlanLines}
 use Rattle.mufom_command.specs.Making.{IsPrinted}
@@ -61,13 +61,13 @@ IsOfReading (listing_refused r) = Unit {0}
 IsOfReading _ = ⊥
 
 plan_by-ends : (r : Result Plan PlanRefusal) (s : Stop) → plan_by r (stops s) → IsOfReading s
-plan_by-ends (Ok plan) s ends = absurd ends
+plan_by-ends (Ok plan) s (sound, never) = absurd never
 plan_by-ends (Err r) s ends = subst IsOfReading (sym ends) tt
 
 plan-ends : (files : List NamedFile) (name : Option (List ℕ)) (s : Stop) → plan_in files name (stops s) → IsOfReading s
 plan-ends files None s ends = absurd ends
 plan-ends files (Some name) s (inl ends) = absurd ends
-plan-ends files (Some name) s (inr (bytes, there, ends)) = plan_by-ends (carried_out (plan_of_text bytes)) s ends
+plan-ends files (Some name) s (inr (bytes, there, ends)) = plan_by-ends (plan_of_text bytes) s ends
 
 pub modules-end : (files : List NamedFile) (c : Inputs) (s : Stop) → modules_in files c (stops s) → IsOfReading s
 modules-end files c (file_refused n r) ends = tt
@@ -77,7 +77,8 @@ modules-end files c (plan_refused r) ends = absurd ends
 modules-end files c (link_fact f) ends = absurd ends
 modules-end files c (keep_unknown name) ends = absurd ends
 modules-end files c (locate_fact maus f) ends = absurd ends
-modules-end files c (raw_too_long count) ends = absurd ends
+modules-end files c (bytes_refused b) ends = absurd ends
+modules-end files c (name_shared name) ends = absurd ends
 modules-end files c (text_refused r) ends = absurd ends
 modules-end files c (listing_refused r) ends = absurd ends
 
@@ -172,9 +173,11 @@ module _ {A : Type 0} (t : Task) (reading : List NamedFile → Work Stop A) (end
         never-known old.files (link_fact f) (λ fs. lines_of_link fs c f (gives details)) (λ never. never) cause
     stop-details (keep_unknown name) opens named of_inputs keeps cause details is =
         never-known old.files (keep_unknown name) (λ fs. lines_of_name fs c name (gives details)) (λ never. never) cause
+    stop-details (name_shared name) opens named of_inputs keeps cause details is =
+        never-known old.files (name_shared name) (λ fs. lines_of_shared fs c name (gives details)) (λ never. never) cause
     stop-details (locate_fact maus f) opens named of_inputs keeps cause details is =
         never-known old.files (locate_fact maus f) (λ fs. lines_of_locate fs c keep maus f (gives details)) (λ never. never) cause
-    stop-details (raw_too_long count) opens named of_inputs keeps cause details is = is
+    stop-details (bytes_refused b) opens named of_inputs keeps cause details is = is
     stop-details (words_refused s) opens named of_inputs keeps cause details is = absurd of_inputs
 
     input-line : (at : Input) → IsInputReached old.files c at → (details : List ℕ) → IsInputDetail c host_tells (outcome.ReadFault at) details

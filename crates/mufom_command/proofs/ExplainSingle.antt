@@ -1,5 +1,5 @@
 -- The text on some arguments is one, and so a run comes to one end at most.
-use Rattle.std.proofs.Common.{◌≡◌, ℕ, Bool, true, false, List, [], ◌∷◌, Option, Some, None, Result, Ok, Err, inl, inr, sym, ap, subst, ◌∙◌}
+use Rattle.std.proofs.Common.{◌≡◌, ℕ, Bool, true, false, List, [], ◌∷◌, ◌++◌, Option, Some, None, Result, Ok, Err, inl, inr, sym, ap, subst, ◌∙◌}
 use Rattle.mufom_host.specs.World.{HoldBytes, NamedFile, file_named}
 use Rattle.mufom_module.specs.declared.module.Parts.{Parts}
 use Rattle.mufom_meaning.specs.Facts.{LinkFact, LocateFact}
@@ -16,10 +16,10 @@ use Rattle.mufom_groups.specs.Refusals.{link_refusal}
 use Rattle.mufom_groups.specs.Work.{IsSingle, Reached, Work, ◌>>=◌, gives, one_with, stops, sure}
 use Rattle.mufom_groups.proofs.Works.{one_with-single, stop_at-single, sure-single, then-single, value-same}
 use Rattle.mufom_origins.specs.Origins.{FileModule, modules_of}
-use Rattle.mufom_explain.specs.Details.{link_details, locate_details, name_details}
+use Rattle.mufom_explain.specs.Details.{link_details, locate_details, name_details, shared_details}
 use Rattle.mufom_explain.specs.Lines.{file_line}
 use Rattle.mufom_text.specs.Words.{Text}
-use Rattle.mufom_outcome.specs.Stop.{Stop, words_refused, plan_refused, file_refused, past_limit, link_fact, keep_unknown, locate_fact, raw_too_long}
+use Rattle.mufom_outcome.specs.Stop.{Stop, words_refused, plan_refused, file_refused, past_limit, link_fact, keep_unknown, name_shared, locate_fact, bytes_refused}
 use Rattle.mufom_outcome.specs.Stop.{text_refused, listing_refused}
 use Rattle.mufom_command.specs.Roots.{roots_by}
 use Rattle.mufom_command.specs.Works.{Kept, Output, kept_of, printed, work_by}
@@ -35,10 +35,13 @@ use Rattle.mufom_command.specs.FlatFiles.{AreFlatFiles}
 use Rattle.mufom_command.specs.HasDetails.{HasDetails, HasFileLine, HasPlanLines, IsRefusedFlat}
 use Rattle.mufom_command.specs.PlanLines.{ArePlanLines, AreLinesBy, is_syntax, plan_line_at}
 use Rattle.mufom_plan.specs.declared.plan.Plan.{Plan}
+use Rattle.mufom_plan.specs.declared.plan.PlanSymbol.{PlanSymbol}
+use Rattle.mufom_planned.specs.Shown.{shown_list}
 use Rattle.mufom_plan.specs.declared.refusal.PlanRefusal.{PlanRefusal}
 use Rattle.mufom_prune.specs.Pruned.{Remains}
 use Rattle.mufom_plan_faults.proofs.LineLaws.{syntax-line-single}
-use Rattle.mufom_command.specs.HasDetails.{IsObjectBy, IsObjectOf, explained_by, files_at, lines_of_link, lines_of_locate, lines_of_name}
+use Rattle.mufom_command.specs.HasDetails.{IsObjectBy, IsObjectOf, IsObjectWith, explained_by, files_at, lines_of_link, lines_of_locate, lines_of_name}
+use Rattle.mufom_command.specs.HasDetails.{lines_of_shared, plan_lines}
 use Rattle.mufom_outcome.specs.LocateRefusals.{locate_refusal}
 use Rattle.mufom_command.specs.Run.{outcome_of}
 use Rattle.mufom_command.proofs.MapLaws.{flat-files-single}
@@ -92,26 +95,45 @@ module _ (files : List NamedFile) (bytes : HoldBytes files) (c : Inputs) (keep :
   object-single None ms a b one other = joined_is_single a b ms (first_name ms) one other
   object-single (Some c) ms a b one other = let both : (a ∷ []) ≡ (b ∷ []) = sym one ∙ other in cc
 
-  abbrev object-lines : Plan → List FileModule → ℕ → LocateFact → Kept → Work Stop Text
-  object-lines plan flat maus f kept =
-      one_with (IsObjectOf kept) >>= λ object. sure (locate_details (explained_by c plan flat kept object maus) (locate_refusal f))
+  planned-single : (symbols : List PlanSymbol) (plan : Plan) (kept : Kept) (a b : Parts) → IsObjectWith symbols plan kept a → IsObjectWith symbols plan kept b
+      → a ≡ b
+  planned-single [] plan kept a b one other = object-single kept.rest kept.modules a b one other
+  planned-single (symbol ∷ more) plan kept a b one other = joined_is_single a b (shown_list kept.modules plan) (first_name kept.modules) one other
+
+  abbrev object-lines : Plan → List FileModule → ℕ → LocateFact → Kept → Parts → Work Stop Text
+  object-lines plan flat maus f kept own =
+      one_with (IsObjectOf plan kept) >>= λ object. sure (locate_details (explained_by c plan flat kept object own maus) (locate_refusal f))
+
+  abbrev own-lines : Plan → List FileModule → ℕ → LocateFact → Kept → Work Stop Text
+  own-lines plan flat maus f kept = one_with (IsObjectBy kept.rest kept.modules) >>= λ own. object-lines plan flat maus f kept own
 
   locate-single : (maus : ℕ) (f : LocateFact) → IsSingle (lines_of_locate files c keep maus f)
   locate-single maus f =
       then-single (plan_in files c.plan) (λ plan. modules_in files c >>= λ ms. one_with (AreFlatFiles (tree_of c.marks) ms) >>= λ flat.
-      kept_of (roots_by keep plan) (modules_of flat) >>= λ kept. object-lines plan flat maus f kept)
+      kept_of (roots_by keep plan) (modules_of flat) >>= λ kept. own-lines plan flat maus f kept)
       (plan_in-single files c.plan) λ plan.
       then-single (modules_in files c) (λ ms. one_with (AreFlatFiles (tree_of c.marks) ms) >>= λ flat.
-      kept_of (roots_by keep plan) (modules_of flat) >>= λ kept. object-lines plan flat maus f kept)
+      kept_of (roots_by keep plan) (modules_of flat) >>= λ kept. own-lines plan flat maus f kept)
       (modules_in-single files bytes c) λ ms.
       then-single (one_with (AreFlatFiles (tree_of c.marks) ms)) (λ flat.
-      kept_of (roots_by keep plan) (modules_of flat) >>= λ kept. object-lines plan flat maus f kept)
+      kept_of (roots_by keep plan) (modules_of flat) >>= λ kept. own-lines plan flat maus f kept)
       (flat-files-single (tree_of c.marks) ms) λ flat.
-      then-single (kept_of (roots_by keep plan) (modules_of flat)) (λ kept. object-lines plan flat maus f kept)
+      then-single (kept_of (roots_by keep plan) (modules_of flat)) (λ kept. own-lines plan flat maus f kept)
       (kept_of-single (roots_by keep plan) (modules_of flat)) λ kept.
-      then-single (one_with (IsObjectOf kept)) (λ object. sure (locate_details (explained_by c plan flat kept object maus) (locate_refusal f)))
-      (one_with-single (IsObjectOf kept) (object-single kept.rest kept.modules)) λ object.
-      sure-single (locate_details (explained_by c plan flat kept object maus) (locate_refusal f))
+      then-single (one_with (IsObjectBy kept.rest kept.modules)) (λ own. object-lines plan flat maus f kept own)
+      (one_with-single (IsObjectBy kept.rest kept.modules) (object-single kept.rest kept.modules)) λ own.
+      then-single (one_with (IsObjectOf plan kept)) (λ object. sure (locate_details (explained_by c plan flat kept object own maus) (locate_refusal f)))
+      (one_with-single (IsObjectOf plan kept) (planned-single plan.symbols plan kept)) λ object.
+      sure-single (locate_details (explained_by c plan flat kept object own maus) (locate_refusal f))
+
+  shared-single : (name : List ℕ) → IsSingle (lines_of_shared files c name)
+  shared-single name =
+      then-single (plan_in files c.plan) (λ plan. modules_in files c >>= λ ms. one_with (AreFlatFiles (tree_of c.marks) ms) >>= λ flat.
+      sure (shared_details c.files flat plan name ++ plan_lines c.plan)) (plan_in-single files c.plan) λ plan.
+      then-single (modules_in files c) (λ ms. one_with (AreFlatFiles (tree_of c.marks) ms) >>= λ flat.
+      sure (shared_details c.files flat plan name ++ plan_lines c.plan)) (modules_in-single files bytes c) λ ms.
+      then-single (one_with (AreFlatFiles (tree_of c.marks) ms)) (λ flat. sure (shared_details c.files flat plan name ++ plan_lines c.plan))
+      (flat-files-single (tree_of c.marks) ms) λ flat. sure-single (shared_details c.files flat plan name ++ plan_lines c.plan)
 
   lines-by-single : (b : Bool) (name text : List ℕ) (r : PlanRefusal) (x y : Text) → AreLinesBy b name text r x → AreLinesBy b name text r y → x ≡ y
   lines-by-single true name text r x y (m, is_m, are) (n, is_n, also) = are ∙ (ap (plan_line_at name) (syntax-line-single text m n is_m is_n) ∙ sym also)
@@ -138,8 +160,9 @@ module _ (files : List NamedFile) (bytes : HoldBytes files) (c : Inputs) (keep :
   details-single (listing_refused r) a b one other = file-line-single 0 a b one other
   details-single (link_fact f) a b one other = value-same a b (link-single f (gives a) (gives b) one other)
   details-single (keep_unknown name) a b one other = value-same a b (name-single name (gives a) (gives b) one other)
+  details-single (name_shared name) a b one other = value-same a b (shared-single name (gives a) (gives b) one other)
   details-single (locate_fact maus f) a b one other = value-same a b (locate-single maus f (gives a) (gives b) one other)
-  details-single (raw_too_long count) a b one other = one ∙ sym other
+  details-single (bytes_refused refused) a b one other = one ∙ sym other
   details-single (words_refused s) a b one other = one ∙ sym other
 
 request-single : (files : List NamedFile) → HoldBytes files → (q : Request) (reached : Reached Stop Output) (a b : Text)

@@ -10,6 +10,9 @@ use Rattle.mufom_plan.specs.declared.plan.Plan.{Plan}
 use Rattle.mufom_meaning.specs.Selection.{IsSelected, members_at}
 use Rattle.mufom_meaning.specs.Staging.{AreValid}
 use Rattle.mufom_meaning.specs.StagingLaws.{MeansTheSame}
+use Rattle.mufom_planned.specs.PlanSymbols.{with_symbols}
+use Rattle.mufom_planned.specs.Shown.{shown_list}
+use Rattle.mufom_command.specs.Same.{AreSame}
 use Rattle.mufom_meaning.proofs.facts.AllAnswers.{answers_are_facts}
 use Rattle.mufom_meaning.proofs.facts.LinkFacts.{link_facts_grow}
 use Rattle.mufom_words.specs.Sound.{numbers_from}
@@ -34,7 +37,7 @@ use Rattle.mufom_command.specs.declared.locating.Places.{Places}
 use Rattle.mufom_command.specs.FlatFiles.{AreFlatFiles, files_with}
 use Rattle.mufom_command.specs.Locations.{HasPlaces, IsKeptPart, IsTracedLink}
 use Rattle.mufom_command.specs.RunParts.{AreLinkedFlat, AreReadFrom, IsKeptFlat}
-use Rattle.mufom_command.specs.HasDetails.{IsObjectBy, IsObjectOf}
+use Rattle.mufom_command.specs.HasDetails.{IsObjectBy}
 use Rattle.mufom_command.specs.WorkEnds.{EndsAt, own_kept, own_rest}
 use Rattle.mufom_outcome.specs.declared.outcome.Outcome.{Outcome}
 use Rattle.mufom_command.proofs.EndLaws.{ends-along}
@@ -107,7 +110,7 @@ module _ (tree : Forest) (ms : List Parts) (places : Places) (has : HasPlaces tr
 
 -- ---- what is kept
 
-pub means-itself : (ms : List Parts) → MeansTheSame ms ms
+means-itself : (ms : List Parts) → MeansTheSame ms ms
 means-itself ms = record {
   same_readings = λ bases. refl;
   same_first = refl;
@@ -120,6 +123,17 @@ means-itself ms = record {
   same_members = λ members chosen. ((λ is. is), (λ is. is));
 }
 
+same-itself : (ms : List Parts) → AreSame ms ms
+same-itself ms = record {
+  means = means-itself ms;
+  alike = λ plan symbols. record {
+    answers = refl;
+    locations = λ r. ((λ is. is), (λ is. is));
+    meaning = λ none. means-itself (with_symbols ms plan);
+    shown = λ none. means-itself (shown_list ms plan);
+  };
+}
+
 -- ---- the one module that is located
 
 -- what remains for roots is not all
@@ -127,19 +141,19 @@ rest-some : (roots : Roots) (M : Parts) (o : Option (List ℕ)) (own : Kept) →
 rest-some roots M (Some name) own never = absurd never
 rest-some roots M None own (marks, is_kept, same) = (remains M marks, ap (λ (k : Kept). k.rest) same)
 
-alike-rest : (own kept : Kept) (c : Remains) (object : Parts) → own.rest ≡ Some c → own.modules ≡ object ∷ [] → AreAlike own kept → IsObjectOf kept object
+alike-rest : (own kept : Kept) (c : Remains) (object : Parts) → own.rest ≡ Some c → own.modules ≡ object ∷ [] → AreAlike own kept → IsObjectBy kept.rest kept.modules object
 alike-rest own kept c object rest modules (inl same) =
-    subst (λ (k : Kept). IsObjectOf k object) same (subst (λ (r : Option Remains). IsObjectBy r own.modules object) (sym rest) modules)
+    subst (λ (k : Kept). IsObjectBy k.rest k.modules object) same (subst (λ (r : Option Remains). IsObjectBy r own.modules object) (sym rest) modules)
 alike-rest own kept c object rest modules (inr (none, no_rest, alike)) =
     let both : Some c ≡ None = sym rest ∙ none in absurd cc
 
 -- the module that is kept of the link of a list is the one that is located for what is kept of the list
 object-kept : (keep : Option Roots) (M object : Parts) (list : List Parts) → IsJoined M list (first_name list) → (own kept : Kept)
-    → own_kept keep M (gives own) → own.modules ≡ object ∷ [] → kept_of keep list (gives kept) → AreAlike own kept → IsObjectOf kept object
+    → own_kept keep M (gives own) → own.modules ≡ object ∷ [] → kept_of keep list (gives kept) → AreAlike own kept → IsObjectBy kept.rest kept.modules object
 object-kept None M object list joined own kept keeps modules all alike =
     let both : (M ∷ []) ≡ (object ∷ []) = sym (ap (λ (k : Kept). k.modules) keeps) ∙ modules in
     let same : M ≡ object = cc in
-    subst (λ (k : Kept). IsObjectOf k object) (sym all) (subst (λ (m : Parts). IsJoined m list (first_name list)) same joined)
+    subst (λ (k : Kept). IsObjectBy k.rest k.modules object) (sym all) (subst (λ (m : Parts). IsJoined m list (first_name list)) same joined)
 object-kept (Some roots) M object list joined own kept keeps modules all alike =
     let (c, rest) = rest-some roots M (first_unknown (M ∷ []) roots.names) own keeps in
     alike-rest own kept c object rest modules alike
@@ -166,11 +180,11 @@ module _ (tree : Forest) (first : leaves tree ≡ numbers_from 0 (length (leaves
       let (list, is_linked, joined) = link.links in
       let like : IsKeptAlike keep list is.kept = own-is tree ms valid whole.object link.valid plan keep list is_linked joined is.kept is.keeps in
       by like where
-        means : (kept : Kept) → AreAlike is.kept kept → MeansTheSame (part.object ∷ []) kept.modules
+        means : (kept : Kept) → AreAlike is.kept kept → AreSame (part.object ∷ []) kept.modules
         means kept (inl alike) =
-            subst (λ (l : List Parts). MeansTheSame (part.object ∷ []) l) (sym is.modules ∙ ap (λ (k : Kept). k.modules) alike)
-            (means-itself (part.object ∷ []))
-        means kept (inr (none, no_rest, alike)) = subst (λ (l : List Parts). MeansTheSame l kept.modules) is.modules alike
+            subst (λ (l : List Parts). AreSame (part.object ∷ []) l) (sym is.modules ∙ ap (λ (k : Kept). k.modules) alike)
+            (same-itself (part.object ∷ []))
+        means kept (inr (none, no_rest, alike)) = subst (λ (l : List Parts). AreSame l kept.modules) is.modules alike
 
         rests : (kept : Kept) → AreAlike is.kept kept → is.kept.rest ≡ kept.rest
         rests kept (inl alike) = ap (λ (k : Kept). k.rest) alike

@@ -14,10 +14,10 @@ pub mod ExplainLaws
 pub mod ExplainReading
 pub mod OtherLaws
 pub mod PrepareLaws
-pub mod LightLaws
 pub mod KeptFlat
 pub mod ToldEnds
 pub mod ToldLaws
 pub mod MakeLaws
 pub mod WritingLaws
 pub mod ArgumentLaws
+pub mod RegionLaws

@@ -7,42 +7,45 @@ use Rattle.mufom_module.specs.Defects.{IsValid}
 use Rattle.mufom_plan.specs.declared.plan.Plan.{Plan}
 use Rattle.mufom_meaning.specs.declared.located.LocatedParts.{LocatedParts}
 use Rattle.mufom_meaning.specs.FactLaws.{IsLinkable}
-use Rattle.mufom_meaning.specs.Facts.{LocateFact}
 use Rattle.mufom_meaning.specs.Joined.{IsJoined}
-use Rattle.mufom_meaning.specs.LocateAnswer.{locate_answer}
-use Rattle.mufom_meaning.specs.Location.{Header, IsLocation, first_header}
+use Rattle.mufom_meaning.specs.Flat.{public_names}
+use Rattle.mufom_meaning.specs.Location.{Header, first_header}
 use Rattle.mufom_meaning.specs.Selection.{members_at}
-use Rattle.mufom_meaning.specs.Staging.{AreValid, IsStaged, linked as linked_stage, unlinked}
+use Rattle.mufom_meaning.specs.Staging.{AreValid, HaveDescriptor, IsStaged, linked as linked_stage, unlinked}
 use Rattle.mufom_meaning.specs.StagingLaws.{MeansTheSame}
+use Rattle.mufom_command.specs.Same.{AreSame}
 use Rattle.mufom_meaning.proofs.facts.AllAnswers.{answers_are_facts}
 use Rattle.mufom_meaning.proofs.facts.Linkable.{no_link_answer_is_linkable}
 use Rattle.mufom_meaning.proofs.facts.LinkFacts.{link_facts_grow}
 use Rattle.mufom_meaning.proofs.staging.Staging.{joined_stands_for}
 use Rattle.mufom_meaning.proofs.staging.Stages.{staged_means_the_same}
+use Rattle.mufom_planned.specs.Planned.{IsPlanned, PlanFact, planned_answer}
+use Rattle.mufom_planned.specs.PlanLaws.{HasSoundSymbols}
+use Rattle.mufom_planned.proofs.Alike.{staged_plans_mean_the_same}
 use Rattle.mufom_words.specs.Tree.{Forest, leaves}
 use Rattle.mufom_groups.specs.Linked.{first_name, linked, linked_module, members, roots}
 use Rattle.mufom_groups.specs.Work.{Reached, gives, stops, with_stops}
 use Rattle.mufom_groups.proofs.GroupsAlike.{linked-flat}
 use Rattle.mufom_groups.proofs.LinkWalk.{valid-append, valid-drop, valid-members}
-use Rattle.mufom_outcome.specs.Stop.{Stop, link_fact, locate_fact}
+use Rattle.mufom_outcome.specs.Stop.{Stop, link_fact}
 use Rattle.mufom_command.specs.Roots.{Roots}
-use Rattle.mufom_command.specs.Works.{Kept, all_of, kept_of, located, located_unless, maus_of}
+use Rattle.mufom_command.specs.Works.{Kept, all_of, kept_of, located, located_unless, maus_of, stop_of}
 use Rattle.mufom_command.specs.WorkEnds.{location_of, own_kept}
 use Rattle.mufom_command.proofs.KeptLaws.{rest-kept}
 
 -- ---- two lists with the same location
 
-module _ (ms leaves : List Parts) (plan : Plan) (maus : maus_of ms ≡ maus_of leaves) (locations : (r : LocatedParts) → IsLocation ms plan r
-    → IsLocation leaves plan r) where
-  unless-along : (o : Option LocateFact) (x : Reached Stop LocatedParts) → located_unless o plan ms x → located_unless o plan leaves x
+module _ (ms leaves : List Parts) (plan : Plan) (maus : maus_of ms ≡ maus_of leaves) (locations : (r : LocatedParts) → IsPlanned ms plan r
+    → IsPlanned leaves plan r) where
+  unless-along : (o : Option PlanFact) (x : Reached Stop LocatedParts) → located_unless o plan ms x → located_unless o plan leaves x
   unless-along None (gives r) is = locations r is
   unless-along None (stops s) is = absurd is
   unless-along (Some f) (gives r) is = absurd is
-  unless-along (Some f) (stops s) is = is ∙ ap (λ n. locate_fact n f) maus
+  unless-along (Some f) (stops s) is = is ∙ ap (λ n. stop_of n f) maus
 
   -- come to the same
-  pub located-along : locate_answer ms plan ≡ locate_answer leaves plan → (x : Reached Stop LocatedParts) → located plan ms x → located plan leaves x
-  located-along answers x is = subst (λ (o : Option LocateFact). located_unless o plan leaves x) answers (unless-along (locate_answer ms plan) x is)
+  pub located-along : planned_answer ms plan ≡ planned_answer leaves plan → (x : Reached Stop LocatedParts) → located plan ms x → located plan leaves x
+  located-along answers x is = subst (λ (o : Option PlanFact). located_unless o plan leaves x) answers (unless-along (planned_answer ms plan) x is)
 
 -- how many bytes an address has, by the header of the first module
 abbrev maus_by : Option Header → ℕ
@@ -56,20 +59,23 @@ maus_of-header (m ∷ ms) = refl
 pub maus-same : (ms leaves : List Parts) → MeansTheSame ms leaves → maus_of ms ≡ maus_of leaves
 maus-same ms leaves same = maus_of-header ms ∙ ap maus_by same.same_first ∙ sym (maus_of-header leaves)
 
-pub located-forth : (ms leaves : List Parts) (plan : Plan) → MeansTheSame ms leaves → (x : Reached Stop LocatedParts) → located plan ms x
-    → located plan leaves x
-located-forth ms leaves plan same x is =
-    located-along ms leaves plan (maus-same ms leaves same) (λ r. (same.same_location plan r).0) (same.same_locate plan) x is
+pub located-forth : (ms leaves : List Parts) (plan : Plan) → HasSoundSymbols plan → AreSame ms leaves → (x : Reached Stop LocatedParts)
+    → located plan ms x → located plan leaves x
+located-forth ms leaves plan symbols same x is =
+    let alike = same.alike plan symbols in
+    located-along ms leaves plan (maus-same ms leaves same.means) (λ r. (alike.locations r).0) alike.answers x is
 
-pub located-back : (ms leaves : List Parts) (plan : Plan) → MeansTheSame ms leaves → (x : Reached Stop LocatedParts) → located plan leaves x → located plan ms x
-located-back ms leaves plan same x is =
-    located-along leaves ms plan (sym (maus-same ms leaves same)) (λ r. (same.same_location plan r).1) (sym (same.same_locate plan)) x is
+pub located-back : (ms leaves : List Parts) (plan : Plan) → HasSoundSymbols plan → AreSame ms leaves → (x : Reached Stop LocatedParts)
+    → located plan leaves x → located plan ms x
+located-back ms leaves plan symbols same x is =
+    let alike = same.alike plan symbols in
+    located-along leaves ms plan (sym (maus-same ms leaves same.means)) (λ r. (alike.locations r).1) (sym alike.answers) x is
 
 -- ---- what is kept of a list and of its link
 
 -- They are the same, or all of both is kept, and the lists mean the same.
 abbrev pub AreAlike : Kept → Kept → Type 0
-AreAlike own kept = (own ≡ kept) ⊎ ((own.rest ≡ None) × (kept.rest ≡ None) × MeansTheSame own.modules kept.modules)
+AreAlike own kept = (own ≡ kept) ⊎ ((own.rest ≡ None) × (kept.rest ≡ None) × AreSame own.modules kept.modules)
 
 -- what is kept of the list, which is alike
 pub record IsKeptAlike (keep : Option Roots) (flat : List Parts) (own : Kept) : Type 0 where
@@ -77,17 +83,25 @@ pub record IsKeptAlike (keep : Option Roots) (flat : List Parts) (own : Kept) : 
   pub keeps : kept_of keep flat (gives kept)
   pub alike : AreAlike own kept
 
-pub alike-located : (plan : Plan) (own kept : Kept) → AreAlike own kept → (x : Reached Stop LocatedParts) → located plan own.modules x
-    → located plan kept.modules x
-alike-located plan own kept (inl same) x there = subst (λ (k : Kept). located plan k.modules x) same there
-alike-located plan own kept (inr (none, no_rest, means)) x there = located-forth own.modules kept.modules plan means x there
+pub alike-located : (plan : Plan) → HasSoundSymbols plan → (own kept : Kept) → AreAlike own kept → (x : Reached Stop LocatedParts)
+    → located plan own.modules x → located plan kept.modules x
+alike-located plan symbols own kept (inl same) x there = subst (λ (k : Kept). located plan k.modules x) same there
+alike-located plan symbols own kept (inr (none, no_rest, means)) x there = located-forth own.modules kept.modules plan symbols means x there
 
 -- ---- the link of a list
 
+-- lists of stages mean the same, and are located alike
+pub staged-same : (d : Parts) (ms leaves : List Parts) → IsStaged ms leaves → AreValid leaves → HaveDescriptor d leaves → AreDistinct (public_names leaves)
+    → AreSame ms leaves
+staged-same d ms leaves staged valid descriptor names = record {
+  means = staged_means_the_same d ms leaves staged valid descriptor names;
+  alike = λ plan symbols. staged_plans_mean_the_same d ms leaves plan staged valid descriptor names symbols;
+}
+
 -- The link of a list under the name of its first module means what the list means.
-pub link-means : (M : Parts) (flat : List Parts) → IsValid M → AreValid flat → IsJoined M flat (first_name flat) → IsLinkable flat → MeansTheSame (M ∷ []) flat
+pub link-means : (M : Parts) (flat : List Parts) → IsValid M → AreValid flat → IsJoined M flat (first_name flat) → IsLinkable flat → AreSame (M ∷ []) flat
 link-means M [] sound valid joined is = absurd joined.header
-link-means M (m ∷ ms) sound valid joined is = staged_means_the_same m (M ∷ []) (m ∷ ms) staged valid is.descriptor is.names where
+link-means M (m ∷ ms) sound valid joined is = staged-same m (M ∷ []) (m ∷ ms) staged valid is.descriptor is.names where
   staged : IsStaged (M ∷ []) (m ∷ ms)
   staged = linked_stage (m ∷ ms) [] (m ∷ ms) [] M m.name (subst (λ (l : List Parts). IsStaged l (m ∷ ms)) (sym (append-nil (m ∷ ms)))
       (unlinked (m ∷ ms))) sound joined joined.named
@@ -124,7 +138,7 @@ module _ (tree : Forest) (ms : List Parts) (valid : AreValid ms) where
           alike = inr (
             ap (λ (k : Kept). k.rest) keeps,
             refl,
-            subst (λ (k : Kept). MeansTheSame k.modules flat) (sym keeps) means,
+            subst (λ (k : Kept). AreSame k.modules flat) (sym keeps) means,
           );
         }
     own-is (Some roots) flat is joined own keeps =
@@ -141,11 +155,11 @@ module _ (tree : Forest) (ms : List Parts) (valid : AreValid ms) where
     link-unkept keep (flat, is, joined) s ends = inr (flat, is, inl (own-ends keep flat is joined s ends))
 
     -- and so does the fact that ends the location of what is kept of the link
-    pub link-unlocated : (keep : Option Roots) → linked_module tree None ms (gives M) → (own : Kept) → own_kept keep M (gives own) → (s : Stop)
+    pub link-unlocated : HasSoundSymbols plan → (keep : Option Roots) → linked_module tree None ms (gives M) → (own : Kept) → own_kept keep M (gives own) → (s : Stop)
         → located plan own.modules (stops s) → location_of tree keep plan ms (stops s)
-    link-unlocated keep (flat, is, joined) own keeps s ends =
+    link-unlocated symbols keep (flat, is, joined) own keeps s ends =
         let alike = own-is keep flat is joined own keeps in
-        inr (flat, is, inr (alike.kept, alike.keeps, alike-located plan own alike.kept alike.alike (stops s) ends))
+        inr (flat, is, inr (alike.kept, alike.keeps, alike-located plan symbols own alike.kept alike.alike (stops s) ends))
 
   -- or it is not linked
   pub unlinked-stops : (keep : Option Roots) (plan : Plan) (s : Stop) → with_stops link_fact (linked_module tree None ms) (stops s)

@@ -5,11 +5,18 @@ use Rattle.std.specs.Prelude.{slice_get}
 use Rattle.mufom_names.specs.Names.{AreDistinct, names_of}
 use Rattle.mufom_module.specs.declared.module.Parts.{Parts}
 use Rattle.mufom_module.specs.Defects.{IsValid}
+use Rattle.mufom_module.specs.Written.{weight}
 use Rattle.mufom_plan.specs.declared.plan.Plan.{Plan}
-use Rattle.mufom_image.specs.Placements.{IsSoundPlan}
+use Rattle.mufom_locating.specs.Light.{weight_limit}
+use Rattle.mufom_locating.specs.Plans.{IsReadPlan}
 use Rattle.mufom_image.specs.Refusals.{IsMet}
 use Rattle.mufom_meaning.specs.LocateAnswer.{locate_answer}
-use Rattle.mufom_meaning.specs.Location.{IsLocation}
+use Rattle.mufom_planned.specs.Layout.{Layout}
+use Rattle.mufom_planned.specs.PlanSymbols.{with_symbols}
+use Rattle.mufom_planned.specs.Planned.{IsPlanned}
+use Rattle.mufom_planned.proofs.Alike.{layout_same}
+use Rattle.mufom_command.specs.Same.{AreSame}
+use Rattle.mufom_planned.specs.PlanLaws.{HasSoundSymbols}
 use Rattle.mufom_meaning.specs.declared.located.LocatedParts.{LocatedParts}
 use Rattle.mufom_meaning.specs.Flat.{flat_sections, public_names}
 use Rattle.mufom_meaning.specs.Placed.{placed_commons, planned_bases}
@@ -28,7 +35,7 @@ use Rattle.mufom_origins.specs.declared.origins.Origin.{Origin}
 use Rattle.mufom_origins.specs.Origins.{numbered, origin_of, origins_left, origins_of}
 use Rattle.mufom_origins.specs.Places.{at_positions, with_chosen}
 use Rattle.mufom_origins.proofs.FlatLaws.{chosen-map}
-use Rattle.mufom_map.specs.Mapped.{mapped_by}
+use Rattle.mufom_map.specs.Mapped.{mapped_by, planned_layout}
 use Rattle.mufom_plan.specs.Names.{has_name}
 use Rattle.mufom_prune.specs.declared.pruning.Pruned.{Pruned}
 use Rattle.mufom_prune.specs.Marked.{IsPrunedWithMarksFor}
@@ -43,11 +50,11 @@ use Rattle.mufom_command.specs.declared.locating.Obstacle.TheVariants as obstacl
 use Rattle.mufom_command.specs.declared.locating.Places.{Places}
 use Rattle.mufom_command.specs.Locations.{AreMapped, AreOriginsOf, HasPlaces, HasPlan, IsKeptPart, IsObstacle, IsTracedLink, LocatesPart, outcome_of_obstacle}
 use Rattle.mufom_command.specs.Locations.{IsUnkept, IsUnlocated, IsUnlocatedPart, shown_of}
-use Rattle.mufom_outcome.specs.Outcomes.{outcome_of_link, outcome_of_locate, outcome_of_prune}
+use Rattle.mufom_outcome.specs.Outcomes.{outcome_of_link, outcome_of_planned, outcome_of_prune}
 use Rattle.mufom_outcome.specs.Stop.{Stop, link_fact}
 use Rattle.mufom_command.proofs.KeptLaws.{rest-own}
 use Rattle.mufom_command.specs.WorkEnds.{EndsAt, location_of, own_kept}
-use Rattle.mufom_command.proofs.EndLaws.{ends-along, is-located, link-ends, locate-ends}
+use Rattle.mufom_command.proofs.EndLaws.{ends-along, is-located, link-ends, locate-ends, unshared}
 use Rattle.mufom_command.proofs.LocatingLaws.{AreAlike, alike-located, link-unkept, link-unlocated, own-is, unlinked-stops}
 
 -- there is one flat list with its files
@@ -85,33 +92,33 @@ origins-with tree first ms chosen =
 
 -- ---- lists that mean the same
 
-pub same-map : (ms leaves : List Parts) → MeansTheSame ms leaves → (origins : List Origin) (plan : Plan) (r : LocatedParts)
-    → mapped_by origins plan (flat_sections ms) (placed_commons ms plan) r ≡ mapped_by origins plan (flat_sections leaves) (placed_commons leaves plan) r
-unfolding readings
-same-map ms leaves same origins plan r =
-    let all = same.same_readings (planned_bases ms plan) in
-    let sections : flat_sections ms ≡ flat_sections leaves = ap (λ (x : Readings). x.sections) all in
-    let asked = same_placed_commons ms leaves sections (ap (λ (x : Readings). x.commons) all) plan in
-    λ i. mapped_by origins plan (sections i) (asked i) r
+-- the plan places the same for both lists
+layouts-same : (ms leaves : List Parts) → AreSame ms leaves → (plan : Plan) → HasSoundSymbols plan → (r : LocatedParts) → IsPlanned ms plan r
+    → planned_layout ms plan ≡ planned_layout leaves plan
+layouts-same ms leaves same plan symbols r is =
+    let alike = same.alike plan symbols in
+    layout_same (with_symbols ms plan) (with_symbols leaves plan) plan (alike.meaning (unshared leaves plan (sym alike.answers ∙ is.locates)))
+
+pub same-map : (ms leaves : List Parts) → AreSame ms leaves → (origins : List Origin) (plan : Plan) → HasSoundSymbols plan → (r : LocatedParts)
+    → IsPlanned ms plan r → mapped_by origins (planned_layout ms plan) r ≡ mapped_by origins (planned_layout leaves plan) r
+same-map ms leaves same origins plan symbols r is = ap (λ (l : Layout). mapped_by origins l r) (layouts-same ms leaves same plan symbols r is)
 
 -- of all of a list a map shows the list
 shown-whole : (origins : List Origin) (plan : Plan) (kept : Kept) (r : LocatedParts) → kept.rest ≡ None
-    → mapped_kept origins plan kept r ≡ mapped_by origins plan (flat_sections kept.modules) (placed_commons kept.modules plan) r
-shown-whole origins plan kept r none =
-    ap (λ (rest : Option Remains). mapped_by (kept_origins rest origins) plan (flat_sections kept.modules) (placed_commons kept.modules plan) r) none
+    → mapped_kept origins plan kept r ≡ mapped_by origins (planned_layout kept.modules plan) r
+shown-whole origins plan kept r none = ap (λ (rest : Option Remains). mapped_by (kept_origins rest origins) (planned_layout kept.modules plan) r) none
 
 -- what a map shows of what is kept of a link is what it shows of what is kept of the list
-pub alike-shown : (origins : List Origin) (plan : Plan) (own kept : Kept) → AreAlike own kept → (r : LocatedParts)
-    → mapped_kept origins plan own r ≡ mapped_kept origins plan kept r
-alike-shown origins plan own kept (inl same) r = ap (λ (k : Kept). mapped_kept origins plan k r) same
-alike-shown origins plan own kept (inr (none, no_rest, means)) r =
-    shown-whole origins plan own r none ∙ same-map own.modules kept.modules means origins plan r ∙ sym (shown-whole origins plan kept r no_rest)
+pub alike-shown : (origins : List Origin) (plan : Plan) → HasSoundSymbols plan → (own kept : Kept) → AreAlike own kept → (r : LocatedParts)
+    → IsPlanned own.modules plan r → mapped_kept origins plan own r ≡ mapped_kept origins plan kept r
+alike-shown origins plan symbols own kept (inl same) r is = ap (λ (k : Kept). mapped_kept origins plan k r) same
+alike-shown origins plan symbols own kept (inr (none, no_rest, means)) r is =
+    shown-whole origins plan own r none ∙ same-map own.modules kept.modules means origins plan symbols r is ∙ sym (shown-whole origins plan kept r no_rest)
 
 -- what is shown of a module that is kept of a whole one is what a map shows of that
 pub part-shown : (keep : Option Roots) (whole part : TracedModule) (is : IsKeptPart keep whole part) (plan : Plan) (r : LocatedParts)
-    → mapped_by part.origins plan (flat_sections (part.object ∷ [])) (placed_commons (part.object ∷ []) plan) r ≡ mapped_kept whole.origins plan is.kept r
-part-shown keep whole part is plan r = λ i.
-    mapped_by (is.origins i) plan (flat_sections (sym is.modules i)) (placed_commons (sym is.modules i) plan) r
+    → mapped_by part.origins (planned_layout (part.object ∷ []) plan) r ≡ mapped_kept whole.origins plan is.kept r
+part-shown keep whole part is plan r = λ i. mapped_by (is.origins i) (planned_layout (sym is.modules i) plan) r
 
 -- what is left of a module for roots, with the origins of what is left, is what is kept of it
 pub part-is : (roots : Roots) (whole : TracedModule) (left : Pruned) (origins : List Origin)
@@ -152,34 +159,38 @@ flat-origins tree first ms places has origins same = record {
 module _ (tree : Forest) (first : leaves tree ≡ numbers_from 0 (length (leaves tree))) (ms : List Parts) (valid : AreValid ms) (keep : Option Roots)
     (plan : Plan) (places : Places) (whole part : TracedModule) (link : IsTracedLink tree ms places whole) (is : IsKeptPart keep whole part) where
   -- the map of what is kept of their link is that of what is kept of the flat list
-  pub part-mapped : IsSoundPlan plan → (m : Location) → LocatesPart part plan m → AreMapped tree keep plan ms m
-  part-mapped sound_plan m at =
+  pub part-mapped : AreDistinct (names_of part.object.names.publics) → weight part.object < weight_limit → IsReadPlan plan → (m : Location)
+      → LocatesPart part plan m → AreMapped tree keep plan ms m
+  part-mapped names light sound_plan m at =
       let (list, is_linked, joined) = link.links in
       let own = flat-origins tree first ms places link.has whole.origins link.from in
       let like = own-is tree ms valid whole.object link.valid plan keep list is_linked joined is.kept is.keeps in
       let there : located plan (part.object ∷ []) (gives m.located) = is-located (part.object ∷ []) plan m.located at.located in
       record {
         are_located = record {
-          sound = subst IsSoundPlan (sym (ap (λ (x : Location). x.plan) at.is)) sound_plan;
-          located = subst (λ (x : Location). IsLocation (x.object ∷ []) x.plan m.located) (sym at.is) at.located;
+          names = subst (λ (x : Location). AreDistinct (names_of x.object.names.publics)) (sym at.is) names;
+          light = subst (λ (x : Location). weight x.object < weight_limit) (sym at.is) light;
+          sound = subst IsReadPlan (sym (ap (λ (x : Location). x.plan) at.is)) sound_plan;
+          located = subst (λ (x : Location). IsPlanned (x.object ∷ []) x.plan m.located) (sym at.is) at.located;
         };
         list = list;
         links = is_linked;
         kept = like.kept;
         keeps = like.keeps;
-        location = alike-located plan is.kept like.kept like.alike (gives m.located)
+        location = alike-located plan sound_plan.symbols is.kept like.kept like.alike (gives m.located)
             (subst (λ (l : List Parts). located plan l (gives m.located)) (sym is.modules) there);
         flat = own.flat;
         files = own.files;
         shows = ap shown_of at.is ∙ part-shown keep whole part is plan m.located
-            ∙ alike-shown whole.origins plan is.kept like.kept like.alike m.located
+            ∙ alike-shown whole.origins plan sound_plan.symbols is.kept like.kept like.alike m.located
+            (subst (λ (l : List Parts). IsPlanned l plan m.located) (sym is.modules) at.located)
             ∙ ap (λ (origins : List Origin). mapped_kept origins plan like.kept m.located) own.are;
       }
 
   -- and so is the end of its location
-  pub part-unlocated : (s : Stop) → located plan (part.object ∷ []) (stops s) → location_of tree keep plan ms (stops s)
-  part-unlocated s ends =
-      link-unlocated tree ms valid whole.object link.valid plan keep link.links is.kept is.keeps s
+  pub part-unlocated : HasSoundSymbols plan → (s : Stop) → located plan (part.object ∷ []) (stops s) → location_of tree keep plan ms (stops s)
+  part-unlocated symbols s ends =
+      link-unlocated tree ms valid whole.object link.valid plan symbols keep link.links is.kept is.keeps s
       (subst (λ (l : List Parts). located plan l (stops s)) (sym is.modules) ends)
 
 -- ---- what keeps modules from being located
@@ -199,21 +210,21 @@ obstacle-ends tree first ms valid keep plan (obstacle.Unlocated r part own place
     let by : IsUnlocated tree (roots_by keep plan) ms r part plan places
     = subst (λ (p : Plan). IsUnlocated tree (roots_by keep p) ms r part p places) same is in
     ends-along (located plan (part.object ∷ [])) (location_of tree (roots_by keep plan) plan ms)
-    (part-unlocated tree first ms valid (roots_by keep plan) plan places by.whole part by.link by.kept) (outcome_of_locate part.object.maus r)
+    (part-unlocated tree first ms valid (roots_by keep plan) plan places by.whole part by.link by.kept by.sound.symbols) (outcome_of_planned part.object.maus r)
     (locate-ends (part.object ∷ []) plan r by.met)
 
 -- a part that cannot be located is what keeps the modules from having a location
 pub unlocated-is : (tree : Forest) (keep : List (List ℕ)) (ms : List Parts) (places : Places) (whole part : TracedModule) (plan : Plan)
     → IsTracedLink tree ms places whole → IsKeptPart (roots_by keep plan) whole part → AreDistinct (names_of part.object.names.publics)
-    → IsSoundPlan plan → (o : Obstacle) → IsUnlocatedPart part plan places o → IsObstacle tree keep ms o
-unlocated-is tree keep ms places whole part plan link kept names sound (obstacle.Unlocated r own by at) (same, planned, placed, met) =
+    → weight part.object < weight_limit → IsReadPlan plan → (o : Obstacle) → IsUnlocatedPart part plan places o → IsObstacle tree keep ms o
+unlocated-is tree keep ms places whole part plan link kept names light sound (obstacle.Unlocated r own by at) (same, planned, placed, met) =
     let is : IsUnlocated tree (roots_by keep plan) ms r part plan places
-    = record { whole = whole; link = link; kept = kept; names = names; sound = sound; met = met } in
+    = record { whole = whole; link = link; kept = kept; names = names; light = light; sound = sound; met = met } in
     subst (λ (x : TracedModule). IsUnlocated tree (roots_by keep by) ms r x by at) (sym same)
     (subst (λ (x : Plan). IsUnlocated tree (roots_by keep x) ms r part x at) (sym planned)
     (subst (λ (x : Places). IsUnlocated tree (roots_by keep plan) ms r part plan x) (sym placed) is))
-unlocated-is tree keep ms places whole part plan link kept names sound (obstacle.Unlinked r) never = absurd never
-unlocated-is tree keep ms places whole part plan link kept names sound (obstacle.Unkept r by at) never = absurd never
+unlocated-is tree keep ms places whole part plan link kept names light sound (obstacle.Unlinked r) never = absurd never
+unlocated-is tree keep ms places whole part plan link kept names light sound (obstacle.Unkept r by at) never = absurd never
 
 -- by this plan
 pub unlocated-plan : (part : TracedModule) (plan : Plan) (places : Places) (o : Obstacle) → IsUnlocatedPart part plan places o → HasPlan plan o

@@ -1,19 +1,19 @@
 -- A task that links no files names no more than an input if it has no output.
 use Rattle.std.proofs.Common.{◌≡◌, ◌≢◌, ℕ, ◌*◌, ◌<◌, ◌≤◌, Bool, cond, flat_map, true, false, List, [], length, Option, Some, None, refl, sym, subst}
-use Rattle.std.proofs.Common.{◌∙◌, inl, inr, arith}
+use Rattle.std.proofs.Common.{◌∙◌, ap, inl, inr, option_map, arith}
 use Rattle.mufom_host.specs.World.{Faults, Meaning, NamedFile, OnlyPrints}
 use Rattle.mufom_host.specs.declared.cause.Cause.{Cause}
 use Rattle.mufom_numbers.specs.declared.limits.TheConstants.{MOST_MODULES}
 use Rattle.mufom_make.specs.Generated.{made_modules, made_plan}
 use Rattle.mufom_make.proofs.NoFactLaws.{all-locate}
-use Rattle.mufom_meaning.specs.Facts.{LocateFact}
+use Rattle.mufom_planned.specs.Planned.{PlanFact, of_list}
 use Rattle.mufom_module.specs.declared.module.Parts.{Parts}
 use Rattle.mufom_titxt.specs.declared.refusal.TxtRefusal.{TxtRefusal}
 use Rattle.mufom_titxt.specs.Texts.{txt_refusal}
 use Rattle.mufom_groups.specs.Work.{Work, gives, stops}
 use Rattle.mufom_outcome.specs.declared.outcome.Outcome.{Outcome}
 use Rattle.mufom_outcome.specs.declared.outcome.Outcome.TheVariants as outcome
-use Rattle.mufom_outcome.specs.Stop.{Stop, words_refused, plan_refused, file_refused, past_limit, link_fact, keep_unknown, locate_fact, raw_too_long}
+use Rattle.mufom_outcome.specs.Stop.{Stop, words_refused, plan_refused, file_refused, past_limit, link_fact, keep_unknown, name_shared, locate_fact, bytes_refused}
 use Rattle.mufom_outcome.specs.Stop.{text_refused, listing_refused}
 use Rattle.mufom_task.specs.declared.task.Inputs.{Inputs}
 use Rattle.mufom_task.specs.declared.task.Product.{Product}
@@ -34,6 +34,7 @@ use Rattle.mufom_command.specs.RunParts.{IsUnprepared, NamesInputs, StopsFor}
 use Rattle.mufom_text.specs.Show.{text_of}
 use Rattle.mufom_command.specs.Text.{Text, check_text}
 use Rattle.mufom_command.specs.Works.{form_of, listing, located_unless, making, module_of_text, parts_of_listing, parts_of_txt, runs_unless, work_of}
+use Rattle.mufom_command.proofs.EndLaws.{plain-answer}
 use Rattle.mufom_command.proofs.ExplainReading.{IsOfReading, modules-end, reading-ends, text-end}
 
 -- ---- the ends of a task that reads files
@@ -56,7 +57,8 @@ build-end text (text_refused r) ends = absurd ends
 build-end text (link_fact f) ends = absurd ends
 build-end text (keep_unknown name) ends = absurd ends
 build-end text (locate_fact maus f) ends = absurd ends
-build-end text (raw_too_long count) ends = absurd ends
+build-end text (bytes_refused b) ends = absurd ends
+build-end text (name_shared name) ends = absurd ends
 build-end text (words_refused w) ends = absurd ends
 build-end text (plan_refused r) ends = absurd ends
 build-end text (file_refused n r) ends = absurd ends
@@ -71,7 +73,8 @@ module-ends parts_of each out files c s (inr (text, read, inr (parts, is, (held,
 -- no run of `make` is refused: the modules that it generates have a location
 pub make-never : (count : ℕ) → 1 ≤ count → count ≤ MOST_MODULES → (s : Stop) → making count (stops s) → ⊥
 make-never count some few s (inl ends) =
-    subst (λ (o : Option LocateFact). located_unless o (made_plan count) (made_modules count) (stops s)) (all-locate count some few) ends
+    subst (λ (o : Option PlanFact). located_unless o (made_plan count) (made_modules count) (stops s))
+    (plain-answer (made_modules count) (made_plan count) refl (refl, tt) ∙ ap (option_map of_list) (all-locate count some few)) ends
 make-never count some few s (inr (r, is, ends)) = ends
 
 other-ends : (t : Task) → IsSoundTask t → NamesInputs t → (files : List NamedFile) (s : Stop) → work_of t files (stops s) → IsOfReading s
@@ -142,6 +145,7 @@ keeps-none plan none files (outcome.Refused (refusal.Plan r)) = λ name named. a
 keeps-none plan none files (outcome.Refused (refusal.Read n r)) = tt
 keeps-none plan none files (outcome.Refused (refusal.Bin count)) = tt
 keeps-none plan none files (outcome.Refused (refusal.Keep kept)) = tt
+keeps-none plan none files (outcome.Refused (refusal.SharedName shared)) = tt
 keeps-none plan none files (outcome.Refused (refusal.Text r)) = tt
 keeps-none plan none files (outcome.Refused (refusal.Build r)) = tt
 keeps-none plan none files (outcome.Refused (refusal.InputLimit n)) = tt
@@ -160,6 +164,7 @@ unread-none c host_tells none (outcome.Refused (refusal.Plan r)) details is = λ
 unread-none c host_tells none (outcome.Refused (refusal.Read n r)) details is = is
 unread-none c host_tells none (outcome.Refused (refusal.Bin count)) details is = is
 unread-none c host_tells none (outcome.Refused (refusal.Keep kept)) details is = is
+unread-none c host_tells none (outcome.Refused (refusal.SharedName shared)) details is = is
 unread-none c host_tells none (outcome.Refused (refusal.Text r)) details is = is
 unread-none c host_tells none (outcome.Refused (refusal.Build r)) details is = is
 unread-none c host_tells none (outcome.Refused (refusal.InputLimit n)) details is = is

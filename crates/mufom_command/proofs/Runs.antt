@@ -17,10 +17,9 @@ use Rattle.mufom_plan.specs.declared.refusal.PlanRefusal.{PlanRefusal}
 use Rattle.mufom_plan.specs.PlanText.{plan_of_text}
 use Rattle.mufom_meaning.specs.declared.located.LocatedParts.{LocatedParts}
 use Rattle.mufom_meaning.specs.Absolute.{absolute_of, no_regions}
-use Rattle.mufom_meaning.specs.Facts.{LocateFact}
-use Rattle.mufom_meaning.specs.LocateAnswer.{locate_answer}
-use Rattle.mufom_meaning.specs.Location.{IsLocation}
-use Rattle.mufom_meaning.proofs.locations.Single.{location_is_single}
+use Rattle.mufom_planned.specs.Planned.{IsPlanned, PlanFact, planned_answer}
+use Rattle.mufom_planned.proofs.Single.{planned_location_is_single}
+use Rattle.mufom_outcome.specs.declared.outcome.BinRefusal.{BinRefusal}
 use Rattle.mufom_words.specs.Tree.{Forest, tree_of}
 use Rattle.mufom_outcome.specs.declared.outcome.Outcome.{Outcome}
 use Rattle.mufom_outcome.specs.declared.outcome.Outcome.TheVariants as outcome
@@ -37,7 +36,7 @@ use Rattle.mufom_groups.specs.Work.{Reached, gives, stops, Work, ◌>>=◌, one_
 use Rattle.mufom_groups.proofs.Singles.{joined-single, linked-single}
 use Rattle.mufom_groups.proofs.Works.{sure-single, stop_at-single, one_with-single, nowhere-single, stops-single, then-single}
 use Rattle.mufom_words.specs.Explain.{explained}
-use Rattle.mufom_outcome.specs.Stop.{Stop, words_refused, plan_refused, file_refused, past_limit, link_fact, keep_unknown, locate_fact, raw_too_long}
+use Rattle.mufom_outcome.specs.Stop.{Stop, words_refused, plan_refused, file_refused, past_limit, link_fact, keep_unknown, name_shared, locate_fact, bytes_refused}
 use Rattle.mufom_outcome.specs.Stop.{text_refused, listing_refused}
 use Rattle.mufom_build.specs.declared.refusal.BuildRefusal.TheVariants as build
 use Rattle.mufom_build.proofs.Excluded.{built_not_refused, defect_not_built, defect_not_refused, one_defect}
@@ -61,10 +60,11 @@ use Rattle.mufom_titxt.specs.Texts.{txt_cells, txt_refusal}
 use Rattle.mufom_titxt.specs.Written.{txt_text}
 use Rattle.mufom_command.specs.Roots.{Roots, first_unknown, roots_by}
 use Rattle.mufom_command.specs.Works.{Kept, Output, all_of, printed, made, form_of, prints, writes, writes_module, kept_of, kept_unless}
-use Rattle.mufom_command.specs.Works.{linked_file, listing, linking, located, located_unless, locating_kept, mapped_kept, maus_of, module_of_text}
-use Rattle.mufom_command.specs.Works.{not_explained, parts_of_listing, parts_of_txt, producing, product_of, product_with, raw_file, rest_of}
-use Rattle.mufom_command.specs.Works.{rest_of_module, runs_of_text, runs_unless, unless_too_long, work_by, work_for, work_of}
-use Rattle.mufom_task.specs.Reading.{carried_out, file_in, plan_by}
+use Rattle.mufom_command.specs.Works.{linked_file, listing, linking, located, located_unless, stop_of, locating_kept, mapped_kept, maus_of, module_of_text}
+use Rattle.mufom_command.specs.Works.{not_explained, parts_of_listing, parts_of_txt, producing, product_of, product_with, rest_of}
+use Rattle.mufom_command.specs.Works.{bytes_unless, length_fact, region_fact, region_image, region_named}
+use Rattle.mufom_command.specs.Works.{rest_of_module, runs_of_text, runs_unless, work_by, work_for, work_of}
+use Rattle.mufom_task.specs.Reading.{file_in, plan_by}
 use Rattle.mufom_task.specs.Reading.{plan_in, modules_in}
 use Rattle.mufom_task.specs.Reading.{text_in, unless_past_limit}
 use Rattle.mufom_task.specs.declared.task.Inputs.{Inputs}
@@ -109,7 +109,8 @@ by_verdict files c (stops (plan_refused r)) is = absurd is
 by_verdict files c (stops (link_fact f)) is = absurd is
 by_verdict files c (stops (locate_fact maus f)) is = absurd is
 by_verdict files c (stops (keep_unknown name)) is = absurd is
-by_verdict files c (stops (raw_too_long count)) is = absurd is
+by_verdict files c (stops (bytes_refused b)) is = absurd is
+by_verdict files c (stops (name_shared name)) is = absurd is
 by_verdict files c (stops (text_refused r)) is = absurd is
 by_verdict files c (stops (listing_refused r)) is = absurd is
 
@@ -140,22 +141,22 @@ one-file files name = one_with-single (λ bytes. file_named name files ≡ Some 
 -- ---- the plan
 
 plan_by-single : (r : Result Plan PlanRefusal) → IsSingle (plan_by r)
-plan_by-single (Ok plan) = sure-single plan
-plan_by-single (Err r) = stop_at-single (plan_refused r)
+plan_by-single (Ok plan) x y (sound, is_x) (again, is_y) = sure-single plan x y is_x is_y
+plan_by-single (Err r) x y is_x is_y = stop_at-single (plan_refused r) x y is_x is_y
 
 pub plan_in-single : (files : List NamedFile) (name : Option (List ℕ)) → IsSingle (plan_in files name)
 plan_in-single files None = sure-single no_regions
 plan_in-single files (Some name) =
-    then-single (file_in files name) (λ bytes. plan_by (carried_out (plan_of_text bytes))) (one-file files name)
-    (λ bytes. plan_by-single (carried_out (plan_of_text bytes)))
+    then-single (file_in files name) (λ bytes. plan_by (plan_of_text bytes)) (one-file files name)
+    (λ bytes. plan_by-single (plan_of_text bytes))
 
 -- ---- what is put out of a list
 
 pub located-single : (plan : Plan) (ms : List Parts) → IsSingle (located plan ms)
-located-single plan ms = by (locate_answer ms plan) where
-  by : (o : Option LocateFact) → IsSingle (located_unless o plan ms)
-  by None = one_with-single (IsLocation ms plan) (location_is_single ms plan)
-  by (Some f) = stop_at-single (locate_fact (maus_of ms) f)
+located-single plan ms = by (planned_answer ms plan) where
+  by : (o : Option PlanFact) → IsSingle (located_unless o plan ms)
+  by None = one_with-single (IsPlanned ms plan) (planned_location_is_single ms plan)
+  by (Some f) = stop_at-single (stop_of (maus_of ms) f)
 
 rest_of_module-single : (roots : Roots) (M : Parts) → IsSingle (rest_of_module roots M)
 rest_of_module-single roots M =
@@ -187,15 +188,15 @@ locating_kept-single keep plan flat output single =
 
 -- ---- what is made of a location
 
-raw_file-single : (fill : ℕ) (out : List ℕ) (r : LocatedParts) → IsSingle (raw_file fill out r)
-raw_file-single fill out r = by (nat_lt MOST_FILE_BYTES (length (raw_image fill r.runs))) where
-  by : (b : Bool) → IsSingle (unless_too_long b out (raw_image fill r.runs))
-  by true = stop_at-single (raw_too_long (length (raw_image fill r.runs)))
-  by false = writes-single out (raw_image fill r.runs)
+bytes-single : (o : Option BinRefusal) (name bytes : List ℕ) → IsSingle (bytes_unless o name bytes)
+bytes-single (Some b) name bytes = stop_at-single (bytes_refused b)
+bytes-single None name bytes = writes-single name bytes
 
 pub product-single : (p : Product) (names : FileNames) (shown : Mapped) (r : LocatedParts) → IsSingle (product_of p names shown r)
 product-single (product.Absolute out) names shown r = writes_module-single out (absolute_of r)
-product-single (product.Raw fill out) names shown r = raw_file-single fill out r
+product-single (product.Raw fill out) names shown r = bytes-single (length_fact (length (raw_image fill r.runs))) out (raw_image fill r.runs)
+product-single (product.Region name fill out) names shown r =
+    bytes-single (region_fact name (region_named shown.regions name)) out (region_image fill (region_named shown.regions name) r)
 product-single (product.TiTxt out) names shown r = writes-single out (txt_text r.runs)
 product-single product.Image names shown r = sure-single (printed (image_text r))
 product-single (product.Map at) names shown r = sure-single (printed (view_text names at shown))
@@ -247,7 +248,8 @@ by_listing text (stops (past_limit n)) is = absurd is
 by_listing text (stops (link_fact f)) is = absurd is
 by_listing text (stops (keep_unknown name)) is = absurd is
 by_listing text (stops (locate_fact maus f)) is = absurd is
-by_listing text (stops (raw_too_long count)) is = absurd is
+by_listing text (stops (bytes_refused b)) is = absurd is
+by_listing text (stops (name_shared name)) is = absurd is
 by_listing text (stops (text_refused r)) is = absurd is
 
 one-build : (text : List ℕ) (m n : Parts) → Build text m → Build text n → m ≡ n

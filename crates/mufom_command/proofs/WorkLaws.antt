@@ -1,6 +1,6 @@
 -- What the work of a task comes to, from what its inputs and their modules come to.
 use Rattle.std.proofs.Common.{◌≡◌, ◌<◌, ◌≤◌, ℕ, Bool, false, true, nat_lt, arith, rules, length, List, Option, Some, None, refl, sym, ap, subst}
-use Rattle.std.proofs.Common.{◌∙◌, inl, inr}
+use Rattle.std.proofs.Common.{◌∙◌, ◌⊎◌, inl, inr, if◌then◌else◌}
 use Rattle.std.proofs.lemmas.Bool.{ltb-true}
 use Rattle.mufom_numbers.specs.declared.limits.TheConstants.{MOST_FILE_BYTES}
 use Rattle.mufom_host.specs.World.{NamedFile}
@@ -15,7 +15,12 @@ use Rattle.mufom_write.specs.Raw.{raw_image}
 use Rattle.mufom_groups.specs.Linked.{linked_module}
 use Rattle.mufom_groups.specs.Work.{Reached, Work, gives, stops, with_stops}
 use Rattle.mufom_origins.specs.Origins.{origins_of}
-use Rattle.mufom_outcome.specs.Stop.{Stop, link_fact, raw_too_long}
+use Rattle.mufom_outcome.specs.declared.outcome.BinRefusal.{BinRefusal}
+use Rattle.mufom_outcome.specs.declared.outcome.BinRefusal.TheVariants as bins
+use Rattle.mufom_outcome.specs.declared.outcome.Outcome.{Outcome}
+use Rattle.mufom_outcome.specs.declared.outcome.Outcome.TheVariants as outcome
+use Rattle.mufom_outcome.specs.declared.outcome.Refusal.TheVariants as refusal
+use Rattle.mufom_outcome.specs.Stop.{Stop, link_fact, bytes_refused}
 use Rattle.mufom_task.specs.declared.task.Inputs.{Inputs}
 use Rattle.mufom_task.specs.declared.task.Product.{Product}
 use Rattle.mufom_task.specs.declared.task.Product.TheVariants as product
@@ -26,9 +31,10 @@ use Rattle.mufom_command.specs.declared.locating.Location.{Location}
 use Rattle.mufom_command.specs.Locations.{AreMapped, shown_of}
 use Rattle.mufom_command.specs.Run.{file_name}
 use Rattle.mufom_command.specs.Roots.{roots_by}
-use Rattle.mufom_command.specs.Works.{IsHeld, Output, linked_file, linking, listing, locating, made, printed, product_of, raw_file, unless_too_long}
+use Rattle.mufom_command.specs.Works.{IsHeld, Output, linked_file, linking, listing, locating, made, printed, product_of}
+use Rattle.mufom_command.specs.Works.{bytes_unless, length_fact, region_fact, region_image, region_named}
 use Rattle.mufom_command.specs.Text.{Text}
-use Rattle.mufom_command.specs.WorkEnds.{location_of}
+use Rattle.mufom_command.specs.WorkEnds.{EndsAt, location_of}
 
 -- ---- the inputs end the work
 
@@ -149,45 +155,56 @@ module _ (c : Inputs) (plan : Plan) (ms : List Parts) (files : List NamedFile) (
 is-less : {n m : ℕ} → n < m → nat_lt n m ≡ true
 is-less {n = n} {m = m} less = search rules
 
--- a raw image with too many bytes is not put out
-pub raw-stops : (fill : ℕ) (out : List ℕ) (r : LocatedParts) (count : ℕ) → count ≡ length (raw_image fill r.runs) → MOST_FILE_BYTES < count
-    → raw_file fill out r (stops (raw_too_long count))
-raw-stops fill out r count same past =
-    by (nat_lt MOST_FILE_BYTES (length (raw_image fill r.runs))) (is-less (subst (λ (n : ℕ). MOST_FILE_BYTES < n) same past)) where
-      by : (b : Bool) → b ≡ true → unless_too_long b out (raw_image fill r.runs) (stops (raw_too_long count))
-      by true is = ap (λ (n : ℕ). raw_too_long n) same
-      by false is = absurd cc
+-- there are too many bytes, or not
+pub too-many : (count : ℕ) → MOST_FILE_BYTES < count → length_fact count ≡ Some (bins.TooLong count)
+too-many count past = ap (λ b. if b then Some (bins.TooLong count) else None) (is-less past)
 
--- any other is
-pub raw-gives : (fill : ℕ) (out : List ℕ) (r : LocatedParts) → length (raw_image fill r.runs) ≤ MOST_FILE_BYTES
-    → raw_file fill out r (gives (made out (raw_image fill r.runs)))
-raw-gives fill out r few = by (nat_lt MOST_FILE_BYTES (length (raw_image fill r.runs))) refl where
-  by : (b : Bool) → nat_lt MOST_FILE_BYTES (length (raw_image fill r.runs)) ≡ b
-      → unless_too_long b out (raw_image fill r.runs) (gives (made out (raw_image fill r.runs)))
-  by true is = absurd (omega (arith, few, ltb-true MOST_FILE_BYTES (length (raw_image fill r.runs)) is))
+pub not-too-many : (count : ℕ) → count ≤ MOST_FILE_BYTES → length_fact count ≡ None
+not-too-many count few = by (nat_lt MOST_FILE_BYTES count) refl where
+  by : (b : Bool) → nat_lt MOST_FILE_BYTES count ≡ b → (if b then Some (bins.TooLong count) else None) ≡ None
+  by true is = absurd (omega (arith, few, ltb-true MOST_FILE_BYTES count is))
   by false is = refl
 
-raw-place : (b : Bool) (out bytes : List ℕ) (o : Output) → unless_too_long b out bytes (gives o) → file_name o ≡ Some out
-raw-place true out bytes o is = absurd is
-raw-place false out bytes o is = ap file_name is
+-- bytes that are refused are not put out, and others are
+pub bytes-stop : (o : Option BinRefusal) (b : BinRefusal) → o ≡ Some b → (name bytes : List ℕ) → bytes_unless o name bytes (stops (bytes_refused b))
+bytes-stop o b some name bytes = subst (λ (p : Option BinRefusal). bytes_unless p name bytes (stops (bytes_refused b))) (sym some) refl
+
+pub bytes-give : (o : Option BinRefusal) → o ≡ None → (name bytes : List ℕ) → bytes_unless o name bytes (gives (made name bytes))
+bytes-give o none name bytes = subst (λ (p : Option BinRefusal). bytes_unless p name bytes (gives (made name bytes))) (sym none) refl
+
+-- a name that no region has is refused, if it can be copied
+pub region-unknown : (name out bytes : List ℕ) (answer : Outcome)
+    → (answer ≡ outcome.NoMemory) ⊎ (answer ≡ outcome.Refused (refusal.Bin (bins.Region name)))
+    → EndsAt (bytes_unless (region_fact name None) out bytes) answer
+region-unknown name out bytes answer (inl same) = inl same
+region-unknown name out bytes answer (inr same) = inr (bytes_refused (bins.Region name), tt, same, refl)
+
+bytes-place : (o : Option BinRefusal) (name bytes : List ℕ) (output : Output) → bytes_unless o name bytes (gives output) → file_name output ≡ Some name
+bytes-place (Some b) name bytes output is = absurd is
+bytes-place None name bytes output is = ap file_name is
+
+bytes-ends : (o : Option BinRefusal) (name bytes : List ℕ) (s : Stop) → bytes_unless o name bytes (stops s) → (b : BinRefusal) × (s ≡ bytes_refused b)
+bytes-ends (Some b) name bytes s is = (b, is)
+bytes-ends None name bytes s is = absurd is
 
 -- a file has the name that is given
 pub product-place : (p : Product) (names : FileNames) (shown : Mapped) (r : LocatedParts) (o : Output) → product_of p names shown r (gives o) → file_name o ≡ file_of p
 product-place (product.Absolute out) names shown r o (held, is) = ap file_name is
-product-place (product.Raw fill out) names shown r o is = raw-place (nat_lt MOST_FILE_BYTES (length (raw_image fill r.runs))) out (raw_image fill r.runs) o is
+product-place (product.Raw fill out) names shown r o is = bytes-place (length_fact (length (raw_image fill r.runs))) out (raw_image fill r.runs) o is
+product-place (product.Region name fill out) names shown r o is =
+    bytes-place (region_fact name (region_named shown.regions name)) out (region_image fill (region_named shown.regions name) r) o is
 product-place (product.TiTxt out) names shown r o is = ap file_name is
 product-place product.Image names shown r o is = ap file_name is
 product-place (product.Map at) names shown r o is = ap file_name is
 product-place (product.Hit at) names shown r o is = ap file_name is
 
--- Only a raw image has no output, if it is too long.
+-- Only the bytes of `bin` may be refused.
 pub product-stops : (p : Product) (names : FileNames) (shown : Mapped) (r : LocatedParts) (s : Stop) → product_of p names shown r (stops s)
-    → (count : ℕ) × (s ≡ raw_too_long count)
+    → (b : BinRefusal) × (s ≡ bytes_refused b)
 product-stops (product.Absolute out) names shown r s (held, never) = absurd never
-product-stops (product.Raw fill out) names shown r s is = by (nat_lt MOST_FILE_BYTES (length (raw_image fill r.runs))) is where
-  by : (b : Bool) → unless_too_long b out (raw_image fill r.runs) (stops s) → (count : ℕ) × (s ≡ raw_too_long count)
-  by true is = (length (raw_image fill r.runs), is)
-  by false is = absurd is
+product-stops (product.Raw fill out) names shown r s is = bytes-ends (length_fact (length (raw_image fill r.runs))) out (raw_image fill r.runs) s is
+product-stops (product.Region name fill out) names shown r s is =
+    bytes-ends (region_fact name (region_named shown.regions name)) out (region_image fill (region_named shown.regions name) r) s is
 product-stops (product.TiTxt out) names shown r s never = absurd never
 product-stops product.Image names shown r s never = absurd never
 product-stops (product.Map at) names shown r s never = absurd never

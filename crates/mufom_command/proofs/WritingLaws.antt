@@ -24,9 +24,13 @@ in-apart from [] apart run there = absurd there
 in-apart from (first ∷ runs) apart run (inl same) = subst HasByte same apart.1
 in-apart from (first ∷ runs) apart run (inr later) = in-apart (first.address + length first.bytes + 1) runs apart.2 run later
 
--- each run of a location has a byte
+-- the runs of a location are in the order of their addresses
+pub located-apart : (r : LocatedParts) → IsLocated r → AreApart 0 r.runs
+located-apart r is = is.is.rows.apart
+
+-- and each has a byte
 pub located-bytes : (r : LocatedParts) → IsLocated r → All HasByte r.runs
-located-bytes r is = All-In HasByte r.runs (in-apart 0 r.runs is.is.rows.apart)
+located-bytes r is = All-In HasByte r.runs (in-apart 0 r.runs (located-apart r is))
 
 -- ---- one run after another
 

@@ -1,5 +1,5 @@
 -- The lines about what the outcome of a task names: files, the plan, sections, regions, and the modules that mention a name.
-use Rattle.std.specs.Prelude.{◌≡◌, ◌⊎◌, ℕ, ◌<◌, List, [], ◌∷◌, length, Option, Some, None, IfSome, if◌then◌else◌}
+use Rattle.std.specs.Prelude.{◌++◌, ◌≡◌, ◌⊎◌, ℕ, ◌<◌, List, [], ◌∷◌, length, Option, Some, None, IfSome, if◌then◌else◌}
 use Rattle.mufom_host.specs.World.{NamedFile, file_named}
 use Rattle.mufom_host.specs.declared.cause.Cause.{Cause}
 use Rattle.mufom_module.specs.declared.module.Parts.{Parts}
@@ -7,13 +7,15 @@ use Rattle.mufom_meaning.specs.Facts.{LinkFact, LocateFact}
 use Rattle.mufom_meaning.specs.Joined.{IsJoined}
 use Rattle.mufom_words.specs.Tree.{tree_of}
 use Rattle.mufom_plan.specs.declared.plan.Plan.{Plan}
+use Rattle.mufom_plan.specs.declared.plan.PlanSymbol.{PlanSymbol}
+use Rattle.mufom_planned.specs.Shown.{shown_list}
 use Rattle.mufom_groups.specs.Linked.{first_name}
 use Rattle.mufom_groups.specs.Refused.{IsRefusedList}
 use Rattle.mufom_groups.specs.Refusals.{link_refusal}
 use Rattle.mufom_groups.specs.Work.{Work, ◌>>=◌, gives, one_with, sure}
 use Rattle.mufom_origins.specs.Origins.{FileModule, modules_of, numbered, origins_of}
 use Rattle.mufom_origins.specs.Places.{at_positions}
-use Rattle.mufom_explain.specs.Details.{Explained, link_details, locate_details, name_details}
+use Rattle.mufom_explain.specs.Details.{Explained, link_details, locate_details, name_details, shared_details}
 use Rattle.mufom_explain.specs.Lines.{file_line, plan_line}
 use Rattle.mufom_text.specs.Words.{Text}
 use Rattle.mufom_outcome.specs.declared.outcome.Input.{Input}
@@ -21,7 +23,7 @@ use Rattle.mufom_outcome.specs.declared.outcome.Input.TheVariants as input
 use Rattle.mufom_outcome.specs.declared.outcome.Outcome.{Outcome}
 use Rattle.mufom_outcome.specs.declared.outcome.Outcome.TheVariants as outcome
 use Rattle.mufom_outcome.specs.declared.outcome.Refusal.TheVariants as refusal
-use Rattle.mufom_outcome.specs.Stop.{Stop, words_refused, plan_refused, file_refused, past_limit, link_fact, keep_unknown, locate_fact, raw_too_long}
+use Rattle.mufom_outcome.specs.Stop.{Stop, words_refused, plan_refused, file_refused, past_limit, link_fact, keep_unknown, name_shared, locate_fact, bytes_refused}
 use Rattle.mufom_outcome.specs.Stop.{text_refused, listing_refused}
 use Rattle.mufom_prune.specs.Pruned.{Remains}
 use Rattle.mufom_command.specs.Roots.{roots_by}
@@ -106,26 +108,33 @@ lines_of_name files c name = do
 
 -- ---- locating
 
--- The one module that is located for what is kept of a list: the partial link of the list under the name of its first module, if all is kept, and
+-- The one module for what is kept of a list: the partial link of the list under the name of its first module, if all is kept, and
 -- otherwise what remains of that link.
 abbrev pub IsObjectBy : Option Remains → List Parts → Parts → Type 0
 IsObjectBy None ms object = IsJoined object ms (first_name ms)
 IsObjectBy (Some c) ms object = ms ≡ object ∷ []
 
-abbrev pub IsObjectOf : Kept → Parts → Type 0
-IsObjectOf kept object = IsObjectBy kept.rest kept.modules object
+-- the one module that is located for it: with symbols of a plan, the link of the list with them
+abbrev pub IsObjectWith : List PlanSymbol → Plan → Kept → Parts → Type 0
+IsObjectWith [] plan kept object = IsObjectBy kept.rest kept.modules object
+IsObjectWith (symbol ∷ more) plan kept object = IsJoined object (shown_list kept.modules plan) (first_name kept.modules)
 
--- The context in which an error of locating is explained. Sections, sizes of commons and undefined names are those of what is kept of the flat list;
--- the modules that mention a name or request a common are looked up in the whole flat list. The value of a field is that of the one module that is
--- located. `maus` is the length of an address in units.
-abbrev pub explained_by : Inputs → Plan → List FileModule → Kept → Parts → ℕ → Explained
-explained_by c plan flat kept object maus = record {
+abbrev pub IsObjectOf : Plan → Kept → Parts → Type 0
+IsObjectOf plan kept object = IsObjectWith plan.symbols plan kept object
+
+-- The context in which an error of locating is explained. Sections, sizes of commons and undefined names are those of what is kept of the flat list,
+-- with the plan's symbols; the modules that mention a name or request a common are looked up in the whole flat list. A field is found in `object`, the
+-- one module that is located; its expression is that of `own`, the one module for what is kept, in which a reference to a symbol of the plan is still
+-- a reference. `maus` is the length of an address in units.
+abbrev pub explained_by : Inputs → Plan → List FileModule → Kept → Parts → Parts → ℕ → Explained
+explained_by c plan flat kept object own maus = record {
   names = c.files;
   flat = flat;
   origins = kept_origins kept.rest (origins_of flat);
   maus = maus;
-  modules = kept.modules;
+  modules = shown_list kept.modules plan;
   object = object;
+  own = own;
   plan = plan;
 }
 
@@ -136,8 +145,22 @@ lines_of_locate files c keep maus f = do
   ms ← modules_in files c
   flat ← one_with (AreFlatFiles (tree_of c.marks) ms)
   kept ← kept_of (roots_by keep plan) (modules_of flat)
-  object ← one_with (IsObjectOf kept)
-  sure (locate_details (explained_by c plan flat kept object maus) (locate_refusal f))
+  own ← one_with (IsObjectBy kept.rest kept.modules)
+  object ← one_with (IsObjectOf plan kept)
+  sure (locate_details (explained_by c plan flat kept object own maus) (locate_refusal f))
+
+-- the line of the plan, if one is named
+abbrev pub plan_lines : Option (List ℕ) → Text
+plan_lines None = []
+plan_lines (Some name) = plan_line name
+
+-- the lines about a name that a symbol of the plan shares with a public of what is kept: the symbol, the modules that mention the name, and the plan
+abbrev pub lines_of_shared : List NamedFile → Inputs → List ℕ → Work Stop Text
+lines_of_shared files c name = do
+  plan ← plan_in files c.plan
+  ms ← modules_in files c
+  flat ← one_with (AreFlatFiles (tree_of c.marks) ms)
+  sure (shared_details c.files flat plan name ++ plan_lines c.plan)
 
 -- ---- any end
 
@@ -151,8 +174,9 @@ HasDetails files c keep (text_refused r) details = HasFileLine c 0 details
 HasDetails files c keep (listing_refused r) details = HasFileLine c 0 details
 HasDetails files c keep (link_fact f) details = IfSome files (λ fs. lines_of_link fs c f (gives details))
 HasDetails files c keep (keep_unknown name) details = IfSome files (λ fs. lines_of_name fs c name (gives details))
+HasDetails files c keep (name_shared name) details = IfSome files (λ fs. lines_of_shared fs c name (gives details))
 HasDetails files c keep (locate_fact maus f) details = IfSome files (λ fs. lines_of_locate fs c keep maus f (gives details))
-HasDetails files c keep (raw_too_long count) details = details ≡ []
+HasDetails files c keep (bytes_refused b) details = details ≡ []
 HasDetails files c keep (words_refused s) details = details ≡ []
 
 -- The lines about the input that an outcome names; none if the outcome names no input. If it could not be read, the host told this cause. For a plan,

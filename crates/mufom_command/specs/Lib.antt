@@ -15,3 +15,4 @@ pub mod Contract
 pub mod Making
 pub mod Ready
 pub mod RunParts
+pub mod Same

@@ -1,16 +1,15 @@
 -- A location with all that is made of it, as the code holds it, and what keeps a list of modules from having one.
-use Rattle.std.specs.Prelude.{◌≡◌, ℕ, ◌≤◌, List, [], ◌∷◌, length, Option, None}
+use Rattle.std.specs.Prelude.{◌≡◌, ℕ, ◌<◌, ◌≤◌, List, [], ◌∷◌, length, Option, None}
 use Rattle.mufom_module.specs.declared.module.Parts.{Parts}
 use Rattle.mufom_module.specs.Defects.{IsValid}
+use Rattle.mufom_module.specs.Written.{weight}
 use Rattle.mufom_names.specs.Names.{AreDistinct, names_of}
 use Rattle.mufom_plan.specs.declared.plan.Plan.{Plan}
-use Rattle.mufom_image.specs.Placements.{IsSoundPlan}
-use Rattle.mufom_image.specs.declared.refusal.LocateRefusal.{LocateRefusal}
-use Rattle.mufom_image.specs.Refusals.{IsMet}
-use Rattle.mufom_meaning.specs.Flat.{flat_sections}
-use Rattle.mufom_meaning.specs.LocateAnswer.{locate_answer}
-use Rattle.mufom_meaning.specs.Location.{IsLocation}
-use Rattle.mufom_meaning.specs.Placed.{placed_commons}
+use Rattle.mufom_planned.specs.Planned.{IsPlanned, planned_answer}
+use Rattle.mufom_locating.specs.Light.{weight_limit}
+use Rattle.mufom_locating.specs.Plans.{IsReadPlan}
+use Rattle.mufom_locating.specs.declared.refusal.PlannedRefusal.{PlannedRefusal}
+use Rattle.mufom_locating.specs.Refusals.{IsMetBy}
 use Rattle.mufom_meaning.specs.Selection.{IsSelected}
 use Rattle.mufom_meaning.specs.Staging.{AreValid}
 use Rattle.mufom_meaning.specs.StagingLaws.{total_weight}
@@ -23,7 +22,7 @@ use Rattle.mufom_groups.specs.Work.{gives, with_stops}
 use Rattle.mufom_origins.specs.declared.origins.Origin.{Origin}
 use Rattle.mufom_origins.specs.Origins.{FileModule, numbered, origins_of}
 use Rattle.mufom_origins.specs.Places.{with_chosen}
-use Rattle.mufom_map.specs.Mapped.{Mapped, mapped_by}
+use Rattle.mufom_map.specs.Mapped.{Mapped, mapped_by, planned_layout}
 use Rattle.mufom_command.specs.declared.locating.Location.{Location}
 use Rattle.mufom_command.specs.declared.locating.Obstacle.{Obstacle}
 use Rattle.mufom_command.specs.declared.locating.Obstacle.TheVariants as obstacle
@@ -34,7 +33,7 @@ use Rattle.mufom_command.specs.Works.{Kept, kept_of, kept_origins, located, mapp
 use Rattle.mufom_command.specs.FlatFiles.{AreFlatFiles}
 use Rattle.mufom_outcome.specs.declared.outcome.Outcome.{Outcome}
 use Rattle.mufom_prune.specs.declared.refusal.PruneRefusal.{PruneRefusal}
-use Rattle.mufom_outcome.specs.Outcomes.{outcome_of_link, outcome_of_locate, outcome_of_prune}
+use Rattle.mufom_outcome.specs.Outcomes.{outcome_of_link, outcome_of_planned, outcome_of_prune}
 use Rattle.mufom_outcome.specs.Stop.{Stop, link_fact}
 use Rattle.mufom_command.specs.WorkEnds.{EndsAt, own_kept}
 
@@ -60,17 +59,19 @@ pub record IsKeptPart (keep : Option Roots) (whole part : TracedModule) : Type 0
 
 -- what a map shows of it
 abbrev pub shown_of : Location → Mapped
-shown_of m = mapped_by m.origins m.plan (flat_sections (m.object ∷ [])) (placed_commons (m.object ∷ []) m.plan) m.located
+shown_of m = mapped_by m.origins (planned_layout (m.object ∷ []) m.plan) m.located
 
--- the module, which is located by a sound plan
+-- the module, no two publics of which have the same name and which is not too heavy, is located by a plan that was read
 pub record AreLocated (m : Location) : Type 0 where
-  pub sound : IsSoundPlan m.plan
-  pub located : IsLocation (m.object ∷ []) m.plan m.located
+  pub names : AreDistinct (names_of m.object.names.publics)
+  pub light : weight m.object < weight_limit
+  pub sound : IsReadPlan m.plan
+  pub located : IsPlanned (m.object ∷ []) m.plan m.located
 
 -- This is the location of the module by the plan, and the origins are those of the module.
 pub record LocatesPart (part : TracedModule) (plan : Plan) (m : Location) : Type 0 where
   pub is : m ≡ record { origins = part.origins; object = part.object; plan = plan; located = m.located }
-  pub located : IsLocation (part.object ∷ []) plan m.located
+  pub located : IsPlanned (part.object ∷ []) plan m.located
 
 -- The location is that of what is kept of the flat list of the tree, and a map shows that, with the files of the list.
 pub record AreMapped (tree : Forest) (keep : Option Roots) (plan : Plan) (ms : List Parts) (m : Location) : Type 0 where
@@ -104,20 +105,21 @@ pub record IsUnkept (tree : Forest) (keep : Option Roots) (ms : List Parts) (r :
   pub link : IsTracedLink tree ms places whole
   pub ends : EndsAt (own_kept keep whole.object) (outcome_of_prune r)
 
--- what is kept of such a link, in which no two publics have one name, cannot be located
-pub record IsUnlocated (tree : Forest) (keep : Option Roots) (ms : List Parts) (r : LocateRefusal) (part : TracedModule) (plan : Plan) (places : Places)
+-- what is kept of such a link, in which no two publics have the same name and which is not too heavy, cannot be located
+pub record IsUnlocated (tree : Forest) (keep : Option Roots) (ms : List Parts) (r : PlannedRefusal) (part : TracedModule) (plan : Plan) (places : Places)
     : Type 0 where
   pub whole : TracedModule
   pub link : IsTracedLink tree ms places whole
   pub kept : IsKeptPart keep whole part
   pub names : AreDistinct (names_of part.object.names.publics)
-  pub sound : IsSoundPlan plan
-  pub met : IsMet (locate_answer (part.object ∷ []) plan) r
+  pub light : weight part.object < weight_limit
+  pub sound : IsReadPlan plan
+  pub met : IsMetBy (planned_answer (part.object ∷ []) plan) r
 
 -- the part cannot be located by the plan
 abbrev pub IsUnlocatedPart : TracedModule → Plan → Places → Obstacle → Type 0
 IsUnlocatedPart part plan places (obstacle.Unlocated r own by at) =
-    (own ≡ part) × (by ≡ plan) × (at ≡ places) × IsMet (locate_answer (part.object ∷ []) plan) r
+    (own ≡ part) × (by ≡ plan) × (at ≡ places) × IsMetBy (planned_answer (part.object ∷ []) plan) r
 IsUnlocatedPart part plan places _ = ⊥
 
 -- Why the modules have no location: a list of them cannot be linked, nothing can be kept of their link for these names and the plan, or what is kept
@@ -137,4 +139,4 @@ HasPlan plan _ = Unit {0}
 abbrev pub outcome_of_obstacle : Obstacle → Outcome
 outcome_of_obstacle (obstacle.Unlinked r) = outcome_of_link r
 outcome_of_obstacle (obstacle.Unkept r plan places) = outcome_of_prune r
-outcome_of_obstacle (obstacle.Unlocated r part plan places) = outcome_of_locate part.object.maus r
+outcome_of_obstacle (obstacle.Unlocated r part plan places) = outcome_of_planned part.object.maus r

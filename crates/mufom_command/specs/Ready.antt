@@ -8,6 +8,7 @@ use Rattle.mufom_task.specs.Calls.{Call}
 use Rattle.mufom_text.specs.Image.{image_text}
 use Rattle.mufom_text.specs.Show.{text_of}
 use Rattle.mufom_titxt.specs.Written.{txt_text}
+use Rattle.mufom_write.specs.Range.{range_image}
 use Rattle.mufom_write.specs.Raw.{raw_image}
 use Rattle.mufom_command.specs.declared.ready.Ready.{Ready}
 use Rattle.mufom_command.specs.declared.ready.Ready.TheVariants as ready
@@ -22,6 +23,7 @@ ready_output (ready.Help text) = printed text.now
 ready_output (ready.Listing ms form) = printed (flat_map (text_of form) ms)
 ready_output (ready.File out object) = made out.now (written object)
 ready_output (ready.Raw out fill r) = made out.now (raw_image fill r.runs)
+ready_output (ready.Range out fill from count r) = made out.now (range_image fill from count r.runs)
 ready_output (ready.TiTxt out r) = made out.now (txt_text r.runs)
 ready_output (ready.Image r) = printed (image_text r)
 ready_output (ready.Map names at m) = printed (view_text names.now at (shown_of m))

@@ -5,6 +5,10 @@ use Rattle.mufom_host.specs.World.{NamedFile, GrowsBy, OnlyPrints, Rose}
 use Rattle.mufom_module.specs.declared.module.Parts.{Parts}
 use Rattle.mufom_module.specs.Written.{written}
 use Rattle.mufom_plan.specs.declared.plan.Plan.{Plan}
+use Rattle.mufom_plan.specs.declared.plan.PlanSymbol.{PlanSymbol}
+use Rattle.mufom_planned.specs.Shown.{shown_list}
+use Rattle.mufom_meaning.specs.Joined.{IsJoined}
+use Rattle.mufom_meaning.specs.StagingLaws.{MeansTheSame}
 use Rattle.mufom_words.specs.declared.command.Command.{Command}
 use Rattle.mufom_words.specs.declared.stop.WordsStop.{WordsStop}
 use Rattle.mufom_words.specs.Answer.{answer_of}
@@ -12,7 +16,7 @@ use Rattle.mufom_words.specs.Explain.{explained}
 use Rattle.mufom_words.specs.Tree.{Forest, tree_of}
 use Rattle.mufom_groups.specs.Linked.{linked, linked_module}
 use Rattle.mufom_groups.specs.Work.{gives}
-use Rattle.mufom_meaning.specs.StagingLaws.{MeansTheSame}
+use Rattle.mufom_command.specs.Same.{AreSame}
 use Rattle.mufom_origins.specs.declared.origins.Origin.{Origin}
 use Rattle.mufom_origins.specs.Origins.{FileModule, modules_of, origins_of}
 use Rattle.mufom_outcome.specs.declared.outcome.Outcome.{Outcome}
@@ -35,7 +39,7 @@ use Rattle.mufom_command.specs.Works.{IsHeld, Kept, Output, kept_of, kept_origin
 use Rattle.mufom_command.specs.FlatFiles.{AreFlatFiles}
 use Rattle.mufom_command.specs.Explain.{ExplainsTo, OpensSome}
 use Rattle.mufom_command.specs.ExplainText.{explain_text}
-use Rattle.mufom_command.specs.HasDetails.{HasDetails, IsObjectOf}
+use Rattle.mufom_command.specs.HasDetails.{HasDetails, IsObjectBy}
 use Rattle.mufom_command.specs.InputLines.{untried_lines}
 use Rattle.mufom_command.specs.Making.{IsPrinted}
 use Rattle.mufom_command.specs.Ready.{IsHelp, IsReady, ready_output}
@@ -124,8 +128,8 @@ pub record AreLinkedFlat (files : Option (List NamedFile)) (inputs : Inputs) (pl
 -- same modules as in the list. It is the link of the list, or what remains of it.
 pub record IsKeptFlat (keep : Option Roots) (flat : List FileModule) (object : Parts) (origins : List Origin) (kept : Kept) : Type 0 where
   pub keeps : kept_of keep (modules_of flat) (gives kept)
-  pub same : MeansTheSame (object ∷ []) kept.modules
-  pub object_is : IsObjectOf kept object
+  pub same : AreSame (object ∷ []) kept.modules
+  pub object_is : IsObjectBy kept.rest kept.modules object
   pub from : origins ≡ kept_origins kept.rest (origins_of flat)
 
 -- nothing is kept of such a list for this reason
@@ -146,6 +150,15 @@ pub record AreUnlocated (files : Option (List NamedFile)) (inputs : Inputs) (kee
   pub linked : AreLinkedFlat files inputs plan ms flat
   pub kept : Kept
   pub keeps : IsKeptFlat (roots_by keep plan) flat object origins kept
+
+-- the module that is located for a part by a plan: the part, or its link with the plan's symbols if there are any
+abbrev pub IsLocatedWith : List PlanSymbol → Parts → Plan → Parts → Type 0
+IsLocatedWith [] part plan object = object ≡ part
+IsLocatedWith (symbol ∷ more) part plan object =
+    IsJoined object (shown_list (part ∷ []) plan) part.name × MeansTheSame (object ∷ []) (shown_list (part ∷ []) plan)
+
+abbrev pub IsLocatedAs : Parts → Plan → Parts → Type 0
+IsLocatedAs part plan object = IsLocatedWith plan.symbols part plan object
 
 -- the task links lists of the modules of these inputs into one, under this name, if one is given
 abbrev pub LinksLists : Task → Inputs → Option (List ℕ) → Type 0

@@ -2,7 +2,8 @@
 use Rattle.std.specs.Prelude.{List, [], ◌++◌, Option, Some, map, option_map, IfSome}
 use Rattle.std.specs.String.{string_bytes}
 use Rattle.mufom_text.specs.Words.{Text}
-use Rattle.mufom_explain.specs.Explained.{link_text, locate_text, name_text}
+use Rattle.mufom_explain.specs.Explained.{link_text, locate_text, name_text, shared_text}
+use Rattle.mufom_command.specs.HasDetails.{plan_lines}
 use Rattle.mufom_explain.specs.Lines.{file_line, plan_line}
 use Rattle.mufom_command.specs.declared.explanation.Details.{Details}
 use Rattle.mufom_command.specs.declared.explanation.Details.TheVariants as details
@@ -25,6 +26,7 @@ told_text (details.Missing option) = missing_line option
 told_text (details.NotTried name) = untried_lines (Some name.now)
 told_text (details.Link d) = link_text d
 told_text (details.Name d) = name_text d
+told_text (details.Shared d plan) = shared_text d ++ plan_lines (option_map (λ name. name.now) plan)
 told_text (details.Locate d) = locate_text d
 
 -- the whole text

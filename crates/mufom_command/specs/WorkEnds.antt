@@ -24,7 +24,7 @@ use Rattle.mufom_task.specs.InputsRead.{inputs_in}
 use Rattle.mufom_outcome.specs.declared.outcome.Outcome.{Outcome}
 use Rattle.mufom_outcome.specs.declared.outcome.Outcome.TheVariants as outcome
 use Rattle.mufom_outcome.specs.declared.outcome.Refusal.TheVariants as refusal
-use Rattle.mufom_outcome.specs.Stop.{Stop, link_fact, keep_unknown, locate_fact, raw_too_long, text_refused, listing_refused}
+use Rattle.mufom_outcome.specs.Stop.{Stop, link_fact, keep_unknown, name_shared, locate_fact, bytes_refused, text_refused, listing_refused}
 use Rattle.mufom_task.specs.Ends.{stop_outcome}
 
 -- what remains of a module for these roots, unless this is a name that none of its publics has
@@ -55,7 +55,8 @@ abbrev pub IsOfModules : Stop → Type 0
 IsOfModules (link_fact f) = Unit {0}
 IsOfModules (keep_unknown name) = Unit {0}
 IsOfModules (locate_fact maus f) = f ≢ placement place_refusal.NoMemory
-IsOfModules (raw_too_long count) = Unit {0}
+IsOfModules (name_shared name) = Unit {0}
+IsOfModules (bytes_refused b) = Unit {0}
 IsOfModules (text_refused r) = Unit {0}
 IsOfModules (listing_refused r) = Unit {0}
 IsOfModules _ = ⊥

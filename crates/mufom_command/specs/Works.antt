@@ -1,6 +1,8 @@
 -- The table of tasks: the work of each, from its inputs to its output. The result of a run depends only on the arguments and the files.
 use Rattle.std.specs.Prelude.{◌≡◌, ℕ, ◌*◌, Bool, true, false, List, [], ◌∷◌, flat_map, length, nat_lt, not, unwrap_or, Option, Some, None, Result, Ok}
 use Rattle.std.specs.Prelude.{Err, if◌then◌else◌}
+use Rattle.std.specs.List.{find}
+use Rattle.std.specs.Str.{bytes_eq}
 use Rattle.mufom_host.specs.World.{NamedFile}
 use Rattle.mufom_words.specs.declared.command.Command.{Command}
 use Rattle.mufom_words.specs.declared.stop.UsageFault.TheVariants as usage
@@ -10,27 +12,26 @@ use Rattle.mufom_words.specs.Tree.{Forest, tree_of}
 use Rattle.mufom_module.specs.declared.module.Parts.{Parts}
 use Rattle.mufom_module.specs.Written.{written}
 use Rattle.mufom_plan.specs.declared.plan.Plan.{Plan}
+use Rattle.mufom_plan.specs.declared.plan.Region.{Region}
 use Rattle.mufom_text.specs.Image.{image_text}
 use Rattle.mufom_text.specs.declared.form.TextForm.{TextForm}
 use Rattle.mufom_text.specs.declared.form.TextForm.TheVariants as form
 use Rattle.mufom_text.specs.Show.{text_of}
 use Rattle.mufom_meaning.specs.declared.located.LocatedParts.{LocatedParts}
 use Rattle.mufom_meaning.specs.Absolute.{absolute_of}
-use Rattle.mufom_meaning.specs.Facts.{LocateFact}
-use Rattle.mufom_meaning.specs.LocateAnswer.{locate_answer}
-use Rattle.mufom_meaning.specs.Location.{IsLocation}
+use Rattle.mufom_planned.specs.Planned.{IsPlanned, PlanFact, of_list, planned_answer, shared_name}
 use Rattle.mufom_make.specs.Generated.{made_modules, made_plan, summary}
 use Rattle.mufom_groups.specs.Work.{gives, stops, Work, ◌>>=◌, sure, one_with, stop_at, nowhere, with_stops}
 use Rattle.mufom_groups.specs.Linked.{first_name, joined, linked}
-use Rattle.mufom_meaning.specs.Flat.{flat_sections}
 use Rattle.mufom_meaning.specs.Joined.{IsJoined}
-use Rattle.mufom_meaning.specs.Placed.{placed_commons}
 use Rattle.mufom_module.specs.Defects.{IsValid}
 use Rattle.mufom_module.specs.Made.{IsMade}
 use Rattle.mufom_prune.specs.Kept.{IsKeptFor}
 use Rattle.mufom_prune.specs.Pruned.{Remains, remains, without_others}
-use Rattle.mufom_outcome.specs.Stop.{Stop, words_refused, plan_refused, file_refused, past_limit, link_fact, keep_unknown, locate_fact, raw_too_long}
+use Rattle.mufom_outcome.specs.Stop.{Stop, words_refused, plan_refused, file_refused, past_limit, link_fact, keep_unknown, name_shared, locate_fact, bytes_refused}
 use Rattle.mufom_outcome.specs.Stop.{text_refused, listing_refused}
+use Rattle.mufom_outcome.specs.declared.outcome.BinRefusal.{BinRefusal}
+use Rattle.mufom_outcome.specs.declared.outcome.BinRefusal.TheVariants as bins
 use Rattle.mufom_task.specs.declared.task.Inputs.{Inputs}
 use Rattle.mufom_task.specs.declared.task.Product.{Product}
 use Rattle.mufom_task.specs.declared.task.Product.TheVariants as product
@@ -42,12 +43,13 @@ use Rattle.mufom_task.specs.Reading.{modules_in, plan_in, text_in}
 use Rattle.mufom_task.specs.Tasks.{request_of}
 use Rattle.mufom_command.specs.FlatFiles.{AreFlatFiles}
 use Rattle.mufom_command.specs.Roots.{Roots, first_unknown, roots_by}
+use Rattle.mufom_write.specs.Range.{range_image}
 use Rattle.mufom_write.specs.Raw.{raw_image}
 use Rattle.mufom_addr.specs.AddressHit.{hit_at}
 use Rattle.mufom_origins.specs.declared.origins.Origin.{Origin}
 use Rattle.mufom_origins.specs.Words.{FileNames}
 use Rattle.mufom_origins.specs.Origins.{origins_left, origins_of}
-use Rattle.mufom_map.specs.Mapped.{Mapped, mapped_by}
+use Rattle.mufom_map.specs.Mapped.{Mapped, mapped_by, planned_layout}
 use Rattle.mufom_map.specs.MapText.{view_text}
 use Rattle.mufom_meaning.specs.declared.located.Run.{Run}
 use Rattle.mufom_titxt.specs.declared.refusal.TxtRefusal.{TxtRefusal}
@@ -97,13 +99,18 @@ abbrev pub maus_of : List Parts → ℕ
 maus_of [] = 0
 maus_of (m ∷ ms) = m.maus
 
-abbrev pub located_unless : Option LocateFact → Plan → List Parts → Work Stop LocatedParts
-located_unless None plan ms = one_with (IsLocation ms plan)
-located_unless (Some f) plan ms = stop_at (locate_fact (maus_of ms) f)
+-- the error of a fact that keeps modules with addresses of this length from being located by a plan
+abbrev pub stop_of : ℕ → PlanFact → Stop
+stop_of maus (shared_name name) = name_shared name
+stop_of maus (of_list f) = locate_fact maus f
 
--- the location of a list of modules by a plan, or the first error of locating it
+abbrev pub located_unless : Option PlanFact → Plan → List Parts → Work Stop LocatedParts
+located_unless None plan ms = one_with (IsPlanned ms plan)
+located_unless (Some f) plan ms = stop_at (stop_of (maus_of ms) f)
+
+-- the location of a list of modules by a plan, with the plan's symbols and copies, or the first error of locating it
 abbrev pub located : Plan → List Parts → Work Stop LocatedParts
-located plan ms = located_unless (locate_answer ms plan) plan ms
+located plan ms = located_unless (planned_answer ms plan) plan ms
 
 -- ---- what is kept
 
@@ -161,20 +168,44 @@ locating_kept output keep plan ms = do
 
 -- ---- what is made of a location
 
--- the file of the bytes, unless there are too many
-abbrev pub unless_too_long : Bool → (name bytes : List ℕ) → Work Stop Output
-unless_too_long true name bytes = stop_at (raw_too_long (length bytes))
-unless_too_long false name bytes = writes name bytes
+-- there are more bytes than a file may have
+abbrev pub length_fact : ℕ → Option BinRefusal
+length_fact count = if nat_lt MOST_FILE_BYTES count then Some (bins.TooLong count) else None
 
--- the file of the location's raw image, unless it is longer than a file may be
-abbrev pub raw_file : ℕ → List ℕ → LocatedParts → Work Stop Output
-raw_file fill out r = unless_too_long (nat_lt MOST_FILE_BYTES (length (raw_image fill r.runs))) out (raw_image fill r.runs)
+-- the region with this name
+abbrev pub region_named : List Region → List ℕ → Option Region
+region_named regions name = find (λ (region : Region). bytes_eq region.name name) regions
 
--- What is made of a location, and of what a map of it shows, given the names of all files: the file of the absolute module, of the raw image or of the
--- TI-TXT text; the text of the image or of the map; the lines of an address of the map; or the lines of the function and the source line at an address.
+-- no region has the name, or the region has more addresses than a file may have bytes
+abbrev pub region_fact : List ℕ → Option Region → Option BinRefusal
+region_fact name None = Some (bins.Region name)
+region_fact name (Some region) = length_fact region.size
+
+-- Why the bytes of a location are not written: there are too many, or no region of the plan has the name in the arguments. For outputs other than
+-- those of `bin`, there is no such error.
+abbrev pub bytes_fact : Product → List Region → LocatedParts → Option BinRefusal
+bytes_fact (product.Raw fill out) regions r = length_fact (length (raw_image fill r.runs))
+bytes_fact (product.Region name fill out) regions r = region_fact name (region_named regions name)
+bytes_fact _ regions r = None
+
+-- One byte for each address of the region, from its base on: the loaded byte, or `fill` at an address without one.
+abbrev pub region_image : ℕ → Option Region → LocatedParts → List ℕ
+region_image fill None r = []
+region_image fill (Some region) r = range_image fill region.base region.size r.runs
+
+-- the file of the bytes, unless there is such an error
+abbrev pub bytes_unless : Option BinRefusal → (name bytes : List ℕ) → Work Stop Output
+bytes_unless None name bytes = writes name bytes
+bytes_unless (Some b) name bytes = stop_at (bytes_refused b)
+
+-- What is made of a location, and of what a map of it shows, given the names of all files: the file of the absolute module, of the raw image, of the
+-- bytes of a region or of the TI-TXT text; the text of the image or of the map; the lines of an address of the map; or the lines of the function and
+-- the source line at an address.
 abbrev pub product_of : Product → FileNames → Mapped → LocatedParts → Work Stop Output
 product_of (product.Absolute out) names shown r = writes_module out (absolute_of r)
-product_of (product.Raw fill out) names shown r = raw_file fill out r
+product_of (product.Raw fill out) names shown r = bytes_unless (length_fact (length (raw_image fill r.runs))) out (raw_image fill r.runs)
+product_of (product.Region name fill out) names shown r =
+    let region = region_named shown.regions name in bytes_unless (region_fact name region) out (region_image fill region r)
 product_of (product.TiTxt out) names shown r = writes out (txt_text r.runs)
 product_of product.Image names shown r = prints (image_text r)
 product_of (product.Map at) names shown r = prints (view_text names at shown)
@@ -188,7 +219,7 @@ kept_origins (Some c) origins = origins_left c.sections c.publics origins
 -- the contents of the map of what is kept of a list; `r` is its location, and the list's modules have these origins
 abbrev pub mapped_kept : List Origin → Plan → Kept → LocatedParts → Mapped
 mapped_kept origins plan kept r =
-    mapped_by (kept_origins kept.rest origins) plan (flat_sections kept.modules) (placed_commons kept.modules plan) r
+    mapped_by (kept_origins kept.rest origins) (planned_layout kept.modules plan) r
 
 -- what is made of the location of what is kept of a list, whose modules have these origins, given the names of all files
 abbrev pub product_with : Product → FileNames → List Origin → Plan → Kept → LocatedParts → Work Stop Output

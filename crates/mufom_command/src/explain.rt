@@ -137,6 +137,7 @@ pub(crate) fn file_of(product: &Product) -> Option<&Text>
     match product {
         Product::Absolute { out } => Some(out),
         Product::Raw { out, .. } => Some(out),
+        Product::Region { out, .. } => Some(out),
         Product::TiTxt { out } => Some(out),
         Product::Image | Product::Map { .. } | Product::Hit { .. } => None,
     }

@@ -1,15 +1,18 @@
 //! Explains the tasks that link modules.
 
-ghost use Rattle.std.specs.Prelude.{◌≡◌, ◌≢◌, ◌<◌, ◌^◌, ◌∷◌, [], ℕ, List as list, Option as option, None, length, map, All, IfOk, IfSome};
+ghost use Rattle.std.specs.Prelude.{◌≡◌, ◌≢◌, ◌<◌, ◌^◌, ◌∷◌, [], ℕ, List as list, Option as option, None, Some, length, map, All, IfOk, IfSome};
 ghost use Rattle.std.specs.String.{string_bytes};
 ghost use Rattle.mufom_host.specs.World.{NamedFile};
-ghost use Rattle.mufom_image.specs.Placements.{IsSoundPlan};
 ghost use Rattle.mufom_image.specs.Refusals.{IsMet};
-ghost use Rattle.mufom_meaning.specs.LocateAnswer.{locate_answer};
+ghost use Rattle.mufom_planned.specs.Planned.{copied_answer, planned_answer, shared_name};
+ghost use Rattle.mufom_locating.specs.Light.{weight_limit};
+ghost use Rattle.mufom_locating.specs.Plans.{IsReadPlan};
+ghost use Rattle.mufom_locating.specs.Refusals.{IsMetBy};
 ghost use Rattle.mufom_module.specs.declared.module.Parts.{Parts};
 ghost use Rattle.mufom_names.specs.Names.{names_of, AreDistinct};
 ghost use Rattle.mufom_module.specs.Written.{weight};
 ghost use Rattle.mufom_plan.specs.declared.plan.Plan.{Plan as Planned};
+ghost use Rattle.mufom_origins.specs.declared.origins.Origin.{Origin};
 ghost use Rattle.mufom_meaning.specs.Absolute.{absolute_of};
 ghost use Rattle.mufom_meaning.specs.Facts.{LinkFact};
 ghost use Rattle.mufom_explain.specs.Flat.{flat_of};
@@ -28,7 +31,8 @@ ghost use Rattle.mufom_command.specs.FlatFiles.{files_with};
 ghost use Rattle.mufom_command.specs.HasDetails.{IsRefusedFlat};
 ghost use Rattle.mufom_command.specs.Locations.{AreLinkable, AreLocated, AreMapped, HasPlaces, HasPlan, IsObstacle};
 ghost use Rattle.mufom_command.specs.Roots.{roots_by};
-ghost use Rattle.mufom_command.specs.RunParts.{AreReadFrom, AreRefusedKept, AreUnkept, AreUnlocated, AskFor, Explains, LinksLists, Tells};
+ghost use Rattle.mufom_command.specs.RunParts.{AreReadFrom, AreRefusedKept, AreUnkept, AreUnlocated, AskFor, Explains, IsLocatedAs};
+ghost use Rattle.mufom_command.specs.RunParts.{LinksLists, Tells};
 
 use crate::explain::{file_of, unread_details};
 use crate::explanation::{Details, print_done, print_explanation};
@@ -38,11 +42,13 @@ use crate::prepare::link_file;
 use crate::ready::ready_of;
 use mufom_explain::{
     FlatModule, LocateContext, explain_link as link_details, explain_locate, explain_name,
+    explain_shared,
 };
 use mufom_groups::{flat_files, refused_files};
 use mufom_host::Host;
 use mufom_image::LocateRefusal;
 use mufom_link::LinkRefusal;
+use mufom_locating::{PlannedRefusal, with_plan_symbols};
 use mufom_module::Module;
 use mufom_numbers::{Bytes, List, NoMemory, Text};
 use mufom_outcome::{Cause, Outcome};
@@ -188,24 +194,60 @@ fn explain_unkept<H: Host>(
 
 // ---- locating
 
-// Explains that what is kept cannot be located.
+// Explains that a symbol of the plan has the name of a public of what is kept.
+fn explain_shared_name<H: Host>(
+    alloc: Global,
+    words: &[String],
+    inputs: &Inputs,
+    flat: &[FlatModule<'_>],
+    plan: &Plan,
+    name: &Bytes,
+    host: &mut H,
+) -> Outcome
+    requires few { length flat.now < 2 ^ 32 }
+    requires plan { IsReadPlan plan.now }
+    ensures { (files : option (list NamedFile)) (ms : list Parts) (keep : list (list ℕ)) (made : Made) (part : Parts) (origins : list Origin)
+        → AreUnlocated files inputs.now keep plan.now ms (flat_of flat.now) part origins
+        → planned_answer (part ∷ []) plan.now ≡ Some (shared_name name.now)
+        → Tells (map (λ word. string_bytes word) words.now) (task_variants.Locate inputs.now keep made) files
+        (call_of H.meaning H.faults host.old host.new) result }
+{
+    match explain_shared(alloc, inputs.files.as_slice(), flat, plan, name.as_slice()) {
+        Ok(details) => print_explanation(
+            alloc,
+            words,
+            &Cause::SharedName(name),
+            &Details::Shared {
+                details,
+                plan: inputs.plan.as_ref(),
+            },
+            host,
+        ),
+        Err(NoMemory) => Outcome::NoMemory,
+    }
+}
+
+// Explains that what is kept cannot be located; `object` is the module that is located, with the plan's symbols.
 fn explain_fact<H: Host>(
     alloc: Global,
     words: &[String],
     inputs: &Inputs,
     flat: &[FlatModule<'_>],
     part: &TracedModule,
+    object: &Module,
     plan: &Plan,
     refusal: &LocateRefusal,
     host: &mut H,
 ) -> Outcome
     requires few { length flat.now < 2 ^ 32 }
-    requires names { AreDistinct (names_of part.now.object.names.publics) }
-    requires plan { IsSoundPlan plan.now }
-    requires met { IsMet (locate_answer (part.now.object ∷ []) plan.now) refusal.now }
+    requires names { AreDistinct (names_of object.now.names.publics) }
+    requires plan { IsReadPlan plan.now }
+    requires met { IsMet (copied_answer (object.now ∷ []) plan.now) refusal.now }
     requires memory { refusal.now ≢ LocateRefusal.NoMemory }
     ensures { (files : option (list NamedFile)) (ms : list Parts) (keep : list (list ℕ)) (made : Made)
         → AreUnlocated files inputs.now keep plan.now ms (flat_of flat.now) part.now.object part.now.origins
+        → IsLocatedAs part.now.object plan.now object.now
+        → IsMetBy (planned_answer (part.now.object ∷ []) plan.now) (PlannedRefusal.Locate refusal.now)
         → Tells (map (λ word. string_bytes word) words.now) (task_variants.Locate inputs.now keep made) files
         (call_of H.meaning H.faults host.old host.new) result }
 {
@@ -213,10 +255,11 @@ fn explain_fact<H: Host>(
         names: inputs.files.as_slice(),
         flat,
         origins: &part.origins,
-        object: &part.object,
+        object,
+        own: &part.object,
         plan,
     };
-    let maus = part.object.parts().maus;
+    let maus = object.parts().maus;
     match explain_locate(alloc, context, refusal) {
         Ok(details) => print_explanation(
             alloc,
@@ -229,8 +272,8 @@ fn explain_fact<H: Host>(
     }
 }
 
-// Explains why what is kept is not located: it cannot be, or memory ran out.
-fn explain_unlocated<H: Host>(
+// Explains that what is kept cannot be located by a plan with symbols, which are added to it.
+fn explain_with_symbols<H: Host>(
     alloc: Global,
     words: &[String],
     inputs: &Inputs,
@@ -242,16 +285,84 @@ fn explain_unlocated<H: Host>(
 ) -> Outcome
     requires few { length flat.now < 2 ^ 32 }
     requires names { AreDistinct (names_of part.now.object.names.publics) }
-    requires plan { IsSoundPlan plan.now }
-    requires met { IsMet (locate_answer (part.now.object ∷ []) plan.now) refusal.now }
+    requires light { weight part.now.object < weight_limit }
+    requires plan { IsReadPlan plan.now }
+    requires some { plan.now.symbols ≢ [] }
+    requires met { IsMetBy (planned_answer (part.now.object ∷ []) plan.now) (PlannedRefusal.Locate refusal.now) }
+    requires memory { refusal.now ≢ LocateRefusal.NoMemory }
+    ensures { (files : option (list NamedFile)) (ms : list Parts) (keep : list (list ℕ)) (made : Made)
+        → AreUnlocated files inputs.now keep plan.now ms (flat_of flat.now) part.now.object part.now.origins
+        → Tells (map (λ word. string_bytes word) words.now) (task_variants.Locate inputs.now keep made) files
+        (call_of H.meaning H.faults host.old host.new) result }
+{
+    match with_plan_symbols(alloc, &part.object, plan) {
+        Ok(object) => explain_fact(
+            alloc, words, inputs, flat, part, &object, plan, refusal, host,
+        ),
+        Err(NoMemory) => Outcome::NoMemory,
+    }
+}
+
+// Explains an error of locating that is not out of memory.
+fn explain_planned<H: Host>(
+    alloc: Global,
+    words: &[String],
+    inputs: &Inputs,
+    flat: &[FlatModule<'_>],
+    part: &TracedModule,
+    plan: &Plan,
+    refusal: &LocateRefusal,
+    host: &mut H,
+) -> Outcome
+    requires few { length flat.now < 2 ^ 32 }
+    requires names { AreDistinct (names_of part.now.object.names.publics) }
+    requires light { weight part.now.object < weight_limit }
+    requires plan { IsReadPlan plan.now }
+    requires met { IsMetBy (planned_answer (part.now.object ∷ []) plan.now) (PlannedRefusal.Locate refusal.now) }
+    requires memory { refusal.now ≢ LocateRefusal.NoMemory }
+    ensures { (files : option (list NamedFile)) (ms : list Parts) (keep : list (list ℕ)) (made : Made)
+        → AreUnlocated files inputs.now keep plan.now ms (flat_of flat.now) part.now.object part.now.origins
+        → Tells (map (λ word. string_bytes word) words.now) (task_variants.Locate inputs.now keep made) files
+        (call_of H.meaning H.faults host.old host.new) result }
+{
+    if plan.symbols.is_empty() {
+        let object = &part.object;
+        return explain_fact(
+            alloc, words, inputs, flat, part, object, plan, refusal, host,
+        );
+    }
+    explain_with_symbols(alloc, words, inputs, flat, part, plan, refusal, host)
+}
+
+// Explains why what is kept is not located: it cannot be, or memory ran out.
+fn explain_unlocated<H: Host>(
+    alloc: Global,
+    words: &[String],
+    inputs: &Inputs,
+    flat: &[FlatModule<'_>],
+    part: &TracedModule,
+    plan: &Plan,
+    refusal: &PlannedRefusal,
+    host: &mut H,
+) -> Outcome
+    requires few { length flat.now < 2 ^ 32 }
+    requires names { AreDistinct (names_of part.now.object.names.publics) }
+    requires light { weight part.now.object < weight_limit }
+    requires plan { IsReadPlan plan.now }
+    requires met { IsMetBy (planned_answer (part.now.object ∷ []) plan.now) refusal.now }
     ensures { (files : option (list NamedFile)) (ms : list Parts) (keep : list (list ℕ)) (made : Made)
         → AreUnlocated files inputs.now keep plan.now ms (flat_of flat.now) part.now.object part.now.origins
         → Tells (map (λ word. string_bytes word) words.now) (task_variants.Locate inputs.now keep made) files
         (call_of H.meaning H.faults host.old host.new) result }
 {
     match refusal {
-        LocateRefusal::NoMemory => Outcome::NoMemory,
-        _ => explain_fact(alloc, words, inputs, flat, part, plan, refusal, host),
+        PlannedRefusal::SharedName(name) => {
+            explain_shared_name(alloc, words, inputs, flat, plan, name, host)
+        }
+        PlannedRefusal::Locate(LocateRefusal::NoMemory) => Outcome::NoMemory,
+        PlannedRefusal::Locate(refusal) => {
+            explain_planned(alloc, words, inputs, flat, part, plan, refusal, host)
+        }
     }
 }
 
@@ -341,7 +452,7 @@ fn explain_loaded<H: Host>(
     host: &mut H,
 ) -> Outcome
     requires linkable { AreLinkable inputs.now loaded.modules }
-    requires plan { IsSoundPlan loaded.plan }
+    requires plan { IsReadPlan loaded.plan }
     ensures { (files : option (list NamedFile)) → AreReadFrom files inputs.now loaded.plan loaded.modules
         → Tells (map (λ word. string_bytes word) words.now) (task_variants.Locate inputs.now keep.now product.now) files
         (call_of H.meaning H.faults host.old host.new) result }

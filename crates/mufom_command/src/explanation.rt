@@ -8,16 +8,17 @@ ghost use Rattle.mufom_command.specs.InputLines.{untried_lines};
 ghost use Rattle.mufom_outcome.specs.Outcomes.{cause_outcome};
 ghost use Rattle.mufom_command.specs.Making.{IsPrinted};
 ghost use Rattle.mufom_task.specs.Calls.{call_of};
+ghost use Rattle.mufom_command.specs.HasDetails.{plan_lines};
 ghost use Rattle.mufom_command.specs.Told.{told_text};
 
 use crate::input_lines::{missing_line, unread_file, unread_plan, untried_line, word_line};
 use crate::plan_lines::{plan_and_key, plan_line_at};
-use mufom_explain::{LinkDetails, LocateDetails, NameDetails, file_line, plan_line};
+use mufom_explain::{LinkDetails, LocateDetails, NameDetails, SharedDetails, file_line, plan_line};
 use mufom_host::{Cause as FaultCause, Host};
 use mufom_numbers::{Bytes, NoMemory, Text};
 use mufom_outcome::{
-    Cause, Outcome, fault_line, keep_line, link_line, locate_line, refusal_line, topic_of,
-    usage_line,
+    Cause, Outcome, fault_line, keep_line, link_line, locate_line, refusal_line, shared_line,
+    topic_of, usage_line,
 };
 use mufom_text::{Lines, Output, PrintStop, print_lines};
 use mufom_words::Setting;
@@ -68,6 +69,12 @@ pub(crate) enum Details<'a> {
     Link(LinkDetails<'a>),
     /// The modules that refer to a name that should be kept and that no module defines.
     Name(NameDetails<'a>),
+    /// The symbol of the plan that has the name of a public, the modules that mention the name, and the plan, by
+    /// the name of its file.
+    Shared {
+        details: SharedDetails<'a>,
+        plan: Option<&'a Text>,
+    },
     /// The things that an error of locating names.
     Locate(LocateDetails<'a>),
 }
@@ -80,6 +87,16 @@ struct Explanation<'a> {
     details: &'a Details<'a>,
     /// The help text, if there is one.
     topic: Option<&'static str>,
+}
+
+// Puts the line of the plan, if one is named.
+fn put_plan<K: Output>(out: &mut K, name: Option<&Text>)
+    ensures { K.takes out.old out.new (plan_lines (option_map (λ name. name.now) name.entry)) }
+{
+    match name {
+        Some(name) => plan_line(out, name),
+        None => {}
+    }
 }
 
 // Puts the lines about what an outcome names.
@@ -103,6 +120,10 @@ fn put_details<K: Output>(out: &mut K, details: &Details<'_>)
         Details::NotTried(name) => untried_line(out, name),
         Details::Link(details) => details.put_lines(out),
         Details::Name(details) => details.put_lines(out),
+        Details::Shared { details, plan } => {
+            details.put_lines(out);
+            put_plan(out, *plan);
+        }
         Details::Locate(details) => details.put_lines(out),
     }
 }
@@ -160,6 +181,7 @@ fn first_line(alloc: Global, cause: &Cause<'_>) -> Result<Vec<u8>, NoMemory>
         Cause::Outcome(outcome) => outcome_line(alloc, outcome),
         Cause::Link(refusal) => link_line(alloc, refusal),
         Cause::Keep(name) => keep_line(alloc, name),
+        Cause::SharedName(name) => shared_line(alloc, name),
         Cause::Locate(refusal, maus) => locate_line(alloc, refusal, *maus),
     }
 }

@@ -30,6 +30,7 @@ mod plan_lines;
 mod prepare;
 mod query;
 mod ready;
+mod regions;
 mod texts;
 mod writing;
 

@@ -1,7 +1,7 @@
 //! Links and locates the modules of a task.
 
 ghost use Rattle.std.specs.Prelude.{◌≡◌, ◌<◌, ◌+◌, ◌^◌, None, Some, IfErr, IfOk};
-ghost use Rattle.mufom_image.specs.Placements.{IsSoundPlan};
+ghost use Rattle.mufom_locating.specs.Plans.{IsReadPlan};
 ghost use Rattle.mufom_names.specs.Names.{names_of, AreDistinct};
 ghost use Rattle.mufom_module.specs.Written.{weight};
 ghost use Rattle.mufom_meaning.specs.Absolute.{absolute_of};
@@ -16,12 +16,13 @@ ghost use Rattle.mufom_command.specs.Roots.{roots_by, roots_with};
 ghost use Rattle.mufom_command.specs.WorkEnds.{own_kept, EndsAt};
 
 use mufom_groups::link_with_members;
-use mufom_image::{LocateRefusal, Located, locate};
 use mufom_link::LinkRefusal;
+use mufom_located::Located;
+use mufom_locating::{PlannedRefusal, locate_by_plan};
 use mufom_module::{Module, a_module_is_valid};
 use mufom_numbers::{Bytes, List, NoMemory};
 use mufom_origins::Origins;
-use mufom_outcome::{Outcome, outcome_of_link, outcome_of_locate, outcome_of_prune};
+use mufom_outcome::{Outcome, outcome_of_link, outcome_of_planned, outcome_of_prune};
 use mufom_plan::Plan;
 use mufom_prune::{PruneRefusal, Pruned, prune_for};
 use mufom_task::{Inputs, Loaded};
@@ -69,7 +70,7 @@ pub(crate) enum Obstacle {
     },
     /// The link, or what is kept of it, cannot be located.
     Unlocated {
-        refusal: LocateRefusal,
+        refusal: PlannedRefusal,
         part: TracedModule,
         plan: Plan,
         places: Places,
@@ -84,7 +85,7 @@ pub(crate) fn outcome_of_obstacle(obstacle: Obstacle) -> Outcome
         Obstacle::Unlinked(refusal) => outcome_of_link(refusal),
         Obstacle::Unkept { refusal, .. } => outcome_of_prune(refusal),
         Obstacle::Unlocated { refusal, part, .. } => {
-            outcome_of_locate(part.object.parts().maus, refusal)
+            outcome_of_planned(part.object.parts().maus, refusal)
         }
     }
 }
@@ -191,13 +192,13 @@ fn locate_part(
     places: Places,
 ) -> Result<Location, Obstacle>
     requires names { AreDistinct (names_of part.object.names.publics) }
-    requires plan { IsSoundPlan plan }
+    requires plan { IsReadPlan plan }
     requires light { weight part.object < most_weight + 2 ^ 16 }
     ensures ok { IfOk result (LocatesPart part plan) }
     ensures light { IfOk result (λ location. weight (absolute_of location.located) < 2 ^ 32) }
     ensures refused { IfErr result (IsUnlocatedPart part plan places) }
 {
-    match locate(alloc, &part.object, &plan) {
+    match locate_by_plan(alloc, &part.object, &plan) {
         Ok(located) => {
             let TracedModule { origins, object } = part;
             Ok(Location {
@@ -225,7 +226,7 @@ pub(crate) fn locate_modules(
     loaded: Loaded,
 ) -> Result<Location, Obstacle>
     requires linkable { AreLinkable inputs.now loaded.modules }
-    requires plan { IsSoundPlan loaded.plan }
+    requires plan { IsReadPlan loaded.plan }
     ensures ok { IfOk result (AreMapped (tree_of inputs.now.marks) (roots_by keep.now loaded.plan) loaded.plan loaded.modules) }
     ensures light { IfOk result (λ location. weight (absolute_of location.located) < 2 ^ 32) }
     ensures obstacle { IfErr result (IsObstacle (tree_of inputs.now.marks) keep.now loaded.modules) }

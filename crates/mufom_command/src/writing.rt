@@ -7,6 +7,8 @@ ghost use Rattle.mufom_task.specs.Calls.{call_of};
 ghost use Rattle.mufom_command.specs.Making.{HasByte, IsMadeAlone, run_lines};
 ghost use Rattle.mufom_text.specs.Fitting.{FitsIn};
 ghost use Rattle.mufom_titxt.specs.Written.{txt_text};
+ghost use Rattle.mufom_meaning.specs.AddressMap.{AreApart};
+ghost use Rattle.mufom_write.specs.Range.{range_image};
 ghost use Rattle.mufom_write.specs.Raw.{raw_image};
 ghost use Rattle.mufom_write.specs.Writing.{Writes};
 
@@ -15,7 +17,7 @@ use mufom_meaning::Run;
 use mufom_module::Module;
 use mufom_outcome::Outcome;
 use mufom_titxt::{write_end, write_run};
-use mufom_write::{write_module, write_raw};
+use mufom_write::{write_module, write_range, write_raw};
 
 /// Writes the module to a file with this name. Returns the outcome, whose error line is not printed yet.
 pub(crate) fn make_file<H: Host>(name: &str, object: &Module, host: &mut H) -> Outcome
@@ -42,6 +44,32 @@ pub(crate) fn make_raw_file<H: Host>(name: &str, runs: &[Run], fill: u8, host: &
         return Outcome::WriteFault;
     };
     let Ok(()) = write_raw(runs, fill, host) else {
+        return Outcome::WriteFault;
+    };
+    let finished = host.finish();
+    match finished {
+        Ok(()) => Outcome::Done,
+        Err(Failed) => Outcome::WriteFault,
+    }
+}
+
+/// Writes one byte for each of `count` addresses, from `from` on, to a file with this name: the byte of the runs,
+/// or `fill`. Returns the outcome, whose error line is not printed yet.
+pub(crate) fn make_range_file<H: Host>(
+    name: &str,
+    runs: &[Run],
+    fill: u8,
+    from: u64,
+    count: u64,
+    host: &mut H,
+) -> Outcome
+    requires { AreApart 0 runs.now }
+    ensures { IsMadeAlone name.now (range_image fill from count runs.now) (call_of H.meaning H.faults host.old host.new) result }
+{
+    let Ok(()) = host.create(name) else {
+        return Outcome::WriteFault;
+    };
+    let Ok(()) = write_range(runs, fill, from, count, host) else {
         return Outcome::WriteFault;
     };
     let finished = host.finish();

@@ -1,5 +1,5 @@
 -- Lists of modules that mean the same have the same sections, commons and undefined names, and so the same explanations.
-use Rattle.std.proofs.Common.{◌≡◌, ℕ, ◌-◌, List, ◌++◌, length, map, Option, Some, None, not, refl, ap, ◌∙◌}
+use Rattle.std.proofs.Common.{◌≡◌, ℕ, ◌+◌, ◌-◌, List, ◌++◌, length, map, Option, Some, None, not, refl, ap, ◌∙◌}
 use Rattle.std.specs.Prelude.{filter, slice_get}
 use Rattle.mufom_sections.specs.declared.section.Section.{Section}
 use Rattle.mufom_module.specs.declared.module.Parts.{Parts}
@@ -16,10 +16,13 @@ use Rattle.mufom_meaning.specs.Placed.{placed_commons, planned_bases}
 use Rattle.mufom_meaning.specs.Readings.{Readings, readings}
 use Rattle.mufom_meaning.specs.StagingLaws.{MeansTheSame}
 use Rattle.mufom_meaning.proofs.Placed.{same_placed_commons}
+use Rattle.mufom_planned.specs.Layout.{Layout, layout}
+use Rattle.mufom_planned.proofs.Alike.{layout_same}
 use Rattle.mufom_text.specs.Words.{Text}
 use Rattle.mufom_field_values.specs.Fields.{field_of}
 use Rattle.mufom_explain.specs.Details.{Explained, entry_lines, locate_details, numbered_lines, placement_details, region_at, region_lines}
-use Rattle.mufom_explain.specs.Details.{field_details, lines_of_field, site_details, undefined_names}
+use Rattle.mufom_explain.specs.Details.{field_details, lines_of_field, numbered_copy, placed_lines, site_details, undefined_names}
+use Rattle.mufom_explain.specs.Lines.{copied_line}
 use Rattle.mufom_explain.specs.Laws.{with_modules}
 use Rattle.mufom_explain.specs.Mentions.{mention_text}
 use Rattle.mufom_explain.specs.Region.{region_line, taken_in}
@@ -66,12 +69,22 @@ module _ (e : Explained) (ms leaves : List Parts) (same : MeansTheSame ms leaves
 
   -- the located module is the same one
   fields : (n address : ℕ) → field_details one n address ≡ field_details other n address
-  fields n address = ap (λ (entry : Text). entry ++ lines_of_field e.object (field_of e.object e.plan n address)) (entries n)
+  fields n address = ap (λ (entry : Text). entry ++ lines_of_field e.own (field_of e.object e.own e.plan n address)) (entries n)
+
+  layouts : layout ms e.plan ≡ layout leaves e.plan
+  layouts = layout_same ms leaves e.plan same
+
+  placed_entries : (n : ℕ) → placed_lines one n ≡ placed_lines other n
+  placed_entries n =
+      let entry = entries n in
+      let own = sections in
+      let commons_same = placed in
+      let all = layouts in
+      λ i. entry i ++ copied_line n (numbered_copy (length (own i) + length (commons_same i)) (all i).copied n)
 
   region : (n : ℕ) (o : Option Region) → region_at one n o ≡ region_at other n o
   region n None = refl
-  region n (Some r) = let own = sections in let commons_same = placed in
-      λ i. region_line e.maus n r (taken_in e.plan (own i) (commons_same i) n r)
+  region n (Some r) = ap (λ (l : Layout). region_line e.maus n r (taken_in l n r)) layouts
 
   regions : (o : Option ℕ) → region_lines one o ≡ region_lines other o
   regions None = refl
@@ -79,8 +92,8 @@ module _ (e : Explained) (ms leaves : List Parts) (same : MeansTheSame ms leaves
 
   placements : (r : PlaceRefusal) → placement_details one r ≡ placement_details other r
   placements (place.Unplaced n) = entries n
-  placements (place.Misfit n o) = let first = entries n in let second = regions o in λ i. first i ++ second i
-  placements (place.Overlap m n) = let first = entries m in let second = entries n in λ i. first i ++ second i
+  placements (place.Misfit n o) = let first = placed_entries n in let second = regions o in λ i. first i ++ second i
+  placements (place.Overlap m n) = let first = placed_entries m in let second = placed_entries n in λ i. first i ++ second i
   placements place.NoMemory = refl
 
   sites : (s : Site) → site_details one s ≡ site_details other s

@@ -1,5 +1,5 @@
 -- What is known of a module that is not located: how many units an address has, and that each section has a place, if one does not fit.
-use Rattle.std.proofs.Common.{◌≡◌, ℕ, List, [], ◌∷◌, Option, Some, None, Bool, true, false, refl, sym, ap, subst, ◌∙◌, append-nil, arith}
+use Rattle.std.proofs.Common.{◌≡◌, ◌≢◌, ℕ, List, [], ◌∷◌, Option, Some, None, Bool, true, false, refl, sym, ap, subst, ◌∙◌, append-nil, arith}
 use Rattle.std.specs.Prelude.{option_map, if◌then◌else◌}
 use Rattle.mufom_sections.specs.declared.section.Section.{Section}
 use Rattle.mufom_module.specs.declared.module.Parts.{Parts}
@@ -7,12 +7,12 @@ use Rattle.mufom_module.specs.Defects.{IsValid}
 use Rattle.mufom_plan.specs.declared.plan.Plan.{Plan}
 use Rattle.mufom_plan.specs.Names.{listed_names}
 use Rattle.mufom_place.specs.declared.refusal.PlaceRefusal.{PlaceRefusal}
-use Rattle.mufom_place.specs.declared.refusal.PlaceRefusal.TheVariants.{Misfit, Unplaced}
+use Rattle.mufom_place.specs.declared.refusal.PlaceRefusal.TheVariants.{Unplaced}
 use Rattle.mufom_place.specs.Bases.{Numbered, numbered}
 use Rattle.mufom_place.specs.Facts.{◌or_else◌, first_some, is_unplaced, unplaced_at}
 use Rattle.mufom_meaning.specs.Facts.{LocateFact, placement}
 use Rattle.mufom_meaning.specs.Flat.{flat_sections}
-use Rattle.mufom_meaning.specs.LocateAnswer.{locate_answer}
+use Rattle.mufom_planned.specs.Planned.{copied_answer}
 use Rattle.mufom_meaning.proofs.CallLaws.{modules_may_be_placed}
 use Rattle.mufom_text.specs.Fitting.{IsUnitCount}
 
@@ -23,13 +23,13 @@ unit-count m plan valid =
     let high = may.addresses.most in
     record { some = omega (arith, low); few = omega (arith, high) }
 
--- what is unplaced is not a misfit
-not-misfit : (listed : List (List ℕ)) (xs : List Numbered) (n : ℕ) (region : Option ℕ) → first_some (unplaced_at listed) xs ≡ Some (Misfit n region) → ⊥
-not-misfit listed [] n region e = absurd cc
-not-misfit listed (x ∷ xs) n region e = by_case (is_unplaced listed x.1) e (not-misfit listed xs n region) where
-  by_case : (b : Bool) → ((if b then Some (Unplaced x.0) else None) or_else first_some (unplaced_at listed) xs) ≡ Some (Misfit n region)
-      → (first_some (unplaced_at listed) xs ≡ Some (Misfit n region) → ⊥) → ⊥
-  by_case true h later = absurd cc
+-- the first section that no region takes is unplaced, which is no other error
+unplaced-only : (listed : List (List ℕ)) (xs : List Numbered) (q : PlaceRefusal) → first_some (unplaced_at listed) xs ≡ Some q → (n : ℕ) × (q ≡ Unplaced n)
+unplaced-only listed [] q e = absurd cc
+unplaced-only listed (x ∷ xs) q e = by_case (is_unplaced listed x.1) e (unplaced-only listed xs q) where
+  by_case : (b : Bool) → ((if b then Some (Unplaced x.0) else None) or_else first_some (unplaced_at listed) xs) ≡ Some q
+      → (first_some (unplaced_at listed) xs ≡ Some q → (n : ℕ) × (q ≡ Unplaced n)) → (n : ℕ) × (q ≡ Unplaced n)
+  by_case true h later = (x.0, (let same : Unplaced x.0 ≡ q = cc in sym same))
   by_case false h later = later h
 
 first-of : (o more : Option PlaceRefusal) (rest : Option LocateFact) (q : PlaceRefusal) → o ≡ Some q
@@ -39,11 +39,10 @@ first-of o more rest q e = ap (λ (p : Option PlaceRefusal). option_map placemen
 same-placement : (q r : PlaceRefusal) → ◌≡◌ {A = Option LocateFact} (Some (placement q)) (Some (placement r)) → q ≡ r
 same-placement q r e = cc
 
--- no section is unplaced if one is a misfit
-pub all-placed : (m : Parts) (plan : Plan) (n : ℕ) (region : Option ℕ) → locate_answer (m ∷ []) plan ≡ Some (placement (Misfit n region))
+-- no section is unplaced if another error of placing is returned
+pub all-placed : (m : Parts) (plan : Plan) (r : PlaceRefusal) → ((n : ℕ) → r ≢ Unplaced n) → copied_answer (m ∷ []) plan ≡ Some (placement r)
     → first_some (unplaced_at (listed_names plan.regions)) (numbered m.sections) ≡ None
-unfolding locate_answer
-all-placed m plan n region h =
+all-placed m plan r other h =
     subst (λ (own : List Section). first_some (unplaced_at (listed_names plan.regions)) (numbered own) ≡ None) (append-nil m.sections)
     (by_case (first_some (unplaced_at (listed_names plan.regions)) (numbered (flat_sections (m ∷ [])))) refl)
   where
@@ -51,5 +50,6 @@ all-placed m plan n region h =
         → first_some (unplaced_at (listed_names plan.regions)) (numbered (flat_sections (m ∷ []))) ≡ None
     by_case None e = e
     by_case (Some q) e =
-        let same : q ≡ Misfit n region = same-placement q (Misfit n region) (sym (first-of _ _ _ q e) ∙ h) in
-        absurd (not-misfit (listed_names plan.regions) (numbered (flat_sections (m ∷ []))) n region (e ∙ ap Some same))
+        let same : q ≡ r = same-placement q r (sym (first-of _ _ _ q e) ∙ h) in
+        let (n, unplaced) = unplaced-only (listed_names plan.regions) (numbered (flat_sections (m ∷ []))) q e in
+        absurd (other n (sym same ∙ unplaced))

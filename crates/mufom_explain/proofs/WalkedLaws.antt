@@ -8,10 +8,14 @@ use Rattle.mufom_place.specs.Facts.{◌or_else◌, first_some}
 use Rattle.mufom_meaning.specs.declared.located.Site.{Site}
 use Rattle.mufom_meaning.specs.Cycles.{is_on_cycle}
 use Rattle.mufom_meaning.specs.Facts.{LocateFact, placement, undefined, common_unplaced, cycle, image_limit, zero_divisor, load_outside, loaded_twice, overflow}
-use Rattle.mufom_meaning.specs.Flat.{public_names}
-use Rattle.mufom_meaning.specs.LocateAnswer.{cycle_at, image_limit_at, locate_answer}
+use Rattle.mufom_meaning.specs.Flat.{flat_sections, public_names, width}
+use Rattle.mufom_meaning.specs.LocateAnswer.{after_placing as after, cycle_at, image_limit_at, locate_answer}
+use Rattle.mufom_planned.specs.Layout.{layout}
+use Rattle.mufom_planned.specs.Planned.{copied_answer, layout_fact}
+use Rattle.mufom_place.specs.declared.refusal.PlaceRefusal.{PlaceRefusal}
+use Rattle.mufom_place.proofs.CopyLaws.{fits_without_copies}
 use Rattle.mufom_meaning.specs.Counts.{loaded_total}
-use Rattle.mufom_meaning.specs.Placed.{planned_bases}
+use Rattle.mufom_meaning.specs.Placed.{placed_commons, planned_bases}
 use Rattle.mufom_meaning.specs.Values.{setting}
 use Rattle.mufom_meaning.specs.Walk.{walk_answer}
 use Rattle.mufom_meaning.proofs.Unfolding.{locate_answer-order}
@@ -78,17 +82,29 @@ module _ (m : Parts) (plan : Plan) (f : LocateFact) (walked : is_walked f ≡ tr
       let rooms = found-after (roomless m plan) (circular m or_else later) f (not-mapped common_unplaced (λ r. refl) _ f walked) names.1 in
       (found-after (circular m) later f (not-cycle (m ∷ []) f walked (public_names (m ∷ []))) rooms.1).0
 
-module _ (m : Parts) (plan : Plan) (site : Site) (found : locate_answer (m ∷ []) plan ≡ Some (zero_divisor site)) where
+-- such a fact is found without copies too
+located-copied : (m : Parts) (plan : Plan) (f : LocateFact) → is_walked f ≡ true → copied_answer (m ∷ []) plan ≡ Some f → locate_answer (m ∷ []) plan ≡ Some f
+unfolding locate_answer
+located-copied m plan f walked found =
+    let ms = m ∷ [] in
+    let parts = found-after (layout_fact ms (layout ms plan)) (after ms plan) f (not-mapped placement (λ r. refl) _ f walked) found in
+    let fits = fits_without_copies (width ms) plan (flat_sections ms) (placed_commons ms plan) (layout ms plan).copied (none-mapped placement _ parts.0) in
+    ap (λ (o : Option PlaceRefusal). option_map placement o or_else after ms plan) fits ∙ parts.1
+
+module _ (m : Parts) (plan : Plan) (site : Site) (found : copied_answer (m ∷ []) plan ≡ Some (zero_divisor site)) where
   pub placed-divided : placing_refusal m plan ≡ None
-  placed-divided = placed-walked m plan (zero_divisor site) refl found
+  placed-divided = placed-walked m plan (zero_divisor site) refl (located-copied m plan (zero_divisor site) refl found)
 
   pub acyclic-divided : circular m ≡ None
-  acyclic-divided = acyclic-walked m plan (zero_divisor site) refl found
+  acyclic-divided = acyclic-walked m plan (zero_divisor site) refl (located-copied m plan (zero_divisor site) refl found)
 
 module _ (m : Parts) (plan : Plan) (section address : ℕ) (kind : FieldKind) (size value : ℕ)
-    (found : locate_answer (m ∷ []) plan ≡ Some (overflow section address kind size value)) where
+    (found : copied_answer (m ∷ []) plan ≡ Some (overflow section address kind size value)) where
+  abbrev fact : LocateFact
+  fact = overflow section address kind size value
+
   pub placed-overflown : placing_refusal m plan ≡ None
-  placed-overflown = placed-walked m plan (overflow section address kind size value) refl found
+  placed-overflown = placed-walked m plan fact refl (located-copied m plan fact refl found)
 
   pub acyclic-overflown : circular m ≡ None
-  acyclic-overflown = acyclic-walked m plan (overflow section address kind size value) refl found
+  acyclic-overflown = acyclic-walked m plan fact refl (located-copied m plan fact refl found)

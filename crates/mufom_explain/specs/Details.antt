@@ -1,6 +1,7 @@
 -- The lines that follow an error line of linking or locating. They say what the numbers and names in it refer to.
-use Rattle.std.specs.Prelude.{ℕ, ◌-◌, List, [], ◌∷◌, ◌++◌, filter, find, flat_map, length}
-use Rattle.std.specs.Prelude.{take, Option, Some, None, option_to_list, Bool, false, not, is_some, slice_get}
+use Rattle.std.specs.Prelude.{ℕ, ◌+◌, ◌-◌, List, [], ◌∷◌, ◌++◌, filter, find, flat_map, length, position, codes}
+use Rattle.std.specs.Prelude.{take, Option, Some, None, option_to_list, Bool, false, not, is_some, nat_le, slice_get, if◌then◌else◌}
+use Rattle.std.specs.Str.{bytes_eq}
 use Rattle.std.specs.List.{enumerate_from}
 use Rattle.mufom_sections.specs.declared.section.Section.{Section}
 use Rattle.mufom_module.specs.declared.module.Parts.{Parts}
@@ -18,13 +19,16 @@ use Rattle.mufom_meaning.specs.declared.located.Site.TheVariants as site
 use Rattle.mufom_meaning.specs.Flat.{common_names, flat_sections, needs}
 use Rattle.mufom_meaning.specs.LinkAnswer.{same_descriptor}
 use Rattle.mufom_meaning.specs.Placed.{placed_commons}
-use Rattle.mufom_text.specs.Words.{Text}
+use Rattle.mufom_text.specs.Words.{Text, line, quoted}
+use Rattle.mufom_text.specs.Digits.{counted}
 use Rattle.mufom_origins.specs.declared.origins.Origin.{Origin}
 use Rattle.mufom_origins.specs.Origins.{FileModule}
 use Rattle.mufom_expr.specs.Tree.{Tree}
 use Rattle.mufom_field_values.specs.Fields.{field_of}
 use Rattle.mufom_field_values.specs.Lines.{value_lines}
-use Rattle.mufom_explain.specs.Lines.{FileNames, common_lines, module_line, section_line}
+use Rattle.mufom_planned.specs.Layout.{Layout, layout}
+use Rattle.mufom_place.specs.declared.placing.RegionCopy.{RegionCopy}
+use Rattle.mufom_explain.specs.Lines.{FileNames, common_lines, copied_line, module_line, section_line}
 use Rattle.mufom_explain.specs.Mentions.{mention_text}
 use Rattle.mufom_explain.specs.Region.{region_line, taken_in}
 
@@ -71,11 +75,27 @@ link_details names flat link.NoMemory = []
 abbrev pub name_details : FileNames → List FileModule → List ℕ → Text
 name_details names flat name = mention_text names flat (name ∷ [])
 
+-- ---- a name that a symbol of the plan shares with a public
+
+-- the line of the symbol with a position
+abbrev pub symbol_line : List ℕ → ℕ → Text
+symbol_line name n = line (quoted name ++ (counted (codes ": symbol ") n ++ codes " of the plan"))
+
+-- the line of the first symbol with this name, if there is one
+abbrev pub symbol_lines : List ℕ → Option ℕ → Text
+symbol_lines name None = []
+symbol_lines name (Some n) = symbol_line name n
+
+-- The lines after the error line of a name that a symbol of the plan shares with a public: the symbol, and the modules that mention the name.
+abbrev pub shared_details : FileNames → List FileModule → Plan → List ℕ → Text
+shared_details names flat plan name =
+    symbol_lines name (position (λ symbol. bytes_eq symbol.name name) plan.symbols) ++ mention_text names flat (name ∷ [])
+
 -- ---- locating
 
 -- The context in which an error of locating is explained: the names of the files, the flat list, the origins of the located entries, the length of an
--- address in units, the located modules (the flat list, its link, or what is kept of the link), the one module that is located for them, in which the
--- variables of expressions are numbered, and the plan.
+-- address in units, the located modules (the flat list, its link, or what is kept of the link, with the plan's symbols), the one module that is located
+-- for them, that module without the plan's symbols, which has the expressions that are shown, and the plan.
 pub record Explained : Type 0 where
   pub names : FileNames
   pub flat : List FileModule
@@ -83,6 +103,7 @@ pub record Explained : Type 0 where
   pub maus : ℕ
   pub modules : List Parts
   pub object : Parts
+  pub own : Parts
   pub plan : Plan
 
 abbrev pub sections_of : Explained → List Section
@@ -101,9 +122,24 @@ numbered_lines e n None None = []
 abbrev pub entry_lines : Explained → ℕ → Text
 entry_lines e n = numbered_lines e n (slice_get (sections_of e) n) (slice_get (commons_of e) (n - length (sections_of e)))
 
+-- what the plan places
+abbrev pub layout_of : Explained → Layout
+layout_of e = layout e.modules e.plan
+
+-- the copy with a number; copies are numbered after the commons
+abbrev pub numbered_copy : ℕ → List RegionCopy → ℕ → Option RegionCopy
+numbered_copy first copied n = if nat_le first n then slice_get copied (n - first) else None
+
+-- the lines of the section, common or copy with a number, given the copies
+abbrev pub lines_among : Explained → List RegionCopy → ℕ → Text
+lines_among e copied n = entry_lines e n ++ copied_line n (numbered_copy (length (sections_of e) + length (commons_of e)) copied n)
+
+abbrev pub placed_lines : Explained → ℕ → Text
+placed_lines e n = lines_among e (layout_of e).copied n
+
 abbrev pub region_at : Explained → ℕ → Option Region → Text
 region_at e n None = []
-region_at e n (Some region) = region_line e.maus n region (taken_in e.plan (sections_of e) (commons_of e) n region)
+region_at e n (Some region) = region_line e.maus n region (taken_in (layout_of e) n region)
 
 -- the line of the region with a number, if there is one
 abbrev pub region_lines : Explained → Option ℕ → Text
@@ -112,8 +148,8 @@ region_lines e (Some n) = region_at e n (slice_get e.plan.regions n)
 
 abbrev pub placement_details : Explained → PlaceRefusal → Text
 placement_details e (place.Unplaced n) = entry_lines e n
-placement_details e (place.Misfit n region) = entry_lines e n ++ region_lines e region
-placement_details e (place.Overlap m n) = entry_lines e m ++ entry_lines e n
+placement_details e (place.Misfit n region) = placed_lines e n ++ region_lines e region
+placement_details e (place.Overlap m n) = placed_lines e m ++ placed_lines e n
 placement_details e place.NoMemory = []
 
 -- the lines of a field's expression, if there is a field
@@ -123,7 +159,7 @@ lines_of_field m (Some t) = value_lines m t
 
 -- the lines of the section with a number, and of the value of the first field that is loaded into it at an address
 abbrev pub field_details : Explained → ℕ → ℕ → Text
-field_details e n address = entry_lines e n ++ lines_of_field e.object (field_of e.object e.plan n address)
+field_details e n address = entry_lines e n ++ lines_of_field e.own (field_of e.object e.own e.plan n address)
 
 abbrev pub site_details : Explained → Site → Text
 site_details e (site.Public name) = mention_text e.names e.flat (name ∷ [])

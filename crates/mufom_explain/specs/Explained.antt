@@ -12,8 +12,9 @@ use Rattle.mufom_explain.specs.declared.details.LocateDetails.{LocateDetails}
 use Rattle.mufom_explain.specs.declared.details.LocateKind.{LocateKind}
 use Rattle.mufom_explain.specs.declared.details.LocateKind.TheVariants as locate
 use Rattle.mufom_explain.specs.declared.details.NameDetails.{NameDetails}
+use Rattle.mufom_explain.specs.declared.details.SharedDetails.{SharedDetails}
 use Rattle.mufom_explain.specs.Lines.{FileNames, module_line}
-use Rattle.mufom_explain.specs.Details.{Explained, entry_lines, has_start, mismatch_lines, start_lines}
+use Rattle.mufom_explain.specs.Details.{Explained, entry_lines, has_start, lines_among, mismatch_lines, start_lines, symbol_lines}
 use Rattle.mufom_explain.specs.Flat.{flat_of, wanted_names}
 use Rattle.mufom_explain.specs.Mentions.{mention_text}
 use Rattle.mufom_explain.specs.Region.{region_line}
@@ -46,6 +47,11 @@ link_text d = link_lines d.names.now (flat_of d.flat.now) d.kind
 abbrev pub name_text : NameDetails → Text
 name_text d = mention_text d.names.now (flat_of d.mentions.flat.now) (wanted_names d.mentions.wanted)
 
+-- ---- a name that the plan shares
+
+abbrev pub shared_text : SharedDetails → Text
+shared_text d = symbol_lines d.name.now d.symbol ++ name_text d.mentions
+
 -- ---- locating
 
 abbrev pub explained_of : LocateContext → Explained
@@ -56,6 +62,7 @@ explained_of c = record {
   maus = c.object.now.maus;
   modules = c.object.now ∷ [];
   object = c.object.now;
+  own = c.own.now;
   plan = c.plan.now;
 }
 
@@ -69,8 +76,9 @@ taken_text e n taken = taken_at e n taken (slice_get e.plan.regions n)
 
 abbrev pub locate_lines : Explained → LocateKind → Text
 locate_lines e (locate.Entry n) = entry_lines e n
-locate_lines e (locate.Entries m n) = entry_lines e m ++ entry_lines e n
-locate_lines e (locate.Misfit section region taken) = entry_lines e section ++ taken_text e region taken
+locate_lines e (locate.Placed copies n) = lines_among e copies n
+locate_lines e (locate.Entries copies m n) = lines_among e copies m ++ lines_among e copies n
+locate_lines e (locate.Misfit copies section region taken) = lines_among e copies section ++ taken_text e region taken
 locate_lines e (locate.Field section value) = entry_lines e section ++ value_text value
 locate_lines e (locate.Mentions mentions) = mention_text e.names (flat_of mentions.flat.now) (wanted_names mentions.wanted)
 locate_lines e locate.Nothing = []

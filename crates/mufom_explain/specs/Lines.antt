@@ -1,10 +1,11 @@
--- The lines that say what the numbers of an error line refer to: a file, the plan, a module, a section or a common.
+-- The lines that say what the numbers of an error line refer to: a file, the plan, a module, a section, a common or the copy of a region.
 use Rattle.std.specs.Prelude.{ℕ, List, [], ◌++◌, map, Option, Some, None, Bool, ◌&&◌, slice_get, codes, if◌then◌else◌}
 use Rattle.std.specs.List.{list_any}
 use Rattle.std.specs.Str.{bytes_eq}
 use Rattle.mufom_sections.specs.declared.section.Section.{Section}
 use Rattle.mufom_names.specs.declared.name.Reference.{Reference}
 use Rattle.mufom_module.specs.declared.module.Parts.{Parts}
+use Rattle.mufom_place.specs.declared.placing.RegionCopy.{RegionCopy}
 use Rattle.mufom_meaning.specs.Flat.{is_common}
 use Rattle.mufom_text.specs.Words.{Text, each, line, quoted}
 use Rattle.mufom_origins.specs.declared.origins.Origin.{Origin}
@@ -51,6 +52,17 @@ described word n s = counted word n ++ (codes ": " ++ (quoted s.name ++ (counted
 abbrev pub section_line : ℕ → FileNames → List Origin → ℕ → Section → Text
 section_line maus names origins n s = line (described (codes "section ") n s
     ++ (base_text maus s.base ++ place_text names origins (module_in (map (λ (o : Origin). o.sections) origins) n)))
+
+-- ---- copies of regions
+
+-- the line of the copy of a region with its number; the region is given by its position
+abbrev pub copy_line : ℕ → RegionCopy → Text
+copy_line n c = line (described (codes "copy ") n c.section ++ counted (codes ", of region ") c.source)
+
+-- the same, if there is a copy
+abbrev pub copied_line : ℕ → Option RegionCopy → Text
+copied_line n None = []
+copied_line n (Some c) = copy_line n c
 
 -- ---- commons
 

@@ -1,10 +1,9 @@
 -- The space that the sections placed in a region take, and the line of that region. All numbers are exact.
 use Rattle.std.specs.Prelude.{ℕ, ◌+◌, ◌-◌, ◌==◌, max, List, [], ◌∷◌, ◌++◌, Option, Some, None, slice_get, codes, if◌then◌else◌}
 use Rattle.mufom_sections.specs.declared.section.Section.{Section}
-use Rattle.mufom_plan.specs.declared.plan.Plan.{Plan}
 use Rattle.mufom_plan.specs.declared.plan.Region.{Region}
 use Rattle.mufom_place.specs.declared.placing.Placing.{Placing}
-use Rattle.mufom_place.specs.Bases.{placings}
+use Rattle.mufom_planned.specs.Layout.{Layout, layout_placings, whole_list}
 use Rattle.mufom_text.specs.Words.{Text, line, quoted}
 use Rattle.mufom_text.specs.Digits.{counted, hex}
 
@@ -21,9 +20,9 @@ abbrev pub greatest_end : List Section → ℕ → List Placing → ℕ
 greatest_end all region [] = 0
 greatest_end all region (p ∷ placed) = max (end_in all region p) (greatest_end all region placed)
 
--- the distance from a region's base to the greatest end of the sections and commons that it places
-abbrev pub taken_in : Plan → (sections commons : List Section) → ℕ → Region → ℕ
-taken_in plan sections commons n region = greatest_end (sections ++ commons) n (placings plan sections commons) - region.base
+-- the distance from a region's base to the greatest end of the sections, commons and copies that it places
+abbrev pub taken_in : Layout → ℕ → Region → ℕ
+taken_in l n region = greatest_end (whole_list l) n (layout_placings l) - region.base
 
 abbrev pub region_line : ℕ → ℕ → Region → ℕ → Text
 region_line maus n region taken = line (counted (codes "region ") n ++ (codes ": " ++ (quoted region.name ++ (codes " base " ++ (hex maus region.base

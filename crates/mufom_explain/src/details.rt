@@ -10,6 +10,7 @@ use mufom_field_values::FieldValue;
 use mufom_module::Module;
 use mufom_numbers::{List, Text};
 use mufom_origins::Origins;
+use mufom_place::RegionCopy;
 use mufom_plan::Plan;
 use mufom_sections::Section;
 
@@ -32,11 +33,20 @@ pub struct LinkDetails<'a> {
     pub(crate) kind: LinkKind<'a>,
 }
 
-/// The lines that follow the error line of a name that should be kept and that no module defines.
+/// The lines about a name: the modules that mention it.
 #[derive(Drop)]
 pub struct NameDetails<'a> {
     pub(crate) names: &'a [Text],
     pub(crate) mentions: Mentions<'a>,
+}
+
+/// The lines that follow the error line of a name that a symbol of the plan shares with a public.
+#[derive(Drop)]
+pub struct SharedDetails<'a> {
+    pub(crate) name: &'a [u8],
+    // The position of the symbol in the plan.
+    pub(crate) symbol: Option<usize>,
+    pub(crate) mentions: NameDetails<'a>,
 }
 
 /// The context in which the error of a module that cannot be located is explained.
@@ -48,19 +58,26 @@ pub struct LocateContext<'a> {
     pub flat: &'a [FlatModule<'a>],
     /// The origins of the entries of the module that is located.
     pub origins: &'a Origins,
-    /// The module that is located: the link of the flat list, or what is left of it.
+    /// The module that is located: the link of the flat list, or what is left of it, with the plan's symbols.
     pub object: &'a Module,
+    /// That module without the plan's symbols. Its expressions are shown.
+    pub own: &'a Module,
     pub plan: &'a Plan,
 }
 
-// The lines to put. Sections and commons are given by their numbers.
+// The lines to put. Sections, commons and copies of regions are given by their numbers.
 #[derive(Drop)]
 pub(crate) enum LocateKind<'a> {
+    // A section.
     Entry(u32),
-    Entries(u32, u32),
-    // A section that does not fit, and its region, with the space that the region's sections take from its
-    // base on.
+    // A section, common or copy, with all copies.
+    Placed(List<RegionCopy>, u32),
+    // Two of them.
+    Entries(List<RegionCopy>, u32, u32),
+    // One of them that does not fit, with all copies, and its region, with the space that the region's sections
+    // take from its base on.
     Misfit {
+        copies: List<RegionCopy>,
         section: u32,
         region: u32,
         taken: u128,

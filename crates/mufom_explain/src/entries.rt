@@ -1,4 +1,4 @@
-//! The lines of sections and commons.
+//! The lines of sections, commons and copies of regions.
 
 ghost use Rattle.std.specs.Prelude.{◌≡◌, ◌++◌, ◌&&◌, Some, codes, map, option_map, slice_get};
 ghost use Rattle.std.specs.Str.{bytes_eq};
@@ -7,13 +7,14 @@ ghost use Rattle.mufom_text.specs.Words.{each};
 ghost use Rattle.mufom_meaning.specs.Flat.{is_common};
 ghost use Rattle.mufom_explain.specs.Flat.{file_module, flat_of};
 ghost use Rattle.mufom_explain.specs.Lines.{asking_line, asks_by, asks_for, base_text, common_lines, described, module_line, origin_text};
-ghost use Rattle.mufom_explain.specs.Lines.{place_text, section_line};
+ghost use Rattle.mufom_explain.specs.Lines.{copy_line, place_text, section_line};
 
 use crate::modules::{FlatModule, module_line};
 use mufom_module::Parts;
 use mufom_names::Reference;
 use mufom_numbers::Text;
 use mufom_origins::{Origin, Origins, Place, module_text};
+use mufom_place::RegionCopy;
 use mufom_sections::Section;
 use mufom_text::{Output, counted, hex, quoted};
 
@@ -65,7 +66,7 @@ fn place_text<K: Output>(out: &mut K, names: &[Text], origins: &Origins, place: 
     }
 }
 
-// The description of a section or a common, after a word and its number.
+// The description of a section, a common or a copy, after a word and its number.
 fn described<K: Output>(out: &mut K, word: &[u8], number: u32, section: &Section)
     ensures { K.takes out.old out.new (described word.now number section.now) }
 {
@@ -92,6 +93,15 @@ pub(crate) fn section_line<K: Output>(
     described(out, b"section ", number, section);
     base_text(out, maus, section.base);
     place_text(out, names, origins, origins.section(number));
+    out.put(b"\n");
+}
+
+/// Puts the line of the copy of a region with its number, as in `copy 3: "ram" size 6 align 8, of region 1`.
+pub(crate) fn copy_line<K: Output>(out: &mut K, number: u32, copy: &RegionCopy)
+    ensures { K.takes out.old out.new (copy_line number copy.now) }
+{
+    described(out, b"copy ", number, &copy.section);
+    counted(out, b", of region ", copy.source as u128);
     out.put(b"\n");
 }
 

@@ -3,9 +3,9 @@
 //!
 //! It depends on `mufom_link` and `mufom_image` for the errors, on `mufom_place` for the regions, on
 //! `mufom_origins` for the modules from which sections come, on `mufom_field_values` for the expressions of
-//! fields, and on `mufom_text` for numbers and names in text. Its main clauses are those of [`explain_link`], [`explain_locate`] and
-//! [`explain_name`]: the lines are exactly those that `link_details`, `locate_details` and `name_details`
-//! define.
+//! fields, on `mufom_locating` for the copies of regions, and on `mufom_text` for numbers and names in text. Its
+//! main clauses are those of [`explain_link`], [`explain_locate`], [`explain_shared`] and [`explain_name`]: the
+//! lines are exactly those that `link_details`, `locate_details`, `shared_details` and `name_details` define.
 #![tactic(auto)]
 
 mod details;
@@ -22,13 +22,15 @@ mod modules;
 mod named;
 mod naming;
 mod regions;
+mod shared;
 mod undefined;
 mod wanted;
 
-pub use details::{LinkDetails, LocateContext, LocateDetails, NameDetails};
+pub use details::{LinkDetails, LocateContext, LocateDetails, NameDetails, SharedDetails};
 pub use laws::explanations_are_alike;
 pub use lines::{file_line, plan_line};
 pub use link::explain_link;
 pub use locate::explain_locate;
 pub use modules::FlatModule;
 pub use named::explain_name;
+pub use shared::explain_shared;

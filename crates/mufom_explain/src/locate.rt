@@ -1,25 +1,28 @@
 //! Explains the error of a module that cannot be located.
 
-ghost use Rattle.std.specs.Prelude.{◌≡◌, ◌∷◌, ◌<◌, ◌^◌, [], Some, None, IfOk, length, slice_get};
+ghost use Rattle.std.specs.Prelude.{◌≡◌, ◌+◌, ◌∷◌, ◌<◌, ◌^◌, [], All, Some, None, IfOk, length, option_map, slice_get};
 ghost use Rattle.mufom_names.specs.Names.{names_of, AreDistinct};
 ghost use Rattle.mufom_text.specs.Fitting.{IsUnitCount};
 ghost use Rattle.mufom_image_values.specs.Resolutions.{resolutions_of};
-ghost use Rattle.mufom_image.specs.Placements.{placing_refusal, IsSoundPlan};
+ghost use Rattle.mufom_image.specs.Placements.{placing_refusal};
 ghost use Rattle.mufom_image.specs.Refusals.{IsMet};
 ghost use Rattle.mufom_image.specs.Stages.{circular};
 ghost use Rattle.mufom_meaning.specs.Facts.{placement, zero_divisor};
-ghost use Rattle.mufom_meaning.specs.LocateAnswer.{locate_answer};
 ghost use Rattle.mufom_place.specs.Bases.{numbered};
 ghost use Rattle.mufom_place.specs.Facts.{first_some, unplaced_at};
 ghost use Rattle.mufom_plan.specs.Names.{listed_names};
-ghost use Rattle.mufom_explain.specs.Details.{commons_of, entry_lines, field_details, locate_details, numbered_lines, placement_details, site_details};
-ghost use Rattle.mufom_explain.specs.Details.{undefined_names};
+ghost use Rattle.mufom_planned.specs.Planned.{copied_answer};
+ghost use Rattle.mufom_locating.specs.Exported.{AllListed, IsPlacedList};
+ghost use Rattle.mufom_locating.specs.Plans.{IsReadPlan};
+ghost use Rattle.mufom_explain.specs.Details.{entry_lines, field_details, layout_of, lines_among, locate_details, numbered_copy, numbered_lines};
+ghost use Rattle.mufom_explain.specs.Details.{placement_details, site_details, undefined_names};
 ghost use Rattle.mufom_explain.specs.Explained.{explained_of, locate_lines, locate_text, taken_text};
 ghost use Rattle.mufom_explain.specs.Flat.{flat_of};
+ghost use Rattle.mufom_explain.specs.Lines.{copied_line};
 ghost use Rattle.mufom_explain.specs.Mentions.{mention_text};
 
 use crate::details::{LocateContext, LocateDetails, LocateKind};
-use crate::entries::{common_lines, section_line};
+use crate::entries::{common_lines, copy_line, section_line};
 use crate::finding::find_mentions;
 use crate::naming::one_name;
 use crate::regions::{region_line, taken_in};
@@ -27,10 +30,10 @@ use crate::undefined::undefined_names;
 use mufom_field_values::{field_value, find_field};
 use mufom_image::{LocateRefusal, Site, planned_commons};
 use mufom_image_values::{Resolution, resolve_references};
-use mufom_meaning::modules_may_be_placed;
+use mufom_locating::{Placed, placed_list};
 use mufom_module::a_module_is_valid;
 use mufom_numbers::{Bytes, NoMemory};
-use mufom_place::PlaceRefusal;
+use mufom_place::{PlaceRefusal, RegionCopy};
 use mufom_sections::Section;
 use mufom_text::{Lines, Output};
 use std::alloc::Global;
@@ -47,6 +50,16 @@ fn common_at<K: Output>(
 {
     match commons.get(position) {
         Some(common) => common_lines(out, context.names, context.flat, number, common),
+        None => {}
+    }
+}
+
+// The line of the copy at a position, if there is one.
+fn copied_at<K: Output>(out: &mut K, number: u32, copies: &[RegionCopy], position: usize)
+    ensures { K.takes out.old out.new (copied_line number (slice_get copies.now position)) }
+{
+    match copies.get(position) {
+        Some(copy) => copy_line(out, number, copy),
         None => {}
     }
 }
@@ -94,6 +107,27 @@ impl<'a> LocateDetails<'a> {
         }
     }
 
+    // The line of the copy with a number, if it is one; copies are numbered after the commons.
+    fn copy_line<K: Output>(&self, out: &mut K, copies: &[RegionCopy], number: u32)
+        ensures { K.takes out.old out.new (copied_line number
+            (numbered_copy (length self.now.context.object.now.sections + length self.now.commons) copies.now number)) }
+    {
+        let position = number as usize;
+        let sections = self.context.object.parts().sections.len();
+        let commons = self.commons.len();
+        if position >= sections && position - sections >= commons {
+            copied_at(out, number, copies, position - sections - commons);
+        }
+    }
+
+    // The lines of the section, common or copy with a number.
+    fn placed_lines<K: Output>(&self, out: &mut K, copies: &[RegionCopy], number: u32)
+        ensures { K.takes out.old out.new (lines_among (explained_of self.now.context) copies.now number) }
+    {
+        self.entry_lines(out, number);
+        self.copy_line(out, copies, number);
+    }
+
     // The line of a region whose sections take this much space.
     fn region_line<K: Output>(&self, out: &mut K, number: u32, taken: u128)
         ensures { K.takes out.old out.new (taken_text (explained_of self.now.context) number taken) }
@@ -111,16 +145,20 @@ impl<'a> Lines for LocateDetails<'a> {
     fn put_lines<K: Output>(&self, out: &mut K) {
         match &self.kind {
             LocateKind::Entry(number) => self.entry_lines(out, *number),
-            LocateKind::Entries(first, second) => {
-                self.entry_lines(out, *first);
-                self.entry_lines(out, *second);
+            LocateKind::Placed(copies, number) => {
+                self.placed_lines(out, copies.as_slice(), *number);
+            }
+            LocateKind::Entries(copies, first, second) => {
+                self.placed_lines(out, copies.as_slice(), *first);
+                self.placed_lines(out, copies.as_slice(), *second);
             }
             LocateKind::Misfit {
+                copies,
                 section,
                 region,
                 taken,
             } => {
-                self.entry_lines(out, *section);
+                self.placed_lines(out, copies.as_slice(), *section);
                 self.region_line(out, *region, *taken);
             }
             LocateKind::Field { section, value } => {
@@ -160,56 +198,71 @@ fn about_undefined<'a>(
     Ok(LocateKind::Mentions(find_mentions(alloc, wanted, context.flat)?))
 }
 
-// The lines of a section that does not fit the region with a number.
+// The lines of a section, common or copy that does not fit the region with a number.
 fn about_region<'a>(
-    alloc: Global,
     context: &LocateContext<'a>,
-    commons: &[Section],
+    placed: Placed,
     section: u32,
     number: u32,
-) -> Result<LocateKind<'a>, NoMemory>
-    requires plan { IsSoundPlan context.now.plan.now }
-    requires commons { commons.now ≡ commons_of (explained_of context.now) }
-    requires placed { first_some (unplaced_at (listed_names context.now.plan.now.regions)) (numbered context.now.object.now.sections) ≡ None }
-    ensures { IfOk result (λ kind. locate_lines (explained_of context.now) kind
-        ≡ placement_details (explained_of context.now) (PlaceRefusal.Misfit section (Some number))) }
+) -> LocateKind<'a>
+    requires placed { IsPlacedList (layout_of (explained_of context.now)) placed }
+    ensures { locate_lines (explained_of context.now) result
+        ≡ placement_details (explained_of context.now) (PlaceRefusal.Misfit section (Some number)) }
 {
-    modules_may_be_placed();
     let Some(region) = context.plan.regions.get(number as usize) else {
-        return Ok(LocateKind::Entry(section));
+        return LocateKind::Placed(placed.copies, section);
     };
-    let sections = context.object.parts().sections.as_slice();
-    let taken = taken_in(alloc, sections, commons, context.plan, number, region)?;
-    Ok(LocateKind::Misfit {
+    let taken = taken_in(&placed, number, region);
+    LocateKind::Misfit {
+        copies: placed.copies,
         section,
         region: number,
         taken,
-    })
+    }
+}
+
+// The lines that explain an error of placing, if each section is placed.
+fn about_placed<'a>(
+    alloc: Global,
+    context: &LocateContext<'a>,
+    refusal: PlaceRefusal,
+) -> Result<LocateKind<'a>, NoMemory>
+    requires plan { IsReadPlan context.now.plan.now }
+    requires placed { first_some (unplaced_at (listed_names context.now.plan.now.regions)) (numbered context.now.object.now.sections) ≡ None }
+    ensures { IfOk result (λ kind. locate_lines (explained_of context.now) kind ≡ placement_details (explained_of context.now) refusal) }
+{
+    let placed = placed_list(alloc, context.object, context.plan)?;
+    match refusal {
+        PlaceRefusal::Misfit {
+            section,
+            region: Some(region),
+        } => Ok(about_region(context, placed, section, region)),
+        PlaceRefusal::Misfit {
+            section,
+            region: None,
+        } => Ok(LocateKind::Placed(placed.copies, section)),
+        PlaceRefusal::Overlap(first, second) => {
+            Ok(LocateKind::Entries(placed.copies, first, second))
+        }
+        PlaceRefusal::Unplaced(number) => Ok(LocateKind::Entry(number)),
+        PlaceRefusal::NoMemory => Ok(LocateKind::Nothing),
+    }
 }
 
 // The lines that explain an error of placing.
 fn about_placement<'a>(
     alloc: Global,
     context: &LocateContext<'a>,
-    commons: &[Section],
     refusal: PlaceRefusal,
 ) -> Result<LocateKind<'a>, NoMemory>
-    requires plan { IsSoundPlan context.now.plan.now }
-    requires commons { commons.now ≡ commons_of (explained_of context.now) }
-    requires met { locate_answer (context.now.object.now ∷ []) context.now.plan.now ≡ Some (placement refusal) }
+    requires plan { IsReadPlan context.now.plan.now }
+    requires met { copied_answer (context.now.object.now ∷ []) context.now.plan.now ≡ Some (placement refusal) }
     ensures { IfOk result (λ kind. locate_lines (explained_of context.now) kind ≡ placement_details (explained_of context.now) refusal) }
 {
     match refusal {
         PlaceRefusal::Unplaced(number) => Ok(LocateKind::Entry(number)),
-        PlaceRefusal::Misfit {
-            section,
-            region: Some(region),
-        } => about_region(alloc, context, commons, section, region),
-        PlaceRefusal::Misfit {
-            section,
-            region: None,
-        } => Ok(LocateKind::Entry(section)),
-        PlaceRefusal::Overlap(first, second) => Ok(LocateKind::Entries(first, second)),
+        PlaceRefusal::Misfit { .. } => about_placed(alloc, context, refusal),
+        PlaceRefusal::Overlap(_, _) => about_placed(alloc, context, refusal),
         PlaceRefusal::NoMemory => Ok(LocateKind::Nothing),
     }
 }
@@ -223,17 +276,17 @@ fn about_field<'a>(
     address: u64,
 ) -> Result<LocateKind<'a>, NoMemory>
     requires names { AreDistinct (names_of context.now.object.now.names.publics) }
-    requires plan { IsSoundPlan context.now.plan.now }
+    requires plan { IsReadPlan context.now.plan.now }
     requires resolved { resolutions.now ≡ resolutions_of context.now.object.now }
     requires placed { placing_refusal context.now.object.now context.now.plan.now ≡ None }
     requires acyclic { circular context.now.object.now ≡ None }
     ensures { IfOk result (λ kind. locate_lines (explained_of context.now) kind ≡ field_details (explained_of context.now) section address) }
 {
-    let object = context.object;
-    let found = find_field(alloc, object, resolutions, context.plan, section, address)?;
+    let (object, own, plan) = (context.object, context.own, context.plan);
+    let found = find_field(alloc, object, own, resolutions, plan, section, address)?;
     match found {
         Some(value) => {
-            let value = field_value(alloc, object, value)?;
+            let value = field_value(alloc, own, value)?;
             Ok(LocateKind::Field { section, value })
         }
         None => Ok(LocateKind::Entry(section)),
@@ -249,9 +302,9 @@ fn about_site<'a>(
 ) -> Result<LocateKind<'a>, NoMemory>
     requires flat { length context.now.flat.now < 2 ^ 32 }
     requires names { AreDistinct (names_of context.now.object.now.names.publics) }
-    requires plan { IsSoundPlan context.now.plan.now }
+    requires plan { IsReadPlan context.now.plan.now }
     requires resolved { resolutions.now ≡ resolutions_of context.now.object.now }
-    requires met { locate_answer (context.now.object.now ∷ []) context.now.plan.now ≡ Some (zero_divisor site.now) }
+    requires met { copied_answer (context.now.object.now ∷ []) context.now.plan.now ≡ Some (zero_divisor site.now) }
     ensures { IfOk result (λ kind. locate_lines (explained_of context.now) kind ≡ site_details (explained_of context.now) site.now) }
 {
     match site {
@@ -270,19 +323,17 @@ fn about<'a>(
     alloc: Global,
     context: &LocateContext<'a>,
     resolutions: &[Resolution],
-    commons: &[Section],
     refusal: &'a LocateRefusal,
 ) -> Result<LocateKind<'a>, NoMemory>
     requires flat { length context.now.flat.now < 2 ^ 32 }
     requires names { AreDistinct (names_of context.now.object.now.names.publics) }
-    requires plan { IsSoundPlan context.now.plan.now }
+    requires plan { IsReadPlan context.now.plan.now }
     requires resolved { resolutions.now ≡ resolutions_of context.now.object.now }
-    requires commons { commons.now ≡ commons_of (explained_of context.now) }
-    requires met { IsMet (locate_answer (context.now.object.now ∷ []) context.now.plan.now) refusal.now }
+    requires met { IsMet (copied_answer (context.now.object.now ∷ []) context.now.plan.now) refusal.now }
     ensures { IfOk result (λ kind. locate_lines (explained_of context.now) kind ≡ locate_details (explained_of context.now) refusal.now) }
 {
     match refusal {
-        LocateRefusal::Place(refusal) => about_placement(alloc, context, commons, *refusal),
+        LocateRefusal::Place(refusal) => about_placement(alloc, context, *refusal),
         LocateRefusal::Undefined(_) => about_undefined(alloc, context),
         LocateRefusal::CommonUnplaced(name) => about_name(alloc, context, name),
         LocateRefusal::Cycle(name) => about_name(alloc, context, name),
@@ -299,15 +350,16 @@ fn about<'a>(
     }
 }
 
-/// Returns the lines that follow the error line of a module that cannot be located: the sections and commons
-/// to which it refers, with the modules from which they come, a region with the space that its sections take,
-/// all modules that mention the names, or the expression of a field with the names of its variables; all
-/// undefined names are listed.
+/// Returns the lines that follow the error line of a module that cannot be located: the sections, commons and
+/// copies of regions to which it refers, with the modules from which they come, a region with the space that its
+/// sections take, all modules that mention the names, or the expression of a field with the names of its
+/// variables; all undefined names are listed.
 ///
-/// `refusal` must be the error of locating the module by the plan, and no two publics of the module have the
-/// same name. The time is proportional to the number of names in the modules, the sections and the plan, and the
-/// memory to the number of mentions and sections; for a field, the time is that of locating. The only error is
-/// out of memory.
+/// The module has the plan's symbols among its publics, if the plan has any; the expression of a field is that of
+/// the module without them. `refusal` must be the error of locating the module by the plan's regions, and no two of
+/// its publics have the same name. The time is proportional to the number of names in the modules, the sections and
+/// the plan, and the memory to the number of mentions and sections; for a field, the time is that of locating. The
+/// only error is out of memory.
 pub fn explain_locate<'a>(
     alloc: Global,
     context: LocateContext<'a>,
@@ -315,19 +367,13 @@ pub fn explain_locate<'a>(
 ) -> Result<LocateDetails<'a>, NoMemory>
     requires flat { length context.flat.now < 2 ^ 32 }
     requires names { AreDistinct (names_of context.object.now.names.publics) }
-    requires plan { IsSoundPlan context.plan.now }
-    requires met { IsMet (locate_answer (context.object.now ∷ []) context.plan.now) refusal.now }
+    requires plan { IsReadPlan context.plan.now }
+    requires met { IsMet (copied_answer (context.object.now ∷ []) context.plan.now) refusal.now }
     ensures { IfOk result (λ details. locate_text details ≡ locate_details (explained_of context.entry) refusal.now) }
 {
     let resolutions = resolve_references(alloc, context.object)?;
     let commons = planned_commons(alloc, context.object, resolutions.as_slice(), context.plan)?;
-    let kind = about(
-        alloc,
-        &context,
-        resolutions.as_slice(),
-        commons.as_slice(),
-        refusal,
-    )?;
+    let kind = about(alloc, &context, resolutions.as_slice(), refusal)?;
     a_module_is_valid(context.object);
     Ok(LocateDetails {
         context,

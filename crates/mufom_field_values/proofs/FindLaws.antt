@@ -1,5 +1,5 @@
 -- The field of a module that is placed where a plan puts it is the one that is looked for.
-use Rattle.std.proofs.Common.{◌≡◌, ℕ, List, [], ◌∷◌, None, append-nil, sym, ap, subst, ◌∙◌}
+use Rattle.std.proofs.Common.{◌≡◌, ℕ, List, [], ◌∷◌, None, sym, ap, subst, ◌∙◌}
 use Rattle.mufom_names.specs.Names.{names_of, AreDistinct}
 use Rattle.mufom_loads.specs.declared.load.Load.{Load}
 use Rattle.mufom_module.specs.declared.module.Parts.{Parts}
@@ -17,7 +17,7 @@ use Rattle.mufom_image.specs.Placements.{ArePlaced, StandsAt}
 use Rattle.mufom_image.specs.Stages.{circular}
 use Rattle.mufom_image.proofs.PlannedLaws.{graph-placed, planned-by}
 use Rattle.mufom_image.proofs.ReadyLaws.{same-bases}
-use Rattle.mufom_field_values.specs.Fields.{field_of, first_field}
+use Rattle.mufom_field_values.specs.Fields.{field_of, first_field, shown_loads}
 
 module _ (m : Parts) (met : List Resolution) (bases : List ℕ) (placed : PlacedModule) (at : StandsAt m met bases placed)
     (names : AreDistinct (names_of m.names.publics)) where
@@ -27,12 +27,14 @@ module _ (m : Parts) (met : List Resolution) (bases : List ℕ) (placed : Placed
     acyclic = subst (λ (x : Parts). circular x ≡ None) (sym at.parts) acyclic;
   }
 
-  pub field-found : (plan : Plan) (sections : List Section) → ArePlaced m plan sections bases → (loads : List Load) → loads ≡ m.loads
-      → (section address : ℕ) → first_field (setting_of placed) section address [] (steps_of (alone placed.graph.parts.now) None loads)
-      ≡ field_of m plan section address
-  field-found plan sections there loads same section address =
-      let own = at.parts in
-      ap (λ (b : Bases). first_field (setting (placed.graph.parts.now ∷ []) b) section address [] (steps_of (alone placed.graph.parts.now) None loads))
+  pub field-found : (plan : Plan) (sections : List Section) → ArePlaced m plan sections bases → (loads : List Load) → loads ≡ m.loads → (own : Parts)
+      → (section address : ℕ)
+      → first_field (setting_of placed) section address [] (steps_of (alone placed.graph.parts.now) None (shown_loads loads own.loads))
+      ≡ field_of m own plan section address
+  field-found plan sections there loads same own section address =
+      let parts = at.parts in
+      ap (λ (b : Bases). first_field (setting (placed.graph.parts.now ∷ []) b) section address []
+      (steps_of (alone placed.graph.parts.now) None (shown_loads loads own.loads)))
       (same-bases plan placed (planned-by m met bases placed at names plan sections there))
-      ∙ (λ i. first_field (setting (own i ∷ []) (planned_bases (own i ∷ []) plan)) section address [] (steps_of (alone (own i)) None (same i)))
-      ∙ ap (first_field (setting (m ∷ []) (planned_bases (m ∷ []) plan)) section address []) (sym (append-nil (steps_of (alone m) None m.loads)))
+      ∙ (λ i. first_field (setting (parts i ∷ []) (planned_bases (parts i ∷ []) plan)) section address []
+      (steps_of (alone (parts i)) None (shown_loads (same i) own.loads)))

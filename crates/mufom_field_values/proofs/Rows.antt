@@ -67,19 +67,30 @@ loaded = record linked {
       ∷ SetPc 0 (two plus (variable R 0) (number 3)) ∷ Repeat 2 (Literal (2 ∷ []) ∷ Field Unsigned 1 (number 7) ∷ []) ∷ [];
 }
 
-first_is : field_of loaded plan 0 257 ≡ Some (two plus (variable X 0) (variable R 0))
+first_is : field_of loaded loaded plan 0 257 ≡ Some (two plus (variable X 0) (variable R 0))
 unfolding counter value_within
 first_is = refl
 
-repeated_is : field_of loaded plan 0 262 ≡ Some (number 7)
+repeated_is : field_of loaded loaded plan 0 262 ≡ Some (number 7)
 unfolding counter value_within
 repeated_is = refl
 
 -- a byte is no field, and another section has none
-byte_is : field_of loaded plan 0 256 ≡ None
+byte_is : field_of loaded loaded plan 0 256 ≡ None
 unfolding counter value_within
 byte_is = refl
 
-other_is : field_of loaded plan 1 257 ≡ None
+other_is : field_of loaded loaded plan 1 257 ≡ None
 unfolding counter value_within
 other_is = refl
+
+-- the module before a name of the plan is linked with it: the field stands at the same place, and its own expression is shown
+abbrev named : Parts
+named = record loaded {
+  loads = SetSection 0 ∷ One (Literal (1 ∷ [])) ∷ One (Field Unsigned 1 (two plus (variable I 1) (variable R 0)))
+      ∷ SetPc 0 (two plus (variable R 0) (number 3)) ∷ Repeat 2 (Literal (2 ∷ []) ∷ Field Unsigned 1 (number 7) ∷ []) ∷ [];
+}
+
+shown_is : field_of named loaded plan 0 257 ≡ Some (two plus (variable X 0) (variable R 0))
+unfolding counter value_within
+shown_is = refl

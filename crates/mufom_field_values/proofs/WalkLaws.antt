@@ -1,7 +1,8 @@
 -- What the walk of one counter finds, item by item and load by load.
 use Rattle.std.proofs.Common.{◌≡◌, ℕ, zero, suc, ◌+◌, ◌-◌, ◌<◌, List, [], ◌∷◌, ◌++◌, Option, Some, None, Bool, true, false, append_assoc, refl, ap, ◌∙◌}
-use Rattle.std.proofs.Common.{arith}
+use Rattle.std.proofs.Common.{arith, drop, get_or, length, sym}
 use Rattle.std.specs.Prelude.{◌==◌, ◌&&◌, is_some, option_map, if◌then◌else◌}
+use Rattle.std.proofs.lemmas.List.{drop_more}
 use Rattle.mufom_expr.specs.Tree.{Tree}
 use Rattle.mufom_loads.specs.declared.load.Item.{Item}
 use Rattle.mufom_loads.specs.declared.load.Load.{Load}
@@ -15,7 +16,7 @@ use Rattle.mufom_meaning.specs.Steps.{Step, counter_step, item_step, counter, it
 use Rattle.mufom_meaning.specs.Values.{Setting, value}
 use Rattle.mufom_meaning.proofs.Unfolding.{counter-item, counter-set}
 use Rattle.mufom_image_values.specs.Evaluated.{alone}
-use Rattle.mufom_field_values.specs.Fields.{field_step, field_tree, first_field, is_at}
+use Rattle.mufom_field_values.specs.Fields.{field_step, field_tree, first_field, is_at, shown_load, shown_loads}
 use Rattle.mufom_field_values.specs.Walk.{after_item, field_here, found, found_from, load_steps, moved}
 
 -- ---- the definition by counters
@@ -145,3 +146,21 @@ steps-next site current (SetSection section) loads = refl
 steps-next site current (SetPc section t) loads = refl
 steps-next site current (One item) loads = refl
 steps-next site current (Repeat count items) loads = refl
+
+-- ---- loads that are shown
+
+-- what is left of a list, if this is its element at the position
+left-at : (loads : List Load) (i : ℕ) (load : Load) → i < length loads → load ≡ get_or loads i load → drop i loads ≡ load ∷ drop (i + 1) loads
+left-at loads i load low is = drop_more loads i load low ∙ ap (λ (x : Load). x ∷ drop (i + 1) loads) (sym is)
+
+-- the loads that are left are the next one and the others
+pub shown-next : (loads own : List Load) (i : ℕ) (load other : Load) → i < length loads → load ≡ get_or loads i load → i < length own
+    → other ≡ get_or own i other
+    → shown_loads (drop i loads) (drop i own) ≡ shown_load load other ∷ shown_loads (drop (i + 1) loads) (drop (i + 1) own)
+shown-next loads own i load other low is beside at =
+    let first = left-at loads i load low is in let second = left-at own i other beside at in λ j. shown_loads (first j) (second j)
+
+-- loads beside no others are not shown
+pub shown-none : (loads : List Load) → shown_loads loads [] ≡ []
+shown-none [] = refl
+shown-none (load ∷ loads) = refl

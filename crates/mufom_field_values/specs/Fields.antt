@@ -3,12 +3,15 @@ use Rattle.std.specs.Prelude.{ℕ, ◌==◌, ◌&&◌, List, [], ◌∷◌, Bool
 use Rattle.mufom_expr.specs.Tree.{Tree}
 use Rattle.mufom_loads.specs.declared.load.Item.{Item}
 use Rattle.mufom_loads.specs.declared.load.Item.TheVariants.{Literal, Field}
+use Rattle.mufom_loads.specs.declared.load.Load.{Load}
+use Rattle.mufom_loads.specs.declared.load.Load.TheVariants.{SetPc}
 use Rattle.mufom_module.specs.declared.module.Parts.{Parts}
 use Rattle.mufom_plan.specs.declared.plan.Plan.{Plan}
 use Rattle.mufom_place.specs.Facts.{◌or_else◌}
 use Rattle.mufom_meaning.specs.Placed.{planned_bases}
-use Rattle.mufom_meaning.specs.Steps.{Step, counter_step, item_step, counter, steps}
+use Rattle.mufom_meaning.specs.Steps.{Step, counter_step, item_step, counter, steps_of}
 use Rattle.mufom_meaning.specs.Values.{Setting, setting}
+use Rattle.mufom_image_values.specs.Evaluated.{alone}
 
 -- the expression of an item, if it is a field
 abbrev pub field_tree : Item → Option Tree
@@ -32,7 +35,20 @@ first_field s section address earlier [] = None
 first_field s section address earlier (step ∷ more) =
     field_step s section address earlier step or_else first_field s section address (step ∷ earlier) more
 
--- The expression of the first field that the module loads into the section at the address, if there is one. Where a value does not fit the field at
--- an address, or divides by zero there, no other item has a byte at this address before it.
-abbrev pub field_of : Parts → Plan → ℕ → ℕ → Option Tree
-field_of m plan section address = first_field (setting (m ∷ []) (planned_bases (m ∷ []) plan)) section address [] (steps (m ∷ []))
+-- a load with the items of another one, and with its own program counter
+abbrev pub shown_load : Load → Load → Load
+shown_load (SetPc section t) own = SetPc section t
+shown_load load own = own
+
+-- the loads with the items of others, one by one
+abbrev pub shown_loads : List Load → List Load → List Load
+shown_loads [] own = []
+shown_loads (load ∷ loads) [] = []
+shown_loads (load ∷ loads) (o ∷ own) = shown_load load o ∷ shown_loads loads own
+
+-- The expression, in `own`, of the first field that the module m loads into the section at the address, if there is one. The two have the same loads
+-- but for the expressions in them: m is located, and `own` is shown, for instance the module before a plan's symbols are linked with it. Where a value
+-- does not fit the field at an address, or divides by zero there, no other item has a byte at this address before it.
+abbrev pub field_of : Parts → Parts → Plan → ℕ → ℕ → Option Tree
+field_of m own plan section address =
+    first_field (setting (m ∷ []) (planned_bases (m ∷ []) plan)) section address [] (steps_of (alone m) None (shown_loads m.loads own.loads))

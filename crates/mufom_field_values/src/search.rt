@@ -11,7 +11,7 @@ ghost use Rattle.mufom_image_values.specs.Evaluated.{alone, setting_of, AreValue
 ghost use Rattle.mufom_image_values.specs.Resolutions.{resolutions_of};
 ghost use Rattle.mufom_image.specs.Placements.{placing_refusal, IsSoundPlan, StandsAt};
 ghost use Rattle.mufom_image.specs.Stages.{circular};
-ghost use Rattle.mufom_field_values.specs.Fields.{field_of, field_tree, first_field};
+ghost use Rattle.mufom_field_values.specs.Fields.{field_of, field_tree, first_field, shown_load as shown, shown_loads};
 ghost use Rattle.mufom_field_values.specs.Walk.{after_item, field_here, found_from, load_steps};
 
 use mufom_copies::copy_section;
@@ -84,6 +84,16 @@ fn is_same(first: Option<u64>, second: Option<u64>) -> bool
     ensures { IsTrue result ↔ (first ≡ second) }
 {
     first == second
+}
+
+// The load to take: that of the module that is shown, but for a program counter.
+fn shown_load<'a>(load: &'a Load, own: &'a Load) -> &'a Load
+    ensures { result.now ≡ shown load.now own.now }
+{
+    match load {
+        Load::SetPc { .. } => load,
+        _ => own,
+    }
 }
 
 // The expression of a field at the counter, if the counter is at the address.
@@ -232,17 +242,26 @@ impl<'a> Search<'a> {
         }
     }
 
-    // The field among loads, if the counter is this before them.
-    fn find<'b>(&self, loads: &'b [Load], first: Option<u64>) -> Option<&'b Postfix>
+    // The field among loads, if the counter is this before them, as it is in `own`.
+    fn find<'b>(
+        &self,
+        loads: &'b [Load],
+        own: &'b [Load],
+        first: Option<u64>,
+    ) -> Option<&'b Postfix>
         requires placed { IsPlaced self.now.placed.now }
         requires values { AreValues self.now.placed.now self.now.values.now }
         ensures { option_map (λ value. value.now) result
             ≡ found_from (setting_of self.now.placed.now) self.now.section self.now.address first
-            (steps_of (alone self.now.placed.now.graph.parts.now) None loads.now) }
+            (steps_of (alone self.now.placed.now.graph.parts.now) None (shown_loads loads.now own.now)) }
     {
         let mut counter = first;
         let mut current = None;
-        for load in loads {
+        for place in 0..loads.len() {
+            if place >= own.len() {
+                return None;
+            }
+            let load = shown_load(&loads[place], &own[place]);
             let found = self.take_load(current, load, &mut counter);
             if found.is_some() {
                 return found;
@@ -314,18 +333,21 @@ fn placed_module<'a>(
     }
 }
 
-// The field among the loads of a placed module.
-fn search_loads<'a>(search: &Search<'_>, loads: &'a [Load]) -> Option<&'a Postfix>
+// The field among the loads of a placed module, as it is in `own`.
+fn search_loads<'a>(search: &Search<'_>, loads: &'a [Load], own: &'a [Load]) -> Option<&'a Postfix>
     requires placed { IsPlaced search.now.placed.now }
     requires values { AreValues search.now.placed.now search.now.values.now }
     ensures { option_map (λ value. value.now) result
         ≡ first_field (setting_of search.now.placed.now) search.now.section search.now.address []
-        (steps_of (alone search.now.placed.now.graph.parts.now) None loads.now) }
+        (steps_of (alone search.now.placed.now.graph.parts.now) None (shown_loads loads.now own.now)) }
 {
-    search.find(loads, search.first_counter())
+    search.find(loads, own, search.first_counter())
 }
 
 /// Returns the expression of the first field that a module loads into a section at an address, if there is one.
+///
+/// `object` is the module that is located, and the expression is that of the same load of `own`: `object` itself,
+/// or the module before the symbols of a plan are linked with it, whose loads differ in their expressions alone.
 ///
 /// The plan places the sections of the module and its commons, no two of its publics have the same name, and
 /// none leads back to itself; `resolutions` are what its references resolve to. The time is that of the values
@@ -333,6 +355,7 @@ fn search_loads<'a>(search: &Search<'_>, loads: &'a [Load]) -> Option<&'a Postfi
 pub fn find_field<'a>(
     alloc: Global,
     object: &'a Module,
+    own: &'a Module,
     resolutions: &[Resolution],
     plan: &Plan,
     section: u32,
@@ -343,7 +366,7 @@ pub fn find_field<'a>(
     requires met { resolutions.now ≡ resolutions_of object.now }
     requires placed { placing_refusal object.now plan.now ≡ None }
     requires acyclic { circular object.now ≡ None }
-    ensures { IfOk result (λ value. option_map (λ v. v.now) value ≡ field_of object.now plan.now section address) }
+    ensures { IfOk result (λ value. option_map (λ v. v.now) value ≡ field_of object.now own.now plan.now section address) }
 {
     let bases = planned_bases(alloc, object, resolutions, plan)?;
     let placed = placed_module(object, resolutions, bases.as_slice());
@@ -355,5 +378,6 @@ pub fn find_field<'a>(
         section,
         address,
     };
-    Ok(search_loads(&search, object.parts().loads.as_slice()))
+    let loads = object.parts().loads.as_slice();
+    Ok(search_loads(&search, loads, own.parts().loads.as_slice()))
 }

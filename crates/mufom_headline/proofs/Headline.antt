@@ -1,21 +1,19 @@
 -- The result of a task that locates is that of locating the flat list, and each list from which that was linked in stages.
 use Rattle.std.proofs.Common.{◌≡◌, ◌⊎◌, ◌<◌, ◌≤◌, ℕ, Bool, false, true, nat_lt, List, length, Option, Some, None, refl, sym, subst, ◌∙◌}
 use Rattle.std.proofs.Common.{arith, inl, inr}
-use Rattle.std.proofs.lemmas.Bool.{lt-ltb, ltb-false}
-use Rattle.mufom_numbers.specs.declared.limits.TheConstants.{MOST_FILE_BYTES}
 use Rattle.mufom_host.specs.World.{HoldBytes, NamedFile}
 use Rattle.mufom_words.specs.Tree.{tree_of}
 use Rattle.mufom_module.specs.declared.module.Parts.{Parts}
 use Rattle.mufom_plan.specs.declared.plan.Plan.{Plan}
 use Rattle.mufom_meaning.specs.declared.located.LocatedParts.{LocatedParts}
 use Rattle.mufom_meaning.specs.Absolute.{absolute_of}
-use Rattle.mufom_meaning.specs.Facts.{LocateFact}
 use Rattle.mufom_meaning.specs.LinkAnswer.{link_answer}
-use Rattle.mufom_meaning.specs.LocateAnswer.{locate_answer}
-use Rattle.mufom_meaning.specs.Location.{IsLocation}
+use Rattle.mufom_planned.specs.Planned.{IsPlanned, PlanFact, of_list, planned_answer, shared_name}
+use Rattle.mufom_planned.specs.PlanLaws.{HasSoundSymbols}
+use Rattle.mufom_planned.proofs.Absolute.{planned_located_as_itself}
+use Rattle.mufom_planned.proofs.Single.{planned_location_is_single}
+use Rattle.mufom_task.proofs.PlanLaws.{plan-sound}
 use Rattle.mufom_meaning.specs.Staging.{AreValid}
-use Rattle.mufom_meaning.proofs.absolute.Located.{absolute_is_located_as_itself}
-use Rattle.mufom_meaning.proofs.locations.Single.{location_is_single}
 use Rattle.mufom_write.specs.Raw.{raw_image}
 use Rattle.mufom_groups.specs.Work.{Reached, gives, stops, Work}
 use Rattle.mufom_groups.proofs.Works.{value-same}
@@ -25,7 +23,8 @@ use Rattle.mufom_origins.specs.declared.origins.Origin.{Origin}
 use Rattle.mufom_origins.specs.Origins.{FileModule, origins_of}
 use Rattle.mufom_outcome.specs.declared.outcome.Outcome.{Outcome}
 use Rattle.mufom_outcome.specs.declared.outcome.Outcome.TheVariants as outcome
-use Rattle.mufom_outcome.specs.Stop.{Stop, locate_fact, raw_too_long}
+use Rattle.mufom_outcome.specs.declared.outcome.BinRefusal.{BinRefusal}
+use Rattle.mufom_outcome.specs.Stop.{Stop, name_shared, locate_fact, bytes_refused}
 use Rattle.mufom_task.specs.declared.task.Inputs.{Inputs}
 use Rattle.mufom_task.specs.declared.task.Product.{Product}
 use Rattle.mufom_task.specs.declared.task.Product.TheVariants as product
@@ -35,7 +34,9 @@ use Rattle.mufom_command.specs.FlatFiles.{AreFlatFiles}
 use Rattle.mufom_command.specs.Run.{AnswersFor, MakesFile, PutsOut, outcome_of}
 use Rattle.mufom_command.specs.Roots.{Roots, roots_by}
 use Rattle.mufom_command.specs.Works.{Kept, Output, kept_of, located, located_unless, locating_kept, mapped_kept, maus_of, producing, product_of}
-use Rattle.mufom_command.specs.Works.{product_with, raw_file, unless_too_long, work_of}
+use Rattle.mufom_command.specs.Works.{product_with, stop_of, work_of}
+use Rattle.mufom_command.specs.Works.{bytes_fact, bytes_unless, length_fact, region_fact, region_image, region_named}
+use Rattle.mufom_command.proofs.WorkLaws.{bytes-stop}
 use Rattle.mufom_command.proofs.EndLaws.{location-of}
 use Rattle.mufom_command.proofs.KeptLaws.{kept-valid}
 use Rattle.mufom_command.proofs.Runs.{kept_of-single, of-files}
@@ -46,45 +47,54 @@ use Rattle.mufom_run_laws.proofs.Determined.{answers-determined}
 use Rattle.mufom_run_laws.proofs.LocatingDone.{no-end, no-fact-there, product-never}
 use Rattle.mufom_run_laws.proofs.Plain.{plain-answers, plain-run}
 use Rattle.mufom_run_laws.proofs.StageLaws.{means-same}
-use Rattle.mufom_headline.specs.Headline.{HasLocated, IsNotTooLong, LocatesAll, PutsOutLocation, TheHeadline}
+use Rattle.mufom_headline.specs.Headline.{HasLocated, MayBeWritten, LocatesAll, PutsOutLocation, TheHeadline}
 use Rattle.mufom_headline.specs.ReadBack.{IsPutInFile}
 use Rattle.mufom_headline.proofs.LinkedFiles.{file-made, flat-valid}
 use Rattle.mufom_headline.proofs.Maps.{flat-files, producing-known, producing-staged}
 
 -- ---- what is made of a location
 
-module _ (fill : ℕ) (out : List ℕ) (r : LocatedParts) where
-  raw-may : (o : Output) → raw_file fill out r (gives o) → length (raw_image fill r.runs) ≤ MOST_FILE_BYTES
-  raw-may o = by (nat_lt MOST_FILE_BYTES (length (raw_image fill r.runs))) refl where
-    by : (b : Bool) → nat_lt MOST_FILE_BYTES (length (raw_image fill r.runs)) ≡ b → unless_too_long b out (raw_image fill r.runs) (gives o)
-        → length (raw_image fill r.runs) ≤ MOST_FILE_BYTES
-    by true is never = absurd never
-    by false is put = omega (arith, ltb-false MOST_FILE_BYTES (length (raw_image fill r.runs)) is)
+bytes-may : (o : Option BinRefusal) (name bytes : List ℕ) (output : Output) → bytes_unless o name bytes (gives output) → o ≡ None
+bytes-may None name bytes output is = refl
+bytes-may (Some b) name bytes output is = absurd is
 
-  raw-long : MOST_FILE_BYTES < length (raw_image fill r.runs) → raw_file fill out r (stops (raw_too_long (length (raw_image fill r.runs))))
-  raw-long long = subst (λ (b : Bool). unless_too_long b out (raw_image fill r.runs) (stops (raw_too_long (length (raw_image fill r.runs)))))
-      (sym (lt-ltb MOST_FILE_BYTES (length (raw_image fill r.runs)) long)) refl
+bytes-made : (o : Option BinRefusal) (name bytes : List ℕ) (call : Call) (output : Output) → bytes_unless o name bytes (gives output) → PutsOut output call
+    → MakesFile name bytes call
+bytes-made (Some b) name bytes call output never puts = absurd never
+bytes-made None name bytes call output put puts = subst (λ (x : Output). PutsOut x call) put puts
 
-  raw-made : (call : Call) (o : Output) → raw_file fill out r (gives o) → PutsOut o call → MakesFile out (raw_image fill r.runs) call
-  raw-made call o = by (nat_lt MOST_FILE_BYTES (length (raw_image fill r.runs))) where
-    by : (b : Bool) → unless_too_long b out (raw_image fill r.runs) (gives o) → PutsOut o call → MakesFile out (raw_image fill r.runs) call
-    by true never puts = absurd never
-    by false put puts = subst (λ (x : Output). PutsOut x call) put puts
+-- bytes that are refused are the end
+bytes-end : (p : Product) (names : FileNames) (shown : Mapped) (r : LocatedParts) (b : BinRefusal) → bytes_fact p shown.regions r ≡ Some b
+    → product_of p names shown r (stops (bytes_refused b))
+bytes-end (product.Raw fill out) names shown r b some = bytes-stop (length_fact (length (raw_image fill r.runs))) b some out (raw_image fill r.runs)
+bytes-end (product.Region name fill out) names shown r b some =
+    bytes-stop (region_fact name (region_named shown.regions name)) b some out (region_image fill (region_named shown.regions name) r)
+bytes-end (product.Absolute out) names shown r b some = absurd cc
+bytes-end (product.TiTxt out) names shown r b some = absurd cc
+bytes-end product.Image names shown r b some = absurd cc
+bytes-end (product.Map at) names shown r b some = absurd cc
+bytes-end (product.Hit at) names shown r b some = absurd cc
 
 -- it may be put out
-product-may : (p : Product) (names : FileNames) (shown : Mapped) (r : LocatedParts) (o : Output) → product_of p names shown r (gives o) → MayPutOut p r
-product-may (product.Absolute out) names shown r o is = tt
-product-may (product.Raw fill out) names shown r o is = raw-may fill out r o is
-product-may (product.TiTxt out) names shown r o is = tt
-product-may product.Image names shown r o is = tt
-product-may (product.Map at) names shown r o is = tt
-product-may (product.Hit at) names shown r o is = tt
+product-may : (p : Product) (names : FileNames) (shown : Mapped) (r : LocatedParts) (o : Output) → product_of p names shown r (gives o)
+    → bytes_fact p shown.regions r ≡ None
+product-may (product.Absolute out) names shown r o is = refl
+product-may (product.Raw fill out) names shown r o is = bytes-may (length_fact (length (raw_image fill r.runs))) out (raw_image fill r.runs) o is
+product-may (product.Region name fill out) names shown r o is =
+    bytes-may (region_fact name (region_named shown.regions name)) out (region_image fill (region_named shown.regions name) r) o is
+product-may (product.TiTxt out) names shown r o is = refl
+product-may product.Image names shown r o is = refl
+product-may (product.Map at) names shown r o is = refl
+product-may (product.Hit at) names shown r o is = refl
 
 -- and it is the location
 product-shown : (p : Product) (names : FileNames) (origins : List Origin) (plan : Plan) (kept : Kept) (r : LocatedParts) (call : Call) (o : Output)
     → product_with p names origins plan kept r (gives o) → PutsOut o call → PutsOutLocation p names origins plan kept r call
 product-shown (product.Absolute out) names origins plan kept r call o is puts = file-made out call (absolute_of r) o is puts
-product-shown (product.Raw fill out) names origins plan kept r call o is puts = raw-made fill out r call o is puts
+product-shown (product.Raw fill out) names origins plan kept r call o is puts =
+    bytes-made (length_fact (length (raw_image fill r.runs))) out (raw_image fill r.runs) call o is puts
+product-shown (product.Region name fill out) names origins plan kept r call o is puts =
+    bytes-made (region_fact name (region_named plan.regions name)) out (region_image fill (region_named plan.regions name) r) call o is puts
 product-shown (product.TiTxt out) names origins plan kept r call o is puts = subst (λ (x : Output). PutsOut x call) is puts
 product-shown product.Image names origins plan kept r call o is puts = subst (λ (x : Output). PutsOut x call) is puts
 product-shown (product.Map at) names origins plan kept r call o is puts = subst (λ (x : Output). PutsOut x call) is puts
@@ -101,48 +111,44 @@ module _ (keep : Option Roots) (p : Product) (names : FileNames) (origins : List
     kept : Kept
     keeps : kept_of keep list (gives kept)
     location : LocatedParts
-    is_location : IsLocation kept.modules plan location
+    is_location : IsPlanned kept.modules plan location
     puts : target kept location (gives o)
 
   output-of : (o : Output) → locating_kept target keep plan list (gives o) → IsOutputOf o
   output-of o (kept, is_kept, (r, is_located, puts)) =
       record { kept = kept; keeps = is_kept; location = r; is_location = location-of plan kept.modules r is_located; puts = puts }
 
-  -- where a locate fact stands, that is the end
-  fact-end : (kept : Kept) (f : LocateFact) → kept_of keep list (gives kept) → locate_answer kept.modules plan ≡ Some f
-      → locating_kept target keep plan list (stops (locate_fact (maus_of kept.modules) f))
+  -- where a fact stands, that is the end
+  fact-end : (kept : Kept) (f : PlanFact) → kept_of keep list (gives kept) → planned_answer kept.modules plan ≡ Some f
+      → locating_kept target keep plan list (stops (stop_of (maus_of kept.modules) f))
   fact-end kept f is_kept some =
       inr (
         kept,
         is_kept,
-        inl (subst (λ (o : Option LocateFact). located_unless o plan kept.modules (stops (locate_fact (maus_of kept.modules) f)))
+        inl (subst (λ (o : Option PlanFact). located_unless o plan kept.modules (stops (stop_of (maus_of kept.modules) f)))
             (sym some) refl),
       )
 
   -- what is kept of the list and its location are known
   one-location : (kept other : Kept) (r q : LocatedParts) → kept_of keep list (gives kept) → kept_of keep list (gives other)
-      → IsLocation kept.modules plan r → IsLocation other.modules plan q → r ≡ q
+      → IsPlanned kept.modules plan r → IsPlanned other.modules plan q → r ≡ q
   one-location kept other r q is_kept is_other is_r is_q =
       let same : kept ≡ other = value-same kept other (kept_of-single keep list (gives kept) (gives other) is_kept is_other) in
-      location_is_single other.modules plan r q (subst (λ (k : Kept). IsLocation k.modules plan r) same is_r) is_q
+      planned_location_is_single other.modules plan r q (subst (λ (k : Kept). IsPlanned k.modules plan r) same is_r) is_q
 
-  short-there : (o : Output) → locating_kept target keep plan list (gives o) → IsNotTooLong keep p plan list
+  short-there : (o : Output) → locating_kept target keep plan list (gives o) → MayBeWritten keep p plan list
   short-there o puts kept r is_kept is_r =
       let of = output-of o puts in
-      subst (λ (q : LocatedParts). MayPutOut p q) (one-location of.kept kept of.location r of.keeps is_kept of.is_location is_r)
+      subst (λ (q : LocatedParts). MayPutOut p plan q) (one-location of.kept kept of.location r of.keeps is_kept of.is_location is_r)
       (product-may p names (mapped_kept origins plan of.kept of.location) of.location o of.puts)
 
-  -- a raw image that is too long is the end
-  long-end : (kept : Kept) (r : LocatedParts) (fill : ℕ) (out : List ℕ) → kept_of keep list (gives kept) → IsLocation kept.modules plan r
-      → p ≡ product.Raw fill out → MOST_FILE_BYTES < length (raw_image fill r.runs)
-      → locating_kept target keep plan list (stops (raw_too_long (length (raw_image fill r.runs))))
-  long-end kept r fill out is_kept is_r is_raw long =
+  -- bytes that are refused are the end
+  refused-end : (kept : Kept) (r : LocatedParts) (b : BinRefusal) → kept_of keep list (gives kept) → IsPlanned kept.modules plan r
+      → bytes_fact p plan.regions r ≡ Some b → locating_kept target keep plan list (stops (bytes_refused b))
+  refused-end kept r b is_kept is_r some =
       let is_located : located plan kept.modules (gives r)
-      = subst (λ (o : Option LocateFact). located_unless o plan kept.modules (gives r)) (sym is_r.locates) is_r in
-      let ends : target kept r (stops (raw_too_long (length (raw_image fill r.runs))))
-      = subst (λ (q : Product). product_with q names origins plan kept r (stops (raw_too_long (length (raw_image fill r.runs))))) (sym is_raw)
-      (raw-long fill out r long) in
-      inr (kept, is_kept, inr (r, is_located, ends))
+      = subst (λ (o : Option PlanFact). located_unless o plan kept.modules (gives r)) (sym is_r.locates) is_r in
+      inr (kept, is_kept, inr (r, is_located, bytes-end p names (mapped_kept origins plan kept r) r b some))
 
 -- ---- a run
 
@@ -154,6 +160,9 @@ module _ (files : List NamedFile) (call : Call) (result : Outcome) (c : Inputs) 
   abbrev roots : Option Roots
   roots = roots_by keep plan
 
+  symbols : HasSoundSymbols plan
+  symbols = (plan-sound files c.plan plan accepts.planned).symbols
+
   -- what is put out of a flat list of modules
   abbrev outputs : List Parts → Plan → List Parts → Work Stop Output
   outputs ms plan list = locating_kept (producing p c.files (tree_of c.marks) ms plan) (roots_by keep plan) plan list
@@ -161,17 +170,17 @@ module _ (files : List NamedFile) (call : Call) (result : Outcome) (c : Inputs) 
   abbrev origins : List Origin
   origins = origins_of own
 
-  abbrev of_list : List Parts → Work Stop Output
-  of_list list = locating_kept (product_with p c.files (origins_of own) plan) roots plan list
+  abbrev put_out_of : List Parts → Work Stop Output
+  put_out_of list = locating_kept (product_with p c.files (origins_of own) plan) roots plan list
 
   -- a list of which the same is put out as of the flat list
   module _ (list : List Parts) (valid : AreValid list) (links : link_answer flat ≡ link_answer list)
-      (alike : IsSameWork (outputs accepts.modules plan flat) (of_list list)) where
-    list-output : (o : Output) → work_of (task.Locate c keep p) files (gives o) → (link_answer list ≡ None) × of_list list (gives o)
+      (alike : IsSameWork (outputs accepts.modules plan flat) (put_out_of list)) where
+    list-output : (o : Output) → work_of (task.Locate c keep p) files (gives o) → (link_answer list ≡ None) × put_out_of list (gives o)
     list-output o comes =
         let (linkable, puts) = accepted-gives files c plan flat bytes accepts outputs o comes in (sym links ∙ linkable, (alike (gives o)).0 puts)
 
-    none-stops : HasNoFact roots list plan → IsNotTooLong roots p plan list → (s : Stop) → work_of (task.Locate c keep p) files (stops s) → ⊥
+    none-stops : HasNoFact roots list plan → MayBeWritten roots p plan list → (s : Stop) → work_of (task.Locate c keep p) files (stops s) → ⊥
     none-stops none short s stopped = by (accepted-stops files c plan flat bytes accepts outputs s stopped) where
       by : EndsAtFact flat s ⊎ ((link_answer flat ≡ None) × outputs accepts.modules plan flat (stops s)) → ⊥
       by (inl fact) = no-link-fact flat plan s (links ∙ none.links) fact
@@ -180,7 +189,7 @@ module _ (files : List NamedFile) (call : Call) (result : Outcome) (c : Inputs) 
           (λ kept r keeps there s. product-never p c.files (mapped_kept origins plan kept r) r (short kept r keeps there) s) none s ((alike (stops s)).0 ends)
 
     -- an end of what is put out of the list is the result
-    ends-there : (s : Stop) → link_answer list ≡ None → of_list list (stops s) → result ≡ outcome_of (stops s)
+    ends-there : (s : Stop) → link_answer list ≡ None → put_out_of list (stops s) → result ≡ outcome_of (stops s)
     ends-there s linkable is =
         answer (stops s) (accepted-back files c plan flat bytes accepts outputs (links ∙ linkable) (stops s) ((alike (stops s)).1 is))
 
@@ -202,14 +211,15 @@ module _ (files : List NamedFile) (call : Call) (result : Outcome) (c : Inputs) 
             keeps = of.keeps;
             location = of.location;
             is_location = of.is_location;
-            itself = absolute_is_located_as_itself of.kept.modules plan of.location (kept-valid roots list of.kept valid of.keeps) of.is_location;
+            itself = planned_located_as_itself of.kept.modules plan of.location (kept-valid roots list of.kept valid of.keeps) symbols of.is_location;
             puts_out = product-shown p c.files origins plan of.kept of.location call there.output of.puts there.puts_out;
           };
       refused = λ kept f linkable is_kept some.
-          ends-there (locate_fact (maus_of kept.modules) f) linkable (fact-end roots p c.files origins plan list kept f is_kept some);
-      too_long = λ kept r fill out linkable is_kept is_r is_raw long.
-          ends-there (raw_too_long (length (raw_image fill r.runs))) linkable
-          (long-end roots p c.files origins plan list kept r fill out is_kept is_r is_raw long);
+          ends-there (locate_fact (maus_of kept.modules) f) linkable (fact-end roots p c.files origins plan list kept (of_list f) is_kept some);
+      shared = λ kept name linkable is_kept some.
+          ends-there (name_shared name) linkable (fact-end roots p c.files origins plan list kept (shared_name name) is_kept some);
+      unwritten = λ kept r b linkable is_kept is_r some.
+          ends-there (bytes_refused b) linkable (refused-end roots p c.files origins plan list kept r b is_kept is_r some);
     }
 
   -- the flat list, and each list from which it was linked in stages
@@ -219,7 +229,7 @@ module _ (files : List NamedFile) (call : Call) (result : Outcome) (c : Inputs) 
     are_files = are;
     located = has-located flat (flat-valid files c plan flat accepts) refl (producing-known roots p c.files plan (tree_of c.marks) accepts.modules own are flat);
     staged = λ leaves stages. has-located leaves stages.valid (means-same flat leaves stages).same_link
-        (producing-staged roots p c.files plan (tree_of c.marks) accepts.modules own are flat leaves stages);
+        (producing-staged roots p c.files plan (tree_of c.marks) accepts.modules own are symbols flat leaves stages);
   }
 
 pub the-headline : TheHeadline

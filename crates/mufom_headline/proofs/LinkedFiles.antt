@@ -24,7 +24,8 @@ use Rattle.mufom_run_laws.proofs.Accepted.{accepted-gives}
 use Rattle.mufom_run_laws.proofs.Calm.{done-comes}
 use Rattle.mufom_run_laws.proofs.Plain.{plain-answers}
 use Rattle.mufom_run_laws.proofs.SameWorks.{same-work}
-use Rattle.mufom_run_laws.proofs.StageLaws.{means-same, put_out-alike}
+use Rattle.mufom_run_laws.proofs.StageLaws.{lists-same, means-same, put_out-alike}
+use Rattle.mufom_task.proofs.PlanLaws.{plan-sound}
 use Rattle.mufom_headline.specs.Linking.{HasLinked, IsLinkPutOut, LinksArePutOut}
 use Rattle.mufom_headline.specs.ReadBack.{IsPutInFile}
 use Rattle.mufom_headline.proofs.Linking.{linking-is-done}
@@ -66,7 +67,7 @@ pub links-are-put-out : LinksArePutOut
 links-are-put-out words files call result c inputs name out plan flat is calm named asks accepts = record {
   linked = has-linked flat refl (same-work (linked_file name out flat)) (flat-valid files inputs plan flat accepts);
   staged = λ leaves stages. has-linked leaves (means-same flat leaves stages).same_link
-      ((put_out-alike plan flat leaves (means-same flat leaves stages)).linked name out) stages.valid;
+      ((put_out-alike plan (plan-sound files inputs.plan plan accepts.planned).symbols flat leaves (lists-same flat leaves stages)).linked name out) stages.valid;
 } where
   bytes : HoldBytes files
   bytes = of-files call files calm.known HoldBytes calm.revealed.bytes

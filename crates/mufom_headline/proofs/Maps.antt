@@ -12,6 +12,7 @@ use Rattle.mufom_outcome.specs.Stop.{Stop}
 use Rattle.mufom_task.specs.declared.task.Product.{Product}
 use Rattle.mufom_command.specs.FlatFiles.{AreFlatFiles, files_with}
 use Rattle.mufom_command.specs.Roots.{Roots}
+use Rattle.mufom_planned.specs.PlanLaws.{HasSoundSymbols}
 use Rattle.mufom_command.specs.Works.{Kept, Output, kept_of, located, locating_kept, producing, product_with}
 use Rattle.mufom_command.proofs.MapLaws.{flat-files-single}
 use Rattle.mufom_run_laws.specs.RunLaws.{CameByStages, IsSameWork}
@@ -41,9 +42,9 @@ module _ (keep : Option Roots) (p : Product) (names : FileNames) (plan : Plan) (
       (λ r. product_with p names (origins_of own) plan kept r) (same-work (located plan kept.modules)) (product-known kept))
 
   -- and so it is of the list that stages began with
-  pub producing-staged : (flat leaves : List Parts) → CameByStages flat leaves
+  pub producing-staged : HasSoundSymbols plan → (flat leaves : List Parts) → CameByStages flat leaves
       → IsSameWork (locating_kept (producing p names tree ms plan) keep plan flat) (locating_kept (product_with p names (origins_of own) plan) keep plan leaves)
-  producing-staged flat leaves came =
+  producing-staged symbols flat leaves came =
       same-trans (locating_kept (producing p names tree ms plan) keep plan flat) (locating_kept (product_with p names (origins_of own) plan) keep plan flat)
       (locating_kept (product_with p names (origins_of own) plan) keep plan leaves) (producing-known flat)
-      ((stages-alike plan flat leaves came).located keep p names (origins_of own))
+      ((stages-alike plan flat leaves symbols came).located keep p names (origins_of own))

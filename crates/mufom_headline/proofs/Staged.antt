@@ -11,6 +11,8 @@ use Rattle.mufom_meaning.specs.Stands.{LinkFactStands}
 use Rattle.mufom_meaning.specs.StagingLaws.{MeansTheSame}
 use Rattle.mufom_meaning.proofs.facts.AllAnswers.{answers_are_facts}
 use Rattle.mufom_meaning.proofs.facts.LinkFacts.{link_facts_grow, one_descriptor}
+use Rattle.mufom_planned.specs.PlanLaws.{HasSoundSymbols}
+use Rattle.mufom_task.proofs.PlanLaws.{plan-sound}
 use Rattle.mufom_groups.specs.Linked.{IsFlatList, linked, links, tree_links, unless_fact}
 use Rattle.mufom_groups.specs.Work.{Reached, gives, stops, Work, ◌>>=◌, with_stops}
 use Rattle.mufom_groups.proofs.GroupsAlike.{linked-flat, links-stand}
@@ -28,7 +30,7 @@ use Rattle.mufom_command.specs.Works.{Output, linked_file, linking, locating_kep
 use Rattle.mufom_run_laws.specs.RunLaws.{Accepts, CameByStages, IsSameWork}
 use Rattle.mufom_run_laws.proofs.Accepted.{after-inputs}
 use Rattle.mufom_run_laws.proofs.SameWorks.{same-trans}
-use Rattle.mufom_run_laws.proofs.StageLaws.{means-same, put_out-alike}
+use Rattle.mufom_run_laws.proofs.StageLaws.{lists-same, means-same, put_out-alike}
 use Rattle.mufom_headline.specs.Linking.{StagedRunsAreFlat, after_link, link_of_list, location_of_list}
 use Rattle.mufom_headline.proofs.Maps.{producing-staged}
 
@@ -133,6 +135,9 @@ module _ (c : Inputs) (ms flat leaves : List Parts) (is_flat : IsFlatList (tree_
 
 module _ (files : List NamedFile) (c : Inputs) (plan : Plan) (flat leaves : List Parts) (own : List FileModule) (bytes : HoldBytes files)
     (accepts : Accepts files c plan flat) (are : AreFlatFiles (tree_of c.marks) accepts.modules own) (came : CameByStages flat leaves) where
+  symbols : HasSoundSymbols plan
+  symbols = (plan-sound files c.plan plan accepts.planned).symbols
+
   -- what is put out of the flat list is this, of the leaves
   by-linking : (output : List Parts → Plan → List Parts → Work Stop Output) (other : Work Stop Output)
       → IsSameWork (output accepts.modules plan flat) other → IsSameWork (linking output files c) (after_link leaves other)
@@ -144,14 +149,14 @@ module _ (files : List NamedFile) (c : Inputs) (plan : Plan) (flat leaves : List
   staged-link : (name : Option (List ℕ)) (out : List ℕ) → IsSameWork (work_of (task.Link c name out) files) (link_of_list name out leaves)
   staged-link name out =
       by-linking (λ ms plan flat. linked_file name out flat) (linked_file name out leaves)
-      ((put_out-alike plan flat leaves (means-same flat leaves came)).linked name out)
+      ((put_out-alike plan symbols flat leaves (lists-same flat leaves came)).linked name out)
 
   staged-location : (keep : List (List ℕ)) (p : Product)
       → IsSameWork (work_of (task.Locate c keep p) files) (location_of_list (roots_by keep plan) p c.files (origins_of own) plan leaves)
   staged-location keep p =
       by-linking (λ ms plan flat. locating_kept (producing p c.files (tree_of c.marks) ms plan) (roots_by keep plan) plan flat)
       (locating_kept (product_with p c.files (origins_of own) plan) (roots_by keep plan) plan leaves)
-      (producing-staged (roots_by keep plan) p c.files plan (tree_of c.marks) accepts.modules own are flat leaves came)
+      (producing-staged (roots_by keep plan) p c.files plan (tree_of c.marks) accepts.modules own are symbols flat leaves came)
 
 pub staged-runs-are-flat : StagedRunsAreFlat
 staged-runs-are-flat files c plan flat leaves own bytes accepts are came = record {

@@ -10,7 +10,6 @@ use Rattle.mufom_module.specs.Written.{written}
 use Rattle.mufom_meaning.specs.declared.located.LocatedParts.{LocatedParts}
 use Rattle.mufom_meaning.specs.declared.located.Run.{Run}
 use Rattle.mufom_meaning.specs.Absolute.{no_regions}
-use Rattle.mufom_meaning.specs.Facts.{LocateFact}
 use Rattle.mufom_meaning.specs.Location.{IsLocation}
 use Rattle.mufom_numbers.proofs.Choices.{not_lt}
 use Rattle.mufom_titxt.specs.TextModules.{HaveModule, HaveText, text_parts}
@@ -35,11 +34,13 @@ use Rattle.mufom_task.specs.Inputs.{ComeTo, accepted}
 use Rattle.mufom_task.specs.Reading.{modules_in, plan_in, text_in, unless_past_limit}
 use Rattle.mufom_task.specs.Tasks.{request_of}
 use Rattle.mufom_origins.specs.Origins.{origins_of}
-use Rattle.mufom_command.specs.Works.{Output, all_of, located, located_unless, made, producing, product_with, work_of, writes}
+use Rattle.mufom_command.specs.Works.{Output, all_of, located, made, producing, product_with, work_of, writes}
 use Rattle.mufom_command.specs.Contract.{Answers, run_of}
 use Rattle.mufom_command.specs.Run.{MakesFile, PutsOut}
 use Rattle.mufom_command.proofs.ExplainSingle.{run_of-single}
+use Rattle.mufom_command.proofs.EndLaws.{is-located as is-located-by}
 use Rattle.mufom_command.proofs.Runs.{of-files}
+use Rattle.mufom_planned.proofs.Plain.{plain_plans_mean_the_same}
 use Rattle.mufom_command.proofs.TextLaws.{text-gives, text-rows}
 use Rattle.mufom_run_laws.specs.RunLaws.{IsUndisturbed}
 use Rattle.mufom_run_laws.proofs.Calm.{done-comes}
@@ -97,7 +98,8 @@ module _ (text : List ℕ) (maus : ℕ) (runs : List Run) (low : 1 ≤ maus) (hi
     is-linked = (tt, one-links, (text_parts maus runs ∷ [], is-flat, (tt, one-links, refl)))
 
     is-located : located no_regions (text_parts maus runs ∷ []) (gives r)
-    is-located = subst (λ (o : Option LocateFact). located_unless o no_regions (text_parts maus runs ∷ []) (gives r)) (sym is_location.locates) is_location
+    is-located =
+        is-located-by (text_parts maus runs ∷ []) no_regions r (((plain_plans_mean_the_same (text_parts maus runs ∷ []) no_regions refl tt).1 r).1 is_location)
 
     module _ (files : List NamedFile) (c : Inputs) (name out : List ℕ) (does : IsFileAlone c name) (there : file_named name files ≡ Some bytes) where
       is-planned : plan_in files c.plan (gives no_regions)

@@ -1,6 +1,5 @@
 -- The result of a run of a command that locates: the main law of the program. It can be read alone, with the definitions that it names.
-use Rattle.std.specs.Prelude.{◌≡◌, ◌↔◌, ◌<◌, ℕ, List, [], ◌∷◌, length, Option, Some, None, Ok}
-use Rattle.mufom_numbers.specs.declared.limits.TheConstants.{MOST_FILE_BYTES}
+use Rattle.std.specs.Prelude.{◌≡◌, ◌↔◌, ℕ, List, [], ◌∷◌, Option, Some, None, Ok}
 use Rattle.mufom_host.specs.World.{NamedFile}
 use Rattle.mufom_words.specs.declared.command.Command.{Command}
 use Rattle.mufom_words.specs.Answer.{answer_of}
@@ -11,8 +10,8 @@ use Rattle.mufom_text.specs.Image.{image_text}
 use Rattle.mufom_meaning.specs.declared.located.LocatedParts.{LocatedParts}
 use Rattle.mufom_meaning.specs.Absolute.{absolute_of, no_regions}
 use Rattle.mufom_meaning.specs.Facts.{LocateFact}
+use Rattle.mufom_planned.specs.Planned.{IsPlanned, of_list, planned_answer, shared_name}
 use Rattle.mufom_meaning.specs.LinkAnswer.{link_answer}
-use Rattle.mufom_meaning.specs.LocateAnswer.{locate_answer}
 use Rattle.mufom_meaning.specs.Location.{IsLocation}
 use Rattle.mufom_write.specs.Raw.{raw_image}
 use Rattle.mufom_addr.specs.AddressHit.{hit_at}
@@ -24,6 +23,7 @@ use Rattle.mufom_map.specs.MapText.{view_text}
 use Rattle.mufom_origins.specs.Words.{FileNames}
 use Rattle.mufom_outcome.specs.declared.outcome.Outcome.{Outcome}
 use Rattle.mufom_outcome.specs.declared.outcome.Outcome.TheVariants as outcome
+use Rattle.mufom_outcome.specs.declared.outcome.BinRefusal.{BinRefusal}
 use Rattle.mufom_outcome.specs.declared.outcome.Refusal.TheVariants as refusal
 use Rattle.mufom_outcome.specs.LocateRefusals.{locate_refusal}
 use Rattle.mufom_task.specs.declared.task.Inputs.{Inputs}
@@ -34,7 +34,7 @@ use Rattle.mufom_task.specs.declared.task.Task.TheVariants as task
 use Rattle.mufom_task.specs.Calls.{Call}
 use Rattle.mufom_task.specs.Tasks.{request_of}
 use Rattle.mufom_command.specs.Roots.{Roots, roots_by}
-use Rattle.mufom_command.specs.Works.{Kept, kept_of, mapped_kept, maus_of}
+use Rattle.mufom_command.specs.Works.{Kept, bytes_fact, kept_of, mapped_kept, maus_of, region_image, region_named}
 use Rattle.mufom_command.specs.FlatFiles.{AreFlatFiles}
 use Rattle.mufom_command.specs.Contract.{Answers}
 use Rattle.mufom_command.specs.Run.{MakesFile, PrintsText}
@@ -43,13 +43,15 @@ use Rattle.mufom_run_laws.specs.RunLaws.{Accepts, CameByStages, HasNoFact, IsUnd
 use Rattle.mufom_headline.specs.ReadBack.{IsPutInFile}
 
 -- The output of a run is this location of what is kept, and nothing else. `locate` writes the file of the location's absolute module, from which a
--- later run reads that module; `bin` writes the file of its raw image, and `txt` the file of its TI-TXT text. `dump` prints the text of its image;
+-- later run reads that module; `bin` writes the file of its raw image, or of the bytes of a region, and `txt` the file of its TI-TXT text. `dump` prints the text of its image;
 -- `addr` prints the lines of the function and the source line at the address in its arguments; `map` prints the sections and symbols with their
 -- addresses, the modules from which they come and the names of their files, or the lines of one address. `names` are the names of all files; `origins` are
 -- the names of these modules, their files, and the numbers of their entries.
 abbrev pub PutsOutLocation : Product → FileNames → List Origin → Plan → Kept → LocatedParts → Call → Type 0
 PutsOutLocation (product.Absolute out) names origins plan kept r call = IsPutInFile out (absolute_of r) call
 PutsOutLocation (product.Raw fill out) names origins plan kept r call = MakesFile out (raw_image fill r.runs) call
+PutsOutLocation (product.Region name fill out) names origins plan kept r call =
+    MakesFile out (region_image fill (region_named plan.regions name) r) call
 PutsOutLocation (product.TiTxt out) names origins plan kept r call = MakesFile out (txt_text r.runs) call
 PutsOutLocation product.Image names origins plan kept r call = PrintsText (image_text r) call
 PutsOutLocation (product.Hit at) names origins plan kept r call = PrintsText (hit_text r.maus (hit_at r.debug at)) call
@@ -58,8 +60,10 @@ PutsOutLocation (product.Map at) names origins plan kept r call = PrintsText (vi
 -- The output of a run over a list of modules is a location, by the plan, of what is kept of the list. Without `--keep`, that is the list
 -- itself; with it, it is one module: the part of the list's link that the named public symbols need, and the sections that the plan keeps.
 --
--- `IsLocation` defines the location: each public, the start and each debug expression has the value of its expression at the planned bases
--- of sections and commons; each loaded address holds the byte of the literal or field that is loaded there; nothing else is loaded.
+-- `IsPlanned` defines the location: each public, the start and each debug expression has the value of its expression at the planned bases
+-- of sections and commons, where the plan's symbols are publics too; each loaded address holds the byte of the literal or field that is loaded there;
+-- nothing else is loaded. The bytes of a region with a load region are loaded into its copy there, and have the values that they have at their own
+-- addresses. For a plan without symbols and load regions this is the definition `IsLocation`.
 --
 -- Located alone, by a plan without regions, the absolute module of the location gives the same location.
 pub record IsPutOut (keep : Option Roots) (p : Product) (names : FileNames) (origins : List Origin) (plan : Plan) (list : List Parts) (call : Call)
@@ -67,26 +71,30 @@ pub record IsPutOut (keep : Option Roots) (p : Product) (names : FileNames) (ori
   pub kept : Kept
   pub keeps : kept_of keep list (gives kept)
   pub location : LocatedParts
-  pub is_location : IsLocation kept.modules plan location
+  pub is_location : IsPlanned kept.modules plan location
   pub itself : IsLocation (absolute_of location ∷ []) no_regions location
   pub puts_out : PutsOutLocation p names origins plan kept location call
 
--- The raw image that `bin` would make of the list is not too long for a file. This is always true for the other commands, which have no such limit.
-abbrev pub IsNotTooLong : Option Roots → Product → Plan → List Parts → Type 0
-IsNotTooLong keep p plan list = (kept : Kept) (r : LocatedParts) → kept_of keep list (gives kept) → IsLocation kept.modules plan r → MayPutOut p r
+-- What `bin` would write of the list may be written: the raw image, or the region, is not too long for a file, and the plan has a region of the name
+-- in the arguments. This is always true for the other commands.
+abbrev pub MayBeWritten : Option Roots → Product → Plan → List Parts → Type 0
+MayBeWritten keep p plan list =
+    (kept : Kept) (r : LocatedParts) → kept_of keep list (gives kept) → IsPlanned kept.modules plan r → MayPutOut p plan r
 
 -- The result of the run is that of locating this list. It is `Done` if and only if the list can be linked, what is kept of it can be located, and the
--- raw image of `bin` is not too long; the output is then the location. If the list can be linked but what is kept of it cannot be located, the run is
--- refused with the first error of locating it. A raw image that is too long is refused with its length in bytes.
+-- bytes of `bin` may be written; the output is then the location. If the list can be linked but what is kept of it cannot be located, the run is
+-- refused with the first error of locating it. A raw image, or a region, that is too long is refused with its length in bytes; and a name that no region
+-- of the plan has, with the name.
 pub record HasLocated (keep : Option Roots) (p : Product) (names : FileNames) (origins : List Origin) (plan : Plan) (call : Call) (result : Outcome)
     (list : List Parts) : Type 0 where
-  pub done : (result ≡ outcome.Done) ↔ (HasNoFact keep list plan × IsNotTooLong keep p plan list)
+  pub done : (result ≡ outcome.Done) ↔ (HasNoFact keep list plan × MayBeWritten keep p plan list)
   pub output : result ≡ outcome.Done → IsPutOut keep p names origins plan list call
   pub refused : (kept : Kept) (f : LocateFact) → link_answer list ≡ None → kept_of keep list (gives kept)
-      → locate_answer kept.modules plan ≡ Some f → result ≡ outcome.Refused (refusal.Locate (locate_refusal f) (maus_of kept.modules))
-  pub too_long : (kept : Kept) (r : LocatedParts) (fill : ℕ) (out : List ℕ) → link_answer list ≡ None → kept_of keep list (gives kept)
-      → IsLocation kept.modules plan r → p ≡ product.Raw fill out → MOST_FILE_BYTES < length (raw_image fill r.runs)
-      → result ≡ outcome.Refused (refusal.Bin (length (raw_image fill r.runs)))
+      → planned_answer kept.modules plan ≡ Some (of_list f) → result ≡ outcome.Refused (refusal.Locate (locate_refusal f) (maus_of kept.modules))
+  pub shared : (kept : Kept) (name : List ℕ) → link_answer list ≡ None → kept_of keep list (gives kept)
+      → planned_answer kept.modules plan ≡ Some (shared_name name) → result ≡ outcome.Refused (refusal.SharedName name)
+  pub unwritten : (kept : Kept) (r : LocatedParts) (b : BinRefusal) → link_answer list ≡ None → kept_of keep list (gives kept)
+      → IsPlanned kept.modules plan r → bytes_fact p plan.regions r ≡ Some b → result ≡ outcome.Refused (refusal.Bin b)
 
 -- The result of the run is that of locating the flat list of its modules. If earlier runs made these modules from another list by partial
 -- links, in any number of stages, it is also the result of locating that list.

@@ -7,9 +7,10 @@ ghost use Rattle.mufom_headline.specs.Texts.{TextsComeBack};
 
 /// If no I/O call failed, the run did not run out of memory, and the plan and the files were accepted,
 /// a task that locates is `Done` if and only if the flat list of the modules can be linked, what is
-/// kept of it can be located, and the raw image of `bin` is not too long. The output is then that
-/// location, as a file or as a text, and nothing else. If earlier runs made the modules from another
-/// list in stages, the same holds of that list; its map names the modules of the files.
+/// kept of it can be located, and `bin` may write its bytes: they are not too many, and the plan has
+/// the region that is named. The output is then that location, as a file or as a text, and nothing
+/// else. If earlier runs made the modules from another list in stages, the same holds of that list;
+/// its map names the modules of the files.
 pub fn the_headline()
     ensures { TheHeadline }
 {}

@@ -95,6 +95,7 @@ use Rattle.mufom_help.specs.declared.locating.TheConstants.{
   LOAD_OUTSIDE,
   LOADED_TWICE,
   OVERFLOW,
+  REGION,
 }
 
 abbrev pub Text : Type 0
@@ -215,7 +216,7 @@ linking =
     (codes "Unknown", UNKNOWN.now) ∷
     []
 
--- errors in locating: places, names, loads and fields
+-- errors in locating and in what is made of a location: places, names, loads and fields, and regions
 abbrev pub locating : List Topic
 locating =
     (codes "Unplaced", UNPLACED.now) ∷
@@ -229,6 +230,7 @@ locating =
     (codes "LoadOutside", LOAD_OUTSIDE.now) ∷
     (codes "LoadedTwice", LOADED_TWICE.now) ∷
     (codes "Overflow", OVERFLOW.now) ∷
+    (codes "Region", REGION.now) ∷
     []
 
 -- error lines without the name of an error, and those about a plan, by how they begin (`out of memory` is `memory`)

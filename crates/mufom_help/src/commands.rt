@@ -20,7 +20,7 @@ To print the image, what is at which address, or the source line at one:
   addr [--gnu] [--plan PLAN] --at ADDRESS FILES
 To write the image as raw bytes or as TI-TXT:
   bin [--gnu] [--no-debug] [--plan PLAN] [--keep NAME] [--fill BYTE]
-      -o OUT FILES
+      [--region NAME] -o OUT FILES
   txt [--gnu] [--no-debug] [--plan PLAN] [--keep NAME] -o OUT FILES
 To make modules, from a TI-TXT file or a listing, or for a self-test:
   fromtxt [--maus N] -o OUT FILE
@@ -212,9 +212,11 @@ Links and locates FILES as `locate` does, and prints these lines:
   unused region K ENTRY        an entry of its list that places no section
   section I ADDRESS size S align A NAME module J region K
   common I ADDRESS size S align 8 NAME region K
+  copy I ADDRESS size S align 8 NAME region K
                                by address; I is the number that errors name;
-                               no region for a section with its own base
-  public ADDRESS NAME module J by address
+                               no region for a section with its own base; a
+                               copy has the bytes of region NAME, stored in K
+  public ADDRESS NAME module J by address; `plan` for a symbol of the plan
   start ADDRESS module J       the start address, if there is one
   sections N bytes T loaded L  totals
 Addresses are hexadecimal, other numbers decimal. No file is written.
@@ -244,13 +246,14 @@ Example:
 pub const BIN: &str = "bin: links and locates modules, and writes the image as raw bytes
 
 Usage: mufom bin [--gnu] [--no-debug] [--plan PLAN] [--keep NAME]
-                 [--fill BYTE] -o OUT FILES
+                 [--fill BYTE] [--region NAME] -o OUT FILES
 
 Links and locates FILES as `locate` does. OUT gets one byte for each address
 from the lowest loaded address to the highest: the loaded byte, or BYTE where
-nothing is loaded. If nothing is loaded at all, OUT is empty. An image that
-would be longer than 67,108,864 bytes is refused as TooLong, and OUT is not
-created.
+nothing is loaded. If nothing is loaded at all, OUT is empty. With --region,
+OUT gets the bytes of that region alone, one for each of its addresses. An image
+that would be longer than 67,108,864 bytes is refused as TooLong, and OUT is
+not created.
 
 FILES are files and groups, then perhaps a + and members:
   a.695 [ b.695 c.695 ] + library.695
@@ -264,6 +267,7 @@ Options:
                 or in the plan's keep; debug items are left out. May be
                 given several times
   --fill BYTE   two hexadecimal digits, as FF, for the gaps; 00 without it
+  --region NAME write the region of this name in the plan, whole
   -o OUT        the file to write; required
   --            end the options; brackets and + keep their meaning
 
@@ -272,7 +276,7 @@ Exit status:
   remain), 5 out of memory
 
 Example:
-  mufom bin --plan plan.toml --fill FF -o rom.bin program.695 + library.695
+  mufom bin --plan plan.toml --fill FF --region rom -o rom.bin program.695
 ";
 
 /// The text of `help txt`.

@@ -88,9 +88,7 @@ pub const SHAPE: &str = "Shape: a key of the plan is missing, unknown, or has a 
 
 R and S are the numbers of the region and of the symbol in the plan, from 0.
 FIELD without a number is a key at the top: `region`, `symbol` or `keep`, or
-`extra` for any other. This version carries out neither symbols nor `load`: it
-refuses a plan that has them as `extra`, unless a field of theirs is wrong.
-FIELD of a region or of a symbol is what is wrong:
+`extra` for any other. FIELD of a region or of a symbol is what is wrong:
   extra       a key that it does not have
   name        missing, not a text, empty, or that of an earlier one
   base, size  missing, not an integer, or negative

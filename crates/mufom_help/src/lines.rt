@@ -131,6 +131,12 @@ A plan is the file after --plan. It says where the sections go:
   size = 0x4000
   sections = [\"data\", \"bss\"]
   common = true              # commons go here too; one region at most
+  load = \"rom\"               # the bytes of these sections are stored in rom
+  [[symbol]]
+  name = \"data_begin\"        # a public symbol that the plan defines, by one of
+  start = \"data\"             # value, start, end, load and region_end
+`start` and `end` are the addresses of a section in the list of a region, `load`
+is where its bytes are stored, and `region_end` is the end of what a region has.
 ";
 
 /// The text about error lines that begin with a word.

@@ -27,19 +27,22 @@ What to do:
 pub const DUPLICATE: &str = "Duplicate: two public symbols have the same name
 
   refused: link: Duplicate NAME
+  refused: locate: Duplicate NAME
 
-Two modules define NAME, or one module defines it twice. In a link every public
-symbol has a name of its own. Upper and lower case differ.
+Two modules define NAME, or one module defines it twice; or, in locating, a
+module and a symbol of the plan. Every public symbol has a name of its own.
+Upper and lower case differ.
 
 Usual causes:
   - A file is named twice, or is also part of a partial link that is named.
   - A variable is defined in a header that several sources include.
   - A library's function was replaced by one of the program, and a member that
     defines it too is needed for another name.
+  - The plan and the startup code both define an address of a section.
 
 What to do:
   - Put `explain` before the command: it names each module that defines NAME,
-    and its file.
+    and its file, and the symbol of the plan.
   - Remove one of the definitions, make it local to its module, or rename it.
   - Put a library after the +. Its modules are then linked only if they are
     needed.

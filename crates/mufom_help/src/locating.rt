@@ -1,4 +1,4 @@
-//! Errors in locating: places, names, loads and fields.
+//! Errors in locating and in what is made of a location: places, names, loads and fields, and regions.
 
 ghost use Rattle.std.specs.Prelude.{◌≡◌, option_map};
 ghost use Rattle.mufom_help.specs.Topics.{locating, topic_in};
@@ -44,7 +44,8 @@ Usual causes:
 What to do:
   - Put `explain` before the command: it names section N and its file, and how
     far the sections of region R reach above its base. A common is memory for a
-    variable that modules request and none defines.
+    variable that modules request and none defines; a copy is the stored bytes
+    of a region with `load`.
   - Make the region larger, or list some names in a region that has space.
   - Remove what is not needed.
 ";
@@ -67,7 +68,8 @@ Usual causes:
 What to do:
   - Put `explain` before the command: it names both sections and their files. A
     section with `base` in its line has a base address of its own. A common is
-    memory for a variable that modules request and none defines.
+    memory for a variable that modules request and none defines; a copy is the
+    stored bytes of a region with `load`.
   - Move one of them: change its address in the source, or `base` and `size` of
     the region so that they begin after the other.
 ";
@@ -251,6 +253,24 @@ What to do:
   - Or place the target nearer: list the two sections next to each other in the
     plan, or move the region to low addresses.
 ";
+/// The text of `help Region`.
+pub const REGION: &str = "Region: the plan has no region of this name
+
+  refused: bin: Region NAME
+
+--region NAME writes the bytes of one region of the plan. The files can be
+located, but no region of the plan has the name NAME, which is written in
+quotes. OUT was not created.
+
+Usual causes:
+  - The name is misspelled. Upper and lower case differ.
+  - --plan names another plan, or is missing.
+  - NAME is that of a section: --region needs the `name` of a region.
+
+What to do:
+  - Look at the lines `region` that `mufom map` prints for the same files: they
+    have the names of the regions.
+";
 
 /// The text of an error in locating, by its name.
 pub(crate) fn locating_topic(word: &str) -> Option<&'static str>
@@ -268,6 +288,7 @@ pub(crate) fn locating_topic(word: &str) -> Option<&'static str>
         "LoadOutside" => Some(LOAD_OUTSIDE),
         "LoadedTwice" => Some(LOADED_TWICE),
         "Overflow" => Some(OVERFLOW),
+        "Region" => Some(REGION),
         _ => None,
     }
 }

@@ -214,10 +214,10 @@ pub const TOO_LONG: &str = "TooLong: an expression, a plan or a raw image is lon
 
   refused: bin: TooLong COUNT
     The raw image would have COUNT bytes, more than 67,108,864, since it goes
-    from the lowest loaded address to the highest. The usual cause is a small
-    section that is far from the rest: a vector table, or data in a region for
-    RAM. Look for it with `dump`. Then move it by the plan, or link it into an
-    image of its own.
+    from the lowest loaded address to the highest; or the region of --region has
+    that many addresses. The usual cause is a small section that is far from the
+    rest: a vector table, or data in a region for RAM. Look for it with `dump`.
+    Then name a region after --region, or move the section by the plan.
 ";
 
 /// The text of `help LongRun`.

@@ -69,6 +69,11 @@ fn push_names(rt: &impl Abort, alloc: Global, text: &mut String, command: &Comma
         let given = format!(in alloc; " keep={keep:?}").expect(rt, "memory");
         text.push_str(given.as_str()).expect(rt, "memory");
     }
+    if let Some(region) = &command.region {
+        let region = region.as_slice();
+        let given = format!(in alloc; " region={region:?}").expect(rt, "memory");
+        text.push_str(given.as_str()).expect(rt, "memory");
+    }
     if let Some(help) = &command.help {
         text.push_str(" help=").expect(rt, "memory");
         text.push_str(help.as_str()).expect(rt, "memory");
@@ -139,7 +144,7 @@ fn gives(rt: &impl Abort, alloc: Global, line: &str, want: &str) {
 }
 
 // Lines and the commands that they give, with files by their numbers.
-static COMMANDS: [(&str, &str); 32] = [
+static COMMANDS: [(&str, &str); 33] = [
     // Files in their order.
     ("show a", "Show 0:a"),
     ("dump a", "Dump 0:a"),
@@ -170,6 +175,7 @@ static COMMANDS: [(&str, &str); 32] = [
     // A flag of one command, and values that are numbers.
     ("show --listing a", "Show listing 0:a"),
     ("bin --fill=fE -oc a", "Bin out=c fill=254 0:a"),
+    ("bin --region ab -oc a", "Bin out=c region=[97, 98] 0:a"),
     (
         "addr --at 00FfFFffFFffFFff a",
         "Addr at=72057594037927935 0:a",

@@ -1,5 +1,5 @@
 -- The link of a module with the symbols of a plan means what the list with the symbols means.
-use Rattle.std.proofs.Common.{◌≡◌, ◌≢◌, ℕ, ◌+◌, ◌*◌, ◌<◌, ◌≤◌, List, [], ◌∷◌, ◌++◌, length, map, Option, Some, None, refl, sym, ap, subst, ◌∙◌, append-nil, not}
+use Rattle.std.proofs.Common.{◌≡◌, ◌≢◌, ℕ, ◌*◌, List, [], ◌∷◌, map, Option, Some, None, refl, sym, ap, subst, ◌∙◌, append-nil, not}
 use Rattle.std.specs.Prelude.{find, filter, option_map, ◌^◌, ◌%◌}
 use Rattle.mufom_names.specs.declared.name.Reference.{Reference}
 use Rattle.mufom_names.specs.Names.{names_of, AreDistinct}
@@ -12,11 +12,9 @@ use Rattle.mufom_place.specs.Facts.{◌or_else◌}
 use Rattle.mufom_place.specs.Copies.{all_refusal, copies}
 use Rattle.mufom_meaning.specs.declared.located.LocatedParts.{LocatedParts}
 use Rattle.mufom_meaning.specs.Facts.{LocateFact, placement}
-use Rattle.mufom_meaning.specs.FactLaws.{IsLinkable}
 use Rattle.mufom_meaning.specs.Flat.{commons, common_size, distinct, flat_references, flat_sections, is_common, public_names, same_common, unresolved_references, width}
 use Rattle.mufom_meaning.specs.LinkAnswer.{link_answer}
-use Rattle.mufom_meaning.specs.Placed.{placed_commons}
-use Rattle.mufom_meaning.specs.Staging.{AreValid, HaveDescriptor, unlinked, linked}
+use Rattle.mufom_meaning.specs.Staging.{unlinked, linked}
 use Rattle.mufom_meaning.proofs.Placed.{same_placed_commons}
 use Rattle.mufom_meaning.proofs.facts.Linkable.{no_link_answer_is_linkable}
 use Rattle.mufom_meaning.proofs.staging.Stages.{Stays, stays_linked}
@@ -25,7 +23,7 @@ use Rattle.mufom_image.specs.declared.refusal.LocateRefusal.TheVariants as refus
 use Rattle.mufom_image.specs.Refusals.{IsMet}
 use Rattle.mufom_image.proofs.MetLaws.{met-first}
 use Rattle.mufom_planned.specs.Layout.{Layout, layout, has_bytes}
-use Rattle.mufom_planned.specs.PlanSymbols.{first_shared, followed_by, symbols_module, with_names, with_symbols}
+use Rattle.mufom_planned.specs.PlanSymbols.{first_shared, followed_by, with_names, with_symbols}
 use Rattle.mufom_planned.specs.Planned.{PlanFact, HasLocation, IsPlanned, copied_answer, layout_fact, of_list, planned_answer, shared_name}
 use Rattle.mufom_planned.specs.PlanLaws.{HasSoundSymbols}
 use Rattle.mufom_planned.proofs.Alike.{layout_same, same_answer, location_there}
@@ -107,10 +105,10 @@ module _ (m : Parts) (valid : IsValid m) (plan : Plan) (sound : HasSoundSymbols 
   abbrev behind : (PlanSymbol → ℕ) → List Parts
   behind numbers = symbols_behind m numbers plan.symbols
 
-  named-behind : with_names (m ∷ []) plan ≡ behind (λ symbol. 0)
+  pub named-behind : with_names (m ∷ []) plan ≡ behind (λ symbol. 0)
   named-behind = behind_it m (λ symbol. 0) plan.symbols some
 
-  symbols-behind : with_symbols (m ∷ []) plan ≡ behind (numbers_of m plan)
+  pub symbols-behind : with_symbols (m ∷ []) plan ≡ behind (numbers_of m plan)
   symbols-behind = behind_it m (numbers_of m plan) plan.symbols some
 
   -- where everything is placed does not depend on the values of symbols
@@ -175,6 +173,17 @@ module _ (m : Parts) (valid : IsValid m) (plan : Plan) (sound : HasSoundSymbols 
         subst AreDistinct (sym (sym (append-nil (names_of M.names.publics)) ∙ stays.names))
         ((no_link_answer_is_linkable (behind numbers)).0 is.links).names
 
+    same-width : width (M ∷ []) ≡ width (with_symbols (m ∷ []) plan)
+    same-width = linked-width ∙ sym (ap width symbols-behind)
+
+    -- the link is placed as the list with the symbols, whatever their values in the link
+    pub whole-layout : layout (M ∷ []) plan ≡ layout (with_symbols (m ∷ []) plan) plan
+    whole-layout =
+        layout_same (M ∷ []) (behind numbers) plan stays.meaning ∙ same-layouts numbers (numbers_of m plan) ∙ sym (ap (λ ms. layout ms plan) symbols-behind)
+
+    pub same-fact : layout_fact (M ∷ []) (layout (M ∷ []) plan) ≡ layout_fact (with_symbols (m ∷ []) plan) (layout (with_symbols (m ∷ []) plan) plan)
+    same-fact = λ i. option_map placement (all_refusal (same-width i) (whole-layout i).plan (whole-layout i).sections (whole-layout i).commons (whole-layout i).copied)
+
     -- an error of placing the link
     pub layout-met : first_shared (m ∷ []) plan ≡ None → (refusal : LocateRefusal) → IsMet (layout_fact (M ∷ []) (layout (M ∷ []) plan)) refusal
         → IsMetBy (planned_answer (m ∷ []) plan) (planned.Locate refusal)
@@ -182,19 +191,9 @@ module _ (m : Parts) (valid : IsValid m) (plan : Plan) (sound : HasSoundSymbols 
         listed-met m plan none refusal
         (met-first (layout_fact (with_symbols (m ∷ []) plan) (layout (with_symbols (m ∷ []) plan) plan)) _ refusal
         (subst (λ o. IsMet o refusal) same-fact h))
-      where
-        same-width : width (M ∷ []) ≡ width (with_symbols (m ∷ []) plan)
-        same-width = linked-width ∙ sym (ap width symbols-behind)
-
-        whole-layout : layout (M ∷ []) plan ≡ layout (with_symbols (m ∷ []) plan) plan
-        whole-layout =
-            layout_same (M ∷ []) (behind numbers) plan stays.meaning ∙ same-layouts numbers (numbers_of m plan) ∙ sym (ap (λ ms. layout ms plan) symbols-behind)
-
-        same-fact : layout_fact (M ∷ []) (layout (M ∷ []) plan) ≡ layout_fact (with_symbols (m ∷ []) plan) (layout (with_symbols (m ∷ []) plan) plan)
-        same-fact = λ i. option_map placement (all_refusal (same-width i) (whole-layout i).plan (whole-layout i).sections (whole-layout i).commons (whole-layout i).copied)
 
   module _ (M : Parts) (is : IsLinkWith m (numbers_of m plan) plan.symbols M) where
-    same-answers : copied_answer (M ∷ []) plan ≡ copied_answer (with_symbols (m ∷ []) plan) plan
+    pub same-answers : copied_answer (M ∷ []) plan ≡ copied_answer (with_symbols (m ∷ []) plan) plan
     same-answers =
         same_answer m (M ∷ []) (behind (numbers_of m plan)) plan (stays (numbers_of m plan) M is) ∙ sym (ap (λ ms. copied_answer ms plan) symbols-behind)
 
@@ -219,7 +218,7 @@ module _ (m : Parts) (plan : Plan) (none : plan.symbols ≡ []) where
   no-shared : first_shared (m ∷ []) plan ≡ None
   no-shared = ap (λ symbols. find (has_name (public_names (m ∷ []))) (symbol_names symbols)) none
 
-  same-list : with_symbols (m ∷ []) plan ≡ m ∷ []
+  pub same-list : with_symbols (m ∷ []) plan ≡ m ∷ []
   same-list = ap (followed_by (m ∷ []) (numbers_of m plan)) none
 
   pub unnamed-met : (refusal : LocateRefusal) → IsMet (copied_answer (m ∷ []) plan) refusal → IsMetBy (planned_answer (m ∷ []) plan) (planned.Locate refusal)

@@ -10,3 +10,4 @@ pub mod MoveLaws
 pub mod JoinLaws
 pub mod CopiedLaws
 pub mod LightLaws
+pub mod ExportLaws

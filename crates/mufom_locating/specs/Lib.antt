@@ -9,3 +9,4 @@ pub mod Numbered
 pub mod Linked
 pub mod Copied
 pub mod Light
+pub mod Exported

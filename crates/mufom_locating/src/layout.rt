@@ -125,7 +125,7 @@ fn bases_of(
     ensures refused { IfErr result (IsMet (layout_fact («module».now ∷ []) (layout («module».now ∷ []) plan.now))) }
 {
     modules_may_be_placed();
-    // No plan of 65,536 bytes has so many regions.
+    // Positions have 32 bits. A module of a run, by a plan that was read, has fewer sections, commons and copies.
     if whole.len() > u32::MAX as usize {
         return Err(LocateRefusal::NoMemory);
     }

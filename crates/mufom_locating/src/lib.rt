@@ -9,6 +9,7 @@
 mod copied;
 mod copies;
 mod entries;
+mod exports;
 mod layout;
 mod loaded;
 mod locating;
@@ -18,5 +19,6 @@ mod plain;
 mod refusal;
 mod symbols;
 
+pub use exports::{Placed, placed_list, planned_copies, with_plan_symbols};
 pub use locating::locate_by_plan;
 pub use refusal::PlannedRefusal;

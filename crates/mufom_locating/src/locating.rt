@@ -100,7 +100,7 @@ fn locate_copied(alloc: Global, module: &Module, plan: &Plan) -> Result<LocatedP
     located_at(alloc, module, plan, &placed)
 }
 
-// So many zeros.
+// A list of zeros, one for each symbol, section or common.
 pub(crate) fn zeros(alloc: Global, count: usize) -> Result<Vec<u64>, NoMemory>
     ensures { IfOk result (λ zeros. zeros.items ≡ replicate count 0) }
 {

@@ -128,6 +128,51 @@ bytes 4 00000108
 }
 
 #[test]
+fn a_copy_follows_the_commons(rt: HostRuntime) {
+    let listing = r#"module "m" processor "68000" maus 4 order M
+section 0 "t" C size 4 align 2
+section 1 "d" C size 4 align 4
+reference 0 "c" weak size 4 default 0
+select 1
+field either 4 = X0
+"#;
+    let plan = r#"
+region = [
+  { name = "rom", base = 0, size = 64, sections = ["t"], common = true },
+  { name = "ram", base = 256, size = 64, sections = ["d"], load = "rom" },
+]
+"#;
+    let listed = r#"section 0 "t" AS size 4 align 2 base 0
+section 1 "d" AS size 4 align 4 base 256
+section 2 "c" AS size 4 align 8 base 8
+section 3 "ram" AS size 4 align 8 base 16
+select 3
+counter 3 = 16
+bytes 4 00000008
+"#;
+    becomes(&rt, rt.alloc(), listing, plan, listed);
+}
+
+#[test]
+fn the_program_counter_is_not_moved(rt: HostRuntime) {
+    let listing = r#"module "m" processor "68000" maus 4 order M
+section 0 "t" C size 4 align 2
+section 1 "d" C size 6 align 4
+select 1
+bytes 2 0102
+field either 4 = P1
+"#;
+    let listed = r#"section 0 "t" AS size 4 align 2 base 0
+section 1 "d" AS size 6 align 4 base 256
+section 2 "ram" AS size 6 align 8 base 8
+select 2
+counter 2 = 8
+bytes 6 010200000102
+"#;
+    becomes(&rt, rt.alloc(), listing, PLAN, listed);
+}
+
+#[test]
 fn a_region_without_bytes_has_no_copy(rt: HostRuntime) {
     let listed = r#"section 0 "t" AS size 4 align 2 base 0
 section 1 "d" AS size 6 align 4 base 256

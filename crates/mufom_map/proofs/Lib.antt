@@ -2,6 +2,7 @@ pub mod OrderLaws
 pub mod RoomLaws
 pub mod PointLaws
 pub mod KeyLaws
+pub mod CopyRegions
 pub mod ShownLaws
 pub mod OrderedLaws
 pub mod LocatedLaws

@@ -1,9 +1,11 @@
--- What is known of the location of one module: its sections are those of the module and the commons, aligned and placed, and few.
-use Rattle.std.proofs.Common.{◌≡◌, ◌+◌, ◌<◌, ◌≤◌, ◌^◌, List, [], ◌∷◌, ◌++◌, length, map, None, ap, ◌∙◌, subst, append-nil, arith, length-append}
+-- What is known of the location of one module by a plan: its sections are those of the module, the commons and the copies, aligned, placed, and few.
+use Rattle.std.proofs.Common.{◌≡◌, ◌+◌, ◌<◌, ◌^◌, ℕ, List, [], ◌∷◌, ◌++◌, length, map, None, sym, ap, ◌∙◌, subst, append-nil, arith, length-append}
 use Rattle.std.specs.Prelude.{All}
-use Rattle.std.proofs.Math.Seq.{take-append_seam, drop-append_seam}
+use Rattle.std.specs.List.{enumerate_from}
 use Rattle.std.proofs.lemmas.List.{length-map}
-use Rattle.std.proofs.lemmas.List.Elements.{All-drop, All-take}
+use Rattle.std.proofs.lemmas.List.FromFn.{length-enumerate_from}
+use Rattle.std.proofs.Math.Seq.{take-append_seam}
+use Rattle.std.proofs.lemmas.List.Elements.{All-nil, All-cons, All-head, All-tail, All-take}
 use Rattle.mufom_sections.specs.declared.section.Section.{Section}
 use Rattle.mufom_names.specs.declared.name.Public.{Public}
 use Rattle.mufom_module.specs.declared.module.Parts.{Parts}
@@ -12,82 +14,121 @@ use Rattle.mufom_module.specs.Defects.{IsValid}
 use Rattle.mufom_module.specs.Written.{weight}
 use Rattle.mufom_module.proofs.EntryCounts.{publics-count}
 use Rattle.mufom_plan.specs.declared.plan.Plan.{Plan}
+use Rattle.mufom_plan.specs.declared.plan.PlanSymbol.{PlanSymbol}
 use Rattle.mufom_plan.specs.Names.{listed_names}
+use Rattle.mufom_place.specs.declared.placing.RegionCopy.{RegionCopy}
 use Rattle.mufom_place.specs.Bases.{numbered}
-use Rattle.mufom_place.specs.Facts.{◌or_else◌, IsAligned, extents, first_overlap, first_some, in_order, misfit_at, unplaced_at}
-use Rattle.mufom_place.specs.Bases.{bases}
+use Rattle.mufom_place.specs.Copies.{all_refusal, copy_sections}
+use Rattle.mufom_place.specs.Facts.{IsAligned, first_some, unplaced_at}
 use Rattle.mufom_meaning.specs.declared.located.LocatedParts.{LocatedParts}
+use Rattle.mufom_meaning.specs.Facts.{placement}
 use Rattle.mufom_meaning.specs.Flat.{SitedPublic, flat_publics, flat_sections, width}
-use Rattle.mufom_meaning.specs.Location.{IsLocation, located_public}
+use Rattle.mufom_meaning.specs.LocateAnswer.{after_placing}
+use Rattle.mufom_meaning.specs.Location.{located_public, placed_section, placed_sections}
 use Rattle.mufom_meaning.specs.Placed.{extended_sections, placed_commons, planned_bases}
 use Rattle.mufom_meaning.specs.Readings.{readings, public_reading}
 use Rattle.mufom_meaning.specs.Values.{setting}
 use Rattle.mufom_meaning.proofs.CallLaws.{modules_may_be_placed}
-use Rattle.mufom_numbers.proofs.Choices.{of_not_le}
+use Rattle.mufom_numbers.proofs.Choices.{mapped_none, of_not_le}
 use Rattle.mufom_meaning.proofs.NoDefects.{no_defect}
-use Rattle.mufom_meaning.proofs.Placed.{located_count}
-use Rattle.mufom_meaning.proofs.absolute.Rows.{placement_none}
 use Rattle.mufom_meaning.proofs.facts.Answers.{or_else_none}
+use Rattle.mufom_located.specs.Located.{IsLocated}
+use Rattle.mufom_planned.specs.Layout.{Layout, layout_bases, whole_list}
+use Rattle.mufom_planned.specs.PlanSymbols.{followed_by, with_symbols}
+use Rattle.mufom_planned.specs.Planned.{IsPlanned, copied_answer, layout_fact, of_list}
+use Rattle.mufom_map.specs.Mapped.{planned_layout}
+use Rattle.mufom_map.specs.Shown.{bare}
 
-module _ (m : Parts) (plan : Plan) (valid : IsValid m) where
+-- ---- placed sections
+
+placed-count : (at : List ℕ) (sections : List Section) → length (placed_sections at sections) ≡ length sections
+placed-count at sections = length-map (enumerate_from 0 sections) (placed_section at) ∙ length-enumerate_from 0 sections
+
+-- placing changes no alignment
+placed-aligned : (at : List ℕ) (n : ℕ) (sections : List Section) → All IsAligned sections
+    → All IsAligned (map (placed_section at) (enumerate_from n sections))
+placed-aligned at n [] all = All-nil IsAligned
+placed-aligned at n (s ∷ sections) all =
+    let own = All-head IsAligned s sections all in
+    All-cons IsAligned (placed_section at (n, s)) (map (placed_section at) (enumerate_from (n + 1) sections))
+    (record { least = own.least; most = own.most }) (placed-aligned at (n + 1) sections (All-tail IsAligned s sections all))
+
+pub bare-aligned : (sections : List Section) → All IsAligned sections → All IsAligned (map bare sections)
+bare-aligned [] all = All-nil IsAligned
+bare-aligned (s ∷ sections) all =
+    let own = All-head IsAligned s sections all in
+    All-cons IsAligned (bare s) (map bare sections) (record { least = own.least; most = own.most }) (bare-aligned sections (All-tail IsAligned s sections all))
+
+-- ---- any location
+
+module _ (r : LocatedParts) (h : IsLocated r) where
   abbrev ms : List Parts
-  ms = m ∷ []
+  ms = h.source ∷ []
 
-  abbrev asked : List Section
-  asked = placed_commons ms plan
+  pub few-located : length r.sections < 2 ^ 32
+  few-located =
+      let all = ap length h.is.sections ∙ placed-count _ (extended_sections ms h.plan) in
+      let less = (modules_may_be_placed h.source h.plan h.valid).count in omega (arith, all, less)
 
-  pub own-is : flat_sections ms ≡ m.sections
-  own-is = append-nil m.sections
+  pub aligned-located : All IsAligned r.sections
+  aligned-located = subst (All IsAligned) (sym h.is.sections)
+      (placed-aligned _ 0 (extended_sections ms h.plan) (modules_may_be_placed h.source h.plan h.valid).alignments)
 
-  aligned-all : All IsAligned (flat_sections ms ++ asked)
-  aligned-all = (modules_may_be_placed m plan valid).alignments
-
-  pub aligned-own : All IsAligned m.sections
-  aligned-own = subst (All IsAligned) (take-append_seam (flat_sections ms) asked
-      ∙ own-is) (All-take IsAligned (length (flat_sections ms)) (flat_sections ms ++ asked) aligned-all)
-
-  pub aligned-commons : All IsAligned asked
-  aligned-commons = subst (All IsAligned) (drop-append_seam (flat_sections ms) asked)
-      (All-drop IsAligned (length (flat_sections ms)) (flat_sections ms ++ asked) aligned-all)
-
-  pub few-publics : length m.names.publics < 2 ^ 32
+  few-publics : length h.source.names.publics < 2 ^ 32
   few-publics =
-      let light = of_not_le (2 ^ 32) (weight m) (no_defect m valid kinds.Weight) in let count = publics-count m in omega (arith, light, count)
+      let light = of_not_le (2 ^ 32) (weight h.source) (no_defect h.source h.valid kinds.Weight) in
+      let count = publics-count h.source in omega (arith, light, count)
 
   abbrev entry-of : Public → SitedPublic
-  entry-of entry = record { site = record { parts = m; first_section = 0; first_public = 0; first_name = 0 }; entry = entry }
+  entry-of entry = record { site = record { parts = h.source; first_section = 0; first_public = 0; first_name = 0 }; entry = entry }
 
-  module _ (r : LocatedParts) (h : IsLocation (m ∷ []) plan r) where
-    count : length r.sections ≡ length m.sections + length asked
-    count = let all = ap length h.sections in let both = located_count ms plan in let own = ap length own-is in omega (arith, all, both, own)
+  pub publics-located : length r.publics < 2 ^ 32
+  unfolding readings
+  publics-located =
+      let own = length-map r.publics located_public in
+      let same = ap length h.is.publics in
+      let entries = ap (λ (ps : List SitedPublic). length ps) (append-nil (map entry-of h.source.names.publics)) in
+      let many = length-map h.source.names.publics entry-of in
+      let readings-long = length-map (flat_publics ms) (public_reading (setting ms (planned_bases ms h.plan))) in
+      let less = few-publics in
+      omega (arith, own, same, entries, many, readings-long, less)
 
-    pub within : length m.sections ≤ length r.sections
-    within = let all = count in omega (arith, all)
+-- ---- a location by a plan
 
-    extended-count : length (extended_sections ms plan) ≡ length m.sections + length asked
-    extended-count = let both = length-append (flat_sections ms) asked in let own = ap length own-is in omega (arith, both, own)
+pub aligned-own : (m : Parts) (plan : Plan) → IsValid m → All IsAligned m.sections
+aligned-own m plan valid =
+    let own = flat_sections (m ∷ []) in let asked = placed_commons (m ∷ []) plan in
+    subst (All IsAligned) (take-append_seam own asked ∙ append-nil m.sections)
+    (All-take IsAligned (length own) (own ++ asked) (modules_may_be_placed m plan valid).alignments)
 
-    pub few : length m.sections + length asked < 2 ^ 32
-    few = let all = extended-count in let less = (modules_may_be_placed m plan valid).count in omega (arith, all, less)
+-- the plan's symbols have no sections
+symbols-sections : (m : Parts) (numbers : PlanSymbol → ℕ) (symbols : List PlanSymbol) → flat_sections (followed_by (m ∷ []) numbers symbols) ≡ m.sections
+symbols-sections m numbers [] = append-nil m.sections
+symbols-sections m numbers (symbol ∷ more) = append-nil m.sections
 
-    pub few-located : length r.sections < 2 ^ 32
-    few-located = let all = count in let less = few in omega (arith, all, less)
+module _ (m : Parts) (plan : Plan) where
+  abbrev l : Layout
+  l = planned_layout (m ∷ []) plan
+
+  pub own-is : l.sections ≡ m.sections
+  own-is = symbols-sections m _ plan.symbols
+
+  module _ (r : LocatedParts) (h : IsPlanned (m ∷ []) plan r) where
+    pub count : length r.sections ≡ length m.sections + length l.commons + length l.copied
+    count =
+        let all = ap length h.located.sections ∙ placed-count (layout_bases l) (whole_list l) in
+        let both = length-append (l.sections ++ l.commons) (copy_sections l.copied) in
+        let first = length-append l.sections l.commons in
+        let last = length-map l.copied (λ (c : RegionCopy). c.section) in
+        let own = ap length own-is in
+        omega (arith, all, both, first, last, own)
 
     pub all-placed : first_some (unplaced_at (listed_names plan.regions)) (numbered m.sections) ≡ None
     all-placed =
-        let none = placement_none m [] plan r (valid, tt) h in
-        let first = (or_else_none (first_some (unplaced_at (listed_names plan.regions)) (numbered (flat_sections ms)))
-        (first_some (misfit_at (2 ^ width ms) plan (flat_sections ms) asked) (numbered (flat_sections ms ++ asked))
-        or_else first_overlap (in_order (extents (numbered (flat_sections ms ++ asked)) (bases plan (flat_sections ms) asked)))) none).0 in
-        subst (λ (own : List Section). first_some (unplaced_at (listed_names plan.regions)) (numbered own) ≡ None) own-is first
-
-    pub publics-located : length r.publics < 2 ^ 32
-    unfolding readings
-    publics-located =
-        let own = length-map r.publics located_public in
-        let same = ap length h.publics in
-        let entries = ap (λ (ps : List SitedPublic). length ps) (append-nil (map entry-of m.names.publics)) in
-        let many = length-map m.names.publics entry-of in
-        let readings-long = length-map (flat_publics ms) (public_reading (setting ms (planned_bases ms plan))) in
-        let less = few-publics in
-        omega (arith, own, same, entries, many, readings-long, less)
+        let ns = with_symbols (m ∷ []) plan in
+        let copied = mapped_none of_list (copied_answer ns plan)
+        (or_else_none _ _ h.locates).1 in
+        let fits = mapped_none placement (all_refusal (width ns) plan l.sections l.commons l.copied)
+        (or_else_none (layout_fact ns l) (after_placing ns plan) copied).0 in
+        subst (λ (own : List Section). first_some (unplaced_at (listed_names plan.regions)) (numbered own) ≡ None) own-is
+        (or_else_none _ _ fits).0

@@ -11,11 +11,11 @@ use Rattle.mufom_map.specs.Spot.{is_nearest, lies_in, public_at, section_at, val
 use Rattle.mufom_map.proofs.SpotLaws.{fields-from, found-at}
 
 -- the section that holds the address
-pub section-is : (origins : List Origin) (regions : List (Option ℕ)) (sections : List Section) (address : ℕ)
-    → element_at (shown_sections origins regions sections) (position (λ (s : Section). lies_in (base_of s) s.size address) sections)
-    ≡ section_at address (shown_sections origins regions sections)
-section-is origins regions sections address =
-    found-at (shown_section origins regions) (λ (s : MappedSection). lies_in s.base s.size address) (λ (s : Section). lies_in (base_of s) s.size address)
+pub section-is : (origins : List Origin) (regions : List (Option ℕ)) (copies : ℕ) (sections : List Section) (address : ℕ)
+    → element_at (shown_sections origins regions copies sections) (position (λ (s : Section). lies_in (base_of s) s.size address) sections)
+    ≡ section_at address (shown_sections origins regions copies sections)
+section-is origins regions copies sections address =
+    found-at (shown_section origins regions copies) (λ (s : MappedSection). lies_in s.base s.size address) (λ (s : Section). lies_in (base_of s) s.size address)
     (λ n s. refl) sections
 
 -- the nearest public in a section

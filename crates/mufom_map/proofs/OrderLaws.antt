@@ -3,11 +3,11 @@ use Rattle.std.proofs.Common.{◌≡◌, ◌+◌, ◌<◌, ℕ, Bool, true, fals
 use Rattle.std.proofs.lemmas.Bool.Decides.{nat_tests}
 use Rattle.std.specs.List.{enumerate_from}
 use Rattle.mufom_sections.specs.declared.section.Section.{Section}
-use Rattle.mufom_plan.specs.declared.plan.Plan.{Plan}
 use Rattle.mufom_place.specs.declared.placing.Extent.{Extent}
 use Rattle.mufom_place.specs.Facts.{in_order, is_before, put_in_order}
 use Rattle.mufom_map.specs.MapText.{by_key, extent_of, put_in}
 use Rattle.mufom_map.specs.Mapped.{MappedSection, mapped_section}
+use Rattle.mufom_planned.specs.Layout.{Layout}
 use Rattle.mufom_origins.specs.declared.origins.Origin.{Origin}
 
 tests-agree : (a b m n : ℕ) → m < n → (nat_lt a b || ((a == b) && nat_lt m n)) ≡ not (nat_lt b a)
@@ -60,9 +60,9 @@ module _ {X : Type 0} (key : X → ℕ) (f : X → Extent) (base_is : (x : X) �
 
 -- ---- sections of a map
 
-module _ (origins : List Origin) (plan : Plan) (own commons : List Section) where
+module _ (origins : List Origin) (l : Layout) where
   abbrev shown : ℕ × Section → MappedSection
-  shown = mapped_section origins plan own commons
+  shown = mapped_section origins l
 
   later-sections : (m n : ℕ) (sections : List Section) → m < n
       → AreLater (λ (s : MappedSection). s.base) extent_of (λ s. refl) m (map shown (enumerate_from n sections))

@@ -5,9 +5,13 @@ use Rattle.std.specs.Fmt.{digits}
 use Rattle.hex.proofs.OnLiterals.{hex_on_literals}
 use Rattle.mufom_expr.specs.declared.token.Letter.TheVariants.{R}
 use Rattle.mufom_expr.specs.Tree.{number, variable, two, plus}
+use Rattle.mufom_sections.specs.declared.section.Section.{Section}
+use Rattle.mufom_loads.specs.declared.load.Item.TheVariants.{Literal}
+use Rattle.mufom_loads.specs.declared.load.Load.TheVariants.{SetSection, One}
 use Rattle.mufom_module.specs.declared.module.Order.TheVariants.{Most}
 use Rattle.mufom_module.specs.declared.module.Parts.{Parts}
 use Rattle.mufom_plan.specs.declared.plan.Plan.{Plan}
+use Rattle.mufom_plan.specs.declared.plan.SymbolValue.TheVariants.{Load, Start}
 use Rattle.mufom_meaning.specs.declared.located.LocatedParts.{LocatedParts}
 use Rattle.mufom_origins.specs.Origins.{numbered}
 use Rattle.mufom_origins.specs.Places.{with_chosen}
@@ -221,3 +225,52 @@ first_of_equal_values : address_text 515 (mapped (numbered (record apart {
     ≡ line (codes "section 0 00000200 size 4 align 1 \"t\" module 0") ++ line (codes "public 00000202 \"a\" module 0 offset 1")
 unfolding hex_on_literals digits
 first_of_equal_values = refl
+
+-- ---- data that is loaded into another region, and symbols of the plan
+
+abbrev waiting : List ℕ → ℕ → ℕ → Section
+waiting name size align = record { name = name; absolute = false; purpose = None; size = size; align = align; base = None }
+
+-- code, data with initial values, and data without
+abbrev program : Parts
+program = record first {
+  sections = waiting (codes "code") 4 2 ∷ waiting (codes "data") 6 4 ∷ waiting (codes "bss") 16 4 ∷ [];
+  names = record { publics = record { name = codes "main"; value = variable R 0; notes = [] } ∷ []; references = [] };
+  loads = SetSection 0 ∷ One (Literal (78 ∷ 113 ∷ 78 ∷ 117 ∷ [])) ∷ SetSection 1 ∷ One (Literal (1 ∷ 2 ∷ 3 ∷ 4 ∷ 5 ∷ 6 ∷ [])) ∷ [];
+}
+
+abbrev from_rom : Plan
+from_rom = record {
+  regions = record { name = codes "rom"; base = 0; size = 64; sections = codes "code" ∷ []; common = false; load = None }
+      ∷ record { name = codes "ram"; base = 256; size = 64; sections = codes "data" ∷ codes "bss" ∷ []; common = false; load = Some (codes "rom") } ∷ [];
+  symbols = record { name = codes "image"; value = Load (codes "data") } ∷ record { name = codes "zero"; value = Start (codes "bss") } ∷ [];
+  keep = [];
+}
+
+abbrev copied : LocatedParts
+copied = record place {
+  publics = record { name = codes "main"; value = 0; notes = [] } ∷ record { name = codes "image"; value = 8; notes = [] }
+      ∷ record { name = codes "zero"; value = 264; notes = [] } ∷ [];
+  runs = record { address = 0; bytes = 78 ∷ 113 ∷ 78 ∷ 117 ∷ [] } ∷ record { address = 8; bytes = 1 ∷ 2 ∷ 3 ∷ 4 ∷ 5 ∷ 6 ∷ [] } ∷ [];
+}
+
+copy_is_shown : map_text files (mapped (numbered (program ∷ [])) from_rom copied)
+    ≡ line (codes "module 0 \"a\" file 0: \"a.695\"")
+    ++ (line (codes "region 0 \"rom\" at 00000000 size 64 used 10 free 54 [##..###.........................]")
+    ++ (line (codes "region 1 \"ram\" at 00000100 size 64 used 22 free 42 [###.########....................]")
+    ++ (line (codes "section 0 00000000 size 4 align 2 \"code\" module 0 region 0") ++ (line (codes "copy 3 00000008 size 6 align 8 \"ram\" region 0")
+    ++ (line (codes "section 1 00000100 size 6 align 4 \"data\" module 0 region 1") ++ (line (codes "section 2 00000108 size 16 align 4 \"bss\" module 0 region 1")
+    ++ (line (codes "public 00000000 \"main\" module 0") ++ (line (codes "public 00000008 \"image\" plan") ++ (line (codes "public 00000108 \"zero\" plan")
+    ++ line (codes "sections 4 bytes 32 loaded 10"))))))))))
+unfolding hex_on_literals digits signs_from
+copy_is_shown = refl
+
+address_of_a_symbol : address_text 266 (mapped (numbered (program ∷ [])) from_rom copied)
+    ≡ line (codes "section 2 00000108 size 16 align 4 \"bss\" module 0 region 1") ++ line (codes "public 00000108 \"zero\" plan offset 2")
+unfolding hex_on_literals digits
+address_of_a_symbol = refl
+
+address_of_a_copy : address_text 8 (mapped (numbered (program ∷ [])) from_rom copied)
+    ≡ line (codes "copy 3 00000008 size 6 align 8 \"ram\" region 0") ++ line (codes "public 00000008 \"image\" plan offset 0")
+unfolding hex_on_literals digits
+address_of_a_copy = refl

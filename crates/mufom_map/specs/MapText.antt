@@ -1,6 +1,7 @@
--- The text of a map: modules, regions, entries that place no section, sections and commons by address, publics by value, the start, and totals;
+-- The text of a map: modules, regions, entries that place no section, sections, commons and copies by address, publics by value, the start, and totals;
 -- and the lines of one address.
 use Rattle.std.specs.Prelude.{ℕ, ◌-◌, List, [], ◌∷◌, ◌++◌, length, map, flat_map, Option, Some, None, sum_by, nat_lt, codes, if◌then◌else◌}
+use Rattle.std.specs.Prelude.{Bool, true, false}
 use Rattle.mufom_plan.specs.declared.plan.Region.{Region}
 use Rattle.mufom_place.specs.declared.placing.Extent.{Extent}
 use Rattle.mufom_text.specs.Words.{Text, each, line, quoted}
@@ -17,6 +18,11 @@ use Rattle.mufom_map.specs.Spot.{public_below, section_at}
 abbrev pub in_module : Option ℕ → Text
 in_module None = []
 in_module (Some j) = counted (codes " module ") j
+
+-- the position of a public's module, after the word; a public without a module is a symbol of the plan
+abbrev pub in_module_or_plan : Option ℕ → Text
+in_module_or_plan None = codes " plan"
+in_module_or_plan (Some j) = in_module (Some j)
 
 -- the position of a region, after the word
 abbrev pub in_region : Option ℕ → Text
@@ -57,21 +63,22 @@ unused_line k entry = line (counted (codes "unused region ") k ++ (codes " " ++ 
 abbrev pub unused_lines : ℕ → List (List ℕ) → Text
 unused_lines k entries = flat_map (unused_line k) entries
 
--- the description of a section or a common, from its number on
+-- the description of a section, a common or a copy, from its number on
 abbrev pub placed_text : ℕ → MappedSection → Text
 placed_text maus s = counted [] s.number ++ (codes " " ++ (hex maus s.base ++ (counted (codes " size ") s.size
     ++ (counted (codes " align ") s.align ++ (codes " " ++ quoted s.name)))))
 
--- the word for an entry: a section has a module, a common has none
-abbrev pub kind_word : Option ℕ → Text
-kind_word (Some j) = codes "section "
-kind_word None = codes "common "
+-- the word for an entry: a section has a module, a common and a copy have none
+abbrev pub kind_word : Bool → Option ℕ → Text
+kind_word copy (Some j) = codes "section "
+kind_word true None = codes "copy "
+kind_word false None = codes "common "
 
 abbrev pub section_line : ℕ → MappedSection → Text
-section_line maus s = line (kind_word s.origin ++ (placed_text maus s ++ (in_module s.origin ++ in_region s.region)))
+section_line maus s = line (kind_word s.copy s.origin ++ (placed_text maus s ++ (in_module s.origin ++ in_region s.region)))
 
 abbrev pub public_text : ℕ → MappedPublic → Text
-public_text maus p = codes "public " ++ (hex maus p.value ++ (codes " " ++ (quoted p.name ++ in_module p.origin)))
+public_text maus p = codes "public " ++ (hex maus p.value ++ (codes " " ++ (quoted p.name ++ in_module_or_plan p.origin)))
 
 abbrev pub public_line : ℕ → MappedPublic → Text
 public_line maus p = line (public_text maus p)
@@ -86,8 +93,8 @@ total_line m = line (counted (codes "sections ") (length m.sections)
 
 -- ---- the whole
 
--- the text of a map, given the names of all files: modules, regions and entries that place no section in their order, sections and commons by base
--- and then by number, publics by value and then by position
+-- the text of a map, given the names of all files: modules, regions and entries that place no section in their order, sections, commons and copies
+-- by base and then by number, publics by value and then by position
 abbrev pub map_text : FileNames → Mapped → Text
 map_text names m =
     each (module_line names) m.origins
@@ -98,7 +105,7 @@ map_text names m =
 
 -- ---- one address
 
--- the line of the section or common that holds the address
+-- the line of the section, common or copy that holds the address
 abbrev pub found_section : ℕ → Option MappedSection → Text
 found_section maus None = line (codes "section none")
 found_section maus (Some s) = section_line maus s
@@ -108,10 +115,13 @@ abbrev pub found_public : ℕ → ℕ → Option MappedPublic → Text
 found_public maus address None = line (codes "public none")
 found_public maus address (Some p) = line (public_text maus p ++ counted (codes " offset ") (address - p.value))
 
--- The lines of an address: the section or common that holds it, and the nearest public in that which is not above it.
+-- The lines of an address: the section, common or copy that holds it, and the nearest public in that which is not above it.
+abbrev pub spot_text : (maus address : ℕ) → List MappedSection → List MappedPublic → Text
+spot_text maus address sections publics = let s = section_at address sections in
+    found_section maus s ++ found_public maus address (public_below address s publics)
+
 abbrev pub address_text : ℕ → Mapped → Text
-address_text address m = let s = section_at address m.sections in
-    found_section m.maus s ++ found_public m.maus address (public_below address s m.publics)
+address_text address m = spot_text m.maus address m.sections m.publics
 
 -- the whole map, or the lines of an address
 abbrev pub view_text : FileNames → Option ℕ → Mapped → Text

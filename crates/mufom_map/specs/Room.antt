@@ -1,6 +1,8 @@
 -- The part of a region that sections use, and the bar that shows it. All numbers are exact. A section is given by its extent: its base, its number
 -- and its size.
-use Rattle.std.specs.Prelude.{ℕ, zero, suc, ◌+◌, ◌-◌, ◌*◌, ◌/◌, ◌==◌, max, min, List, [], ◌∷◌, ◌++◌, if◌then◌else◌}
+use Rattle.std.specs.Prelude.{◌≡◌, ℕ, zero, suc, ◌+◌, ◌-◌, ◌*◌, ◌/◌, ◌==◌, max, min, List, [], ◌∷◌, ◌++◌, Bool, true, false, ◌&&◌, nat_le, nat_lt}
+use Rattle.std.specs.Prelude.{if◌then◌else◌}
+use Rattle.std.specs.List.{list_any}
 use Rattle.mufom_plan.specs.declared.plan.Region.{Region}
 use Rattle.mufom_place.specs.declared.placing.Extent.{Extent}
 
@@ -16,6 +18,24 @@ used_between from to (s ∷ sections) = shared from to s + used_between from to 
 -- the number of a region's addresses that lie in a section, whether or not the region placed that section
 abbrev pub used_in : Region → List Extent → ℕ
 used_in region sections = used_between region.base (region.base + region.size) sections
+
+-- an address lies in a section
+abbrev pub covers : ℕ → Extent → Bool
+covers address s = nat_le s.base address && nat_lt address (s.base + s.size)
+
+-- an address lies in one of the sections
+abbrev pub is_covered : ℕ → List Extent → Bool
+is_covered address sections = list_any (covers address) sections
+
+-- how many of `count` addresses, from this one on, lie in a section
+unfoldable pub covered_from : List Extent → ℕ → ℕ → ℕ
+covered_from sections address zero = 0
+covered_from sections address (suc count) = (if is_covered address sections then 1 else 0) + covered_from sections (address + 1) count
+
+-- no address lies in two of the sections
+abbrev pub ShareNoAddress : List Extent → Type 0
+ShareNoAddress [] = Unit {0}
+ShareNoAddress (s ∷ more) = ((address : ℕ) → covers address s ≡ true → is_covered address more ≡ false) × ShareNoAddress more
 
 -- the number of cells of a bar
 abbrev pub cell_count : ℕ

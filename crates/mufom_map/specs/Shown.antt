@@ -1,5 +1,5 @@
 -- The contents of the map of located sections, as the code has them: each section has its base, and its region and module are looked up.
-use Rattle.std.specs.Prelude.{ℕ, ◌+◌, List, map, false, Option, None, unwrap_or, slice_index_or}
+use Rattle.std.specs.Prelude.{ℕ, ◌+◌, List, map, false, nat_le, Option, None, unwrap_or, slice_index_or}
 use Rattle.std.specs.List.{enumerate_from}
 use Rattle.mufom_sections.specs.declared.section.Section.{Section}
 use Rattle.mufom_place.specs.declared.placing.Extent.{Extent}
@@ -24,9 +24,9 @@ section_extent s = record { base = base_of s.1; section = s.0; size = s.1.size }
 abbrev pub section_extents : List Section → List Extent
 section_extents sections = map section_extent (enumerate_from 0 sections)
 
--- a located section with its number, given the regions of all sections
-abbrev pub shown_section : List Origin → List (Option ℕ) → ℕ × Section → MappedSection
-shown_section origins regions s = record {
+-- a located section with its number, given the regions of all sections, and the position from which on they are copies
+abbrev pub shown_section : List Origin → List (Option ℕ) → ℕ → ℕ × Section → MappedSection
+shown_section origins regions copies s = record {
   number = s.0;
   name = s.1.name;
   size = s.1.size;
@@ -34,8 +34,9 @@ shown_section origins regions s = record {
   base = base_of s.1;
   region = slice_index_or regions s.0 None;
   origin = module_in (map (λ (o : Origin). o.sections) origins) s.0;
+  copy = nat_le copies s.0;
 }
 
 -- all sections, with their numbers
-abbrev pub shown_sections : List Origin → List (Option ℕ) → List Section → List MappedSection
-shown_sections origins regions sections = map (shown_section origins regions) (enumerate_from 0 sections)
+abbrev pub shown_sections : List Origin → List (Option ℕ) → ℕ → List Section → List MappedSection
+shown_sections origins regions copies sections = map (shown_section origins regions copies) (enumerate_from 0 sections)

@@ -1,4 +1,4 @@
--- The section or common that holds an address, and the nearest public in it that is not above the address.
+-- The section, common or copy that holds an address, and the nearest public in it that is not above the address.
 use Rattle.std.specs.Prelude.{ℕ, ◌+◌, ◌==◌, ◌&&◌, nat_le, nat_lt, max, Bool, List, map, filter, fold, Option, None, Some}
 use Rattle.std.specs.List.{find}
 use Rattle.mufom_map.specs.Mapped.{MappedPublic, MappedSection}
@@ -7,7 +7,7 @@ use Rattle.mufom_map.specs.Mapped.{MappedPublic, MappedSection}
 abbrev pub lies_in : ℕ → ℕ → ℕ → Bool
 lies_in base size address = nat_le base address && nat_lt address (base + size)
 
--- the section or common that holds the address; in a location there is at most one
+-- the section, common or copy that holds the address; in a location there is at most one
 abbrev pub section_at : ℕ → List MappedSection → Option MappedSection
 section_at address sections = find (λ (s : MappedSection). lies_in s.base s.size address) sections
 

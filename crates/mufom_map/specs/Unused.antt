@@ -1,5 +1,5 @@
 -- The entries of a plan's lists that place no section. A misspelled name is found among them.
-use Rattle.std.specs.Prelude.{ℕ, List, [], ◌∷◌, ◌&&◌, not, Bool, filter, codes}
+use Rattle.std.specs.Prelude.{ℕ, List, ◌&&◌, not, Bool, filter, codes}
 use Rattle.std.specs.List.{list_any}
 use Rattle.std.specs.Str.{bytes_eq}
 use Rattle.mufom_sections.specs.declared.section.Section.{Section}

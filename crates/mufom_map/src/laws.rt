@@ -1,7 +1,7 @@
 //! Laws about the space that sections use and the order of sections, each the contract of a function that
 //! does nothing.
 
-ghost use Rattle.std.specs.Prelude.{map, ◌≡◌, ◌≤◌, ◌+◌, ◌&&◌, ℕ, List, nat_le, nat_lt, if◌then◌else◌};
+ghost use Rattle.std.specs.Prelude.{map, ◌≡◌, ◌≤◌, ◌+◌, ◌-◌, ◌&&◌, ℕ, List, nat_le, nat_lt, if◌then◌else◌};
 ghost use Rattle.mufom_plan.specs.declared.plan.Plan.{Plan};
 ghost use Rattle.mufom_plan.specs.declared.plan.Region.{Region};
 ghost use Rattle.mufom_place.specs.declared.placing.Extent.{Extent};
@@ -10,7 +10,7 @@ ghost use Rattle.mufom_meaning.specs.declared.located.LocatedParts.{LocatedParts
 ghost use Rattle.mufom_origins.specs.Origins.{FileModule};
 ghost use Rattle.mufom_map.specs.MapText.{by_key, extent_of};
 ghost use Rattle.mufom_map.specs.Mapped.{mapped};
-ghost use Rattle.mufom_map.specs.Room.{cell_count, cell_start, shared, used_between};
+ghost use Rattle.mufom_map.specs.Room.{cell_count, cell_start, covered_from, shared, used_between, used_in, ShareNoAddress};
 
 /// The space that sections use is the number of their addresses: a section shares one address if and only if
 /// it contains it, and what is used between two addresses adds up.
@@ -18,6 +18,15 @@ pub fn used_room_counts_addresses()
     ensures one { (a : ℕ) (s : Extent) → shared a (a + 1) s ≡ (if nat_le s.base a && nat_lt a (s.base + s.size) then 1 else 0) }
     ensures sum { (from between to : ℕ) (sections : List Extent) → from ≤ between → between ≤ to →
         used_between from to sections ≡ used_between from between sections + used_between between to sections }
+{}
+
+/// If no two sections share an address, as in a location, what they use of a region is the number of its addresses
+/// that lie in a section, and so is what they use of each cell of its bar, or between any two addresses.
+pub fn used_room_is_the_number_of_covered_addresses()
+    ensures between { (sections : List Extent) → ShareNoAddress sections → (from to : ℕ) → from ≤ to →
+        used_between from to sections ≡ covered_from sections from (to - from) }
+    ensures region { (sections : List Extent) → ShareNoAddress sections → (region : Region) →
+        used_in region sections ≡ covered_from sections region.base region.size }
 {}
 
 /// The cells of a bar cover a region: the first begins where the region begins, each other one where the one

@@ -9,6 +9,7 @@
 #![tactic(auto)]
 
 mod address;
+mod entries;
 mod laws;
 mod lines;
 mod making;
@@ -22,5 +23,8 @@ mod spot;
 mod unused;
 
 pub use address::print_address;
-pub use laws::{cells_cover_a_region, sections_are_in_order, used_room_counts_addresses};
+pub use laws::{
+    cells_cover_a_region, sections_are_in_order, used_room_counts_addresses,
+    used_room_is_the_number_of_covered_addresses,
+};
 pub use print::print_map;

@@ -1,12 +1,12 @@
 //! The lines of modules, sections, publics and of the start.
 
-ghost use Rattle.std.specs.Prelude.{◌≡◌, ◌+◌, ◌++◌, Some, option_map};
+ghost use Rattle.std.specs.Prelude.{◌≡◌, ◌+◌, ◌++◌, Some, false, option_map};
 ghost use Rattle.std.specs.Fmt.{decimal};
 ghost use Rattle.mufom_text.specs.Fitting.{IsUnitCount};
 ghost use Rattle.mufom_text.specs.Digits.{counted};
 ghost use Rattle.mufom_text.specs.Words.{each, line};
-ghost use Rattle.mufom_map.specs.MapText.{found_public, in_module, in_region, kind_word, module_line, placed_text, public_line, public_text};
-ghost use Rattle.mufom_map.specs.MapText.{section_line, start_line};
+ghost use Rattle.mufom_map.specs.MapText.{found_public, in_module, in_module_or_plan, in_region, kind_word, module_line, placed_text};
+ghost use Rattle.mufom_map.specs.MapText.{public_line, public_text, section_line, start_line};
 ghost use Rattle.mufom_map.specs.Shown.{base_of};
 
 use crate::room::base_of;
@@ -44,6 +44,16 @@ fn in_module<K: Output>(out: &mut K, origin: Option<usize>)
     }
 }
 
+// The position of a public's module, after the word `module`, or the word `plan` for a symbol of the plan.
+fn in_module_or_plan<K: Output>(out: &mut K, origin: Option<usize>)
+    ensures { K.takes out.old out.new (in_module_or_plan origin) }
+{
+    match origin {
+        Some(_) => in_module(out, origin),
+        None => out.put(b" plan"),
+    }
+}
+
 // ---- sections
 
 // The position of a region, after the word `region`.
@@ -56,17 +66,18 @@ fn in_region<K: Output>(out: &mut K, region: Option<u32>)
     }
 }
 
-// The word for an entry: a section has a module, a common has none.
-fn kind_word(origin: Option<usize>) -> &'static [u8]
-    ensures { result.now ≡ kind_word origin }
+// The word for an entry: a section has a module, a common and a copy have none.
+fn kind_word(copy: bool, origin: Option<usize>) -> &'static [u8]
+    ensures { result.now ≡ kind_word copy origin }
 {
     match origin {
         Some(_) => b"section ",
+        None if copy => b"copy ",
         None => b"common ",
     }
 }
 
-// A section or a common, with its addresses.
+// A section, a common or a copy, with its addresses.
 fn placed_text<K: Output>(out: &mut K, maus: u8, number: u32, section: &Section)
     requires { IsUnitCount maus }
     ensures { K.takes out.old out.new (placed_text maus (record {
@@ -77,6 +88,7 @@ fn placed_text<K: Output>(out: &mut K, maus: u8, number: u32, section: &Section)
       base = base_of section.now;
       region = None;
       origin = None;
+      copy = false;
     })) }
 {
     counted(out, b"", number as u128);
@@ -88,7 +100,7 @@ fn placed_text<K: Output>(out: &mut K, maus: u8, number: u32, section: &Section)
     quoted(out, section.name.as_slice());
 }
 
-/// The line of a section, or of a common if it has no module.
+/// The line of a section, or of a copy or a common if it has no module.
 pub(crate) fn section_line<K: Output>(
     out: &mut K,
     maus: u8,
@@ -96,6 +108,7 @@ pub(crate) fn section_line<K: Output>(
     section: &Section,
     region: Option<u32>,
     origin: Option<usize>,
+    copy: bool,
 )
     requires { IsUnitCount maus }
     ensures { K.takes out.old out.new (section_line maus (record {
@@ -106,9 +119,10 @@ pub(crate) fn section_line<K: Output>(
       base = base_of section.now;
       region = region;
       origin = origin;
+      copy = copy;
     })) }
 {
-    out.put(kind_word(origin));
+    out.put(kind_word(copy, origin));
     placed_text(out, maus, number, section);
     in_module(out, origin);
     in_region(out, region);
@@ -126,7 +140,7 @@ fn public_text<K: Output>(out: &mut K, maus: u8, public: &PublicValue, origin: O
     hex(out, maus, public.value);
     out.put(b" ");
     quoted(out, public.name.as_slice());
-    in_module(out, origin);
+    in_module_or_plan(out, origin);
 }
 
 /// The line of a public.

@@ -1,14 +1,14 @@
 -- Where extents move an address.
-use Rattle.std.proofs.Common.{◌≡◌, ℕ, suc, ◌+◌, ◌-◌, ◌<◌, ◌≤◌, ◌⊎◌, inl, inr, List, [], ◌∷◌, length, get_or, Bool, true, false, ◌&&◌, refl, sym, ◌∙◌, ap, subst}
+use Rattle.std.proofs.Common.{◌≡◌, ℕ, suc, ◌+◌, ◌-◌, ◌<◌, ◌≤◌, ◌⊎◌, inl, inr, List, [], ◌∷◌, length, get_or, Bool, true, false, ◌&&◌, refl, sym, ◌∙◌, ap}
 use Rattle.std.proofs.Common.{arith}
 use Rattle.std.specs.Prelude.{nat_le, nat_lt, if◌then◌else◌}
 use Rattle.std.specs.List.Sorted.{IsPermutation}
 use Rattle.std.proofs.lemmas.List.Sorted.{Contains-permutation}
-use Rattle.mufom_numbers.proofs.Choices.{of_lt, is_lt, of_not_lt, not_lt, of_not_le, not_le}
+use Rattle.mufom_numbers.proofs.Choices.{of_lt, is_lt}
 use Rattle.mufom_meaning.proofs.Members.{In, In-Contains, Contains-In}
 use Rattle.mufom_meaning.proofs.Tests.{of_le, le_of}
 use Rattle.mufom_moves.specs.declared.shift.Shift.{Shift}
-use Rattle.mufom_moves.specs.Shifts.{HasAddress, has_address, shifted, ShareNoAddress, AreRisingFrom, MoveAlikeFrom, EndsAfter}
+use Rattle.mufom_moves.specs.Shifts.{HasAddress, has_address, shifted, ShareNoAddress, AreRisingFrom, MoveAlikeFrom}
 
 -- ---- the test
 

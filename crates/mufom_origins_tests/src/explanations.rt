@@ -1,9 +1,10 @@
 //! What is printed of a common that does not fit its region, and of undefined names.
 
-ghost use Rattle.std.specs.Prelude.{◌∷◌, []};
+ghost use Rattle.std.specs.Prelude.{◌∷◌, [], IsTrue};
 ghost use Rattle.mufom_image.specs.Placements.{IsSoundPlan};
 ghost use Rattle.mufom_image.specs.Refusals.{IsMet};
-ghost use Rattle.mufom_meaning.specs.LocateAnswer.{locate_answer};
+ghost use Rattle.mufom_planned.specs.Planned.{copied_answer};
+ghost use Rattle.mufom_planned.specs.PlanLaws.{AreLoadedInPlace};
 ghost use Rattle.mufom_names.specs.Names.{names_of, AreDistinct};
 
 use mufom_explain::{FlatModule, LocateContext, explain_locate};
@@ -106,12 +107,25 @@ fn files(rt: &impl Abort, alloc: Global) -> Vec<Text> {
     names
 }
 
+// Whether each region is loaded where it is.
+fn loads_in_place(plan: &Plan) -> bool
+    ensures { IsTrue result → AreLoadedInPlace plan.now.regions }
+{
+    plan.regions
+        .as_slice()
+        .iter()
+        .all(|region| region.load.is_none())
+}
+
 // The error of a module that is not located by a plan.
 fn refusal(rt: &impl Abort, alloc: Global, object: &Module, plan: &Plan) -> LocateRefusal
     requires { IsSoundPlan plan.now }
     ensures names { AreDistinct (names_of «object».now.names.publics) }
-    ensures met { IsMet (locate_answer («object».now ∷ []) plan.now) result }
+    ensures met { IsMet (copied_answer («object».now ∷ []) plan.now) result }
 {
+    if !loads_in_place(plan) {
+        panic!(rt; "a region is loaded elsewhere");
+    }
     let names = &object.parts().names;
     assert!(rt; names.publics.len() < 1 << 32);
     let None = names.duplicate() else {
@@ -151,6 +165,7 @@ fn explains(
         flat: &flat,
         origins: &origins,
         object,
+        own: object,
         plan: &plan,
     };
     let details = explain_locate(alloc, context, &refusal).expect(rt, "memory");

@@ -14,6 +14,7 @@ use Rattle.mufom_build_text.specs.declared.refusal.BuildReason.TheVariants as re
 use Rattle.mufom_build.specs.declared.refusal.BuildRefusal.TheVariants as build
 use Rattle.mufom_module.specs.declared.module.Defect.{Defect}
 use Rattle.mufom_module.specs.declared.module.Defect.TheVariants as defects
+use Rattle.mufom_outcome.specs.declared.outcome.BinRefusal.TheVariants as bins
 use Rattle.mufom_outcome.specs.declared.outcome.Refusal.TheVariants as refusal
 use Rattle.mufom_outcome.specs.Complaint.{build_reason_text, defect_text, reason_text}
 use Rattle.mufom_outcome.specs.Topic.{txt_name}
@@ -118,8 +119,10 @@ each-error (refusal.Locate (locate.LoadOutside n a) maus) has = refl
 each-error (refusal.Locate (locate.LoadedTwice a) maus) has = refl
 each-error (refusal.Locate (locate.ImageLimit count) maus) has = refl
 each-error (refusal.Locate locate.NoMemory maus) has = absurd (true≢false has)
+each-error (refusal.SharedName name) has = refl
 each-error (refusal.Keep name) has = refl
-each-error (refusal.Bin count) has = refl
+each-error (refusal.Bin (bins.TooLong count)) has = refl
+each-error (refusal.Bin (bins.Region name)) has = refl
 each-error (refusal.Text r) has = txt-topic r.reason
 each-error (refusal.Build (build.At row column reason)) has = line-topic reason
 each-error (refusal.Build (build.Module defect)) has = defect-topic defect

@@ -21,6 +21,8 @@ use Rattle.mufom_link.specs.declared.refusal.LinkRefusal.TheVariants as link
 use Rattle.mufom_text.specs.Show.{kind_text, order_letter}
 use Rattle.mufom_outcome.specs.declared.outcome.Input.{Input}
 use Rattle.mufom_outcome.specs.declared.outcome.Input.TheVariants as input
+use Rattle.mufom_outcome.specs.declared.outcome.BinRefusal.{BinRefusal}
+use Rattle.mufom_outcome.specs.declared.outcome.BinRefusal.TheVariants as bins
 use Rattle.mufom_outcome.specs.declared.outcome.Outcome.{Outcome}
 use Rattle.mufom_outcome.specs.declared.outcome.Outcome.TheVariants as outcome
 use Rattle.mufom_outcome.specs.declared.outcome.Refusal.{Refusal}
@@ -213,6 +215,11 @@ build_text (build.At row column reason) =
 build_text (build.Module defect) = codes ": " ++ defect_text defect
 build_text build.NoMemory = []
 
+-- the error in what `bin` writes
+abbrev pub bin_text : BinRefusal → Text
+bin_text (bins.TooLong count) = codes "TooLong " ++ decimal count
+bin_text (bins.Region name) = codes "Region " ++ quoted name
+
 abbrev pub refusal_text : Refusal → Text
 refusal_text (refusal.Read n r) = codes "file " ++ decimal n ++ codes " at " ++ decimal r.offset ++ codes ": " ++ reason_text r.reason
 refusal_text (refusal.InputLimit n) = codes "file " ++ decimal n ++ codes ": InputLimit"
@@ -222,7 +229,8 @@ refusal_text (refusal.Plan p) = codes "plan: " ++ plan_text p
 refusal_text (refusal.Link l) = codes "link: " ++ link_text l
 refusal_text (refusal.Locate l maus) = codes "locate: " ++ locate_text maus l
 refusal_text (refusal.Keep name) = codes "keep: Unknown " ++ quoted name
-refusal_text (refusal.Bin count) = codes "bin: TooLong " ++ decimal count
+refusal_text (refusal.SharedName name) = codes "locate: Duplicate " ++ quoted name
+refusal_text (refusal.Bin b) = codes "bin: " ++ bin_text b
 refusal_text (refusal.Text r) = codes "text line " ++ decimal r.line ++ codes ": " ++ txt_reason_text r.reason
 refusal_text (refusal.Build r) = codes "listing" ++ build_text r
 

@@ -6,6 +6,8 @@ use Rattle.mufom_link.specs.declared.refusal.LinkRefusal.{LinkRefusal}
 use Rattle.mufom_link.specs.declared.refusal.LinkRefusal.TheVariants as link
 use Rattle.mufom_image.specs.declared.refusal.LocateRefusal.{LocateRefusal}
 use Rattle.mufom_image.specs.declared.refusal.LocateRefusal.TheVariants as locate
+use Rattle.mufom_locating.specs.declared.refusal.PlannedRefusal.{PlannedRefusal}
+use Rattle.mufom_locating.specs.declared.refusal.PlannedRefusal.TheVariants as planned
 use Rattle.mufom_prune.specs.declared.refusal.PruneRefusal.{PruneRefusal}
 use Rattle.mufom_prune.specs.declared.refusal.PruneRefusal.TheVariants as prune
 use Rattle.mufom_outcome.specs.declared.cause.Cause.{Cause}
@@ -31,6 +33,11 @@ abbrev pub outcome_of_locate : ℕ → LocateRefusal → Outcome
 outcome_of_locate maus locate.NoMemory = outcome.NoMemory
 outcome_of_locate maus r = outcome.Refused (refusal.Locate r maus)
 
+-- the outcome if modules cannot be located by a plan
+abbrev pub outcome_of_planned : ℕ → PlannedRefusal → Outcome
+outcome_of_planned maus (planned.SharedName name) = outcome.Refused (refusal.SharedName name)
+outcome_of_planned maus (planned.Locate r) = outcome_of_locate maus r
+
 -- the outcome if nothing can be kept for a name
 abbrev pub outcome_of_prune : PruneRefusal → Outcome
 outcome_of_prune prune.NoMemory = outcome.NoMemory
@@ -41,4 +48,5 @@ abbrev pub cause_outcome : Cause → Outcome
 cause_outcome (cause.Outcome o) = o.now
 cause_outcome (cause.Link r) = outcome.Refused (refusal.Link r.now)
 cause_outcome (cause.Keep name) = outcome.Refused (refusal.Keep name.now)
+cause_outcome (cause.SharedName name) = outcome.Refused (refusal.SharedName name.now)
 cause_outcome (cause.Locate r maus) = outcome.Refused (refusal.Locate r.now maus)

@@ -17,6 +17,8 @@ use Rattle.mufom_titxt.specs.declared.refusal.TxtReason.{TxtReason}
 use Rattle.mufom_titxt.specs.declared.refusal.TxtReason.TheVariants as txt
 use Rattle.mufom_build.specs.declared.refusal.BuildRefusal.{BuildRefusal}
 use Rattle.mufom_build.specs.declared.refusal.BuildRefusal.TheVariants as build
+use Rattle.mufom_outcome.specs.declared.outcome.BinRefusal.{BinRefusal}
+use Rattle.mufom_outcome.specs.declared.outcome.BinRefusal.TheVariants as bins
 use Rattle.mufom_outcome.specs.declared.outcome.Outcome.{Outcome}
 use Rattle.mufom_outcome.specs.declared.outcome.Outcome.TheVariants as outcome
 use Rattle.mufom_outcome.specs.declared.outcome.Refusal.{Refusal}
@@ -70,6 +72,10 @@ build_name (build.At row column reason) = build_reason_text reason
 build_name (build.Module defect) = defect_text defect
 build_name build.NoMemory = []
 
+abbrev pub bin_name : BinRefusal → Text
+bin_name (bins.TooLong count) = codes "TooLong"
+bin_name (bins.Region name) = codes "Region"
+
 abbrev pub refusal_name : Refusal → Text
 refusal_name (refusal.Read n r) = reason_text r.reason
 refusal_name (refusal.InputLimit n) = codes "InputLimit"
@@ -79,7 +85,8 @@ refusal_name (refusal.Plan p) = plan_name p
 refusal_name (refusal.Link l) = link_name l
 refusal_name (refusal.Locate l maus) = locate_name l
 refusal_name (refusal.Keep name) = codes "Unknown"
-refusal_name (refusal.Bin count) = codes "TooLong"
+refusal_name (refusal.SharedName name) = codes "Duplicate"
+refusal_name (refusal.Bin b) = bin_name b
 refusal_name (refusal.Text r) = txt_name r.reason
 refusal_name (refusal.Build r) = build_name r
 

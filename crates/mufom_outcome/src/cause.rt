@@ -14,6 +14,8 @@ pub enum Cause<'a> {
     Link(&'a LinkRefusal),
     /// No public symbol has this name, which should be kept.
     Keep(&'a Bytes),
+    /// A public symbol has this name, which a symbol of the plan has too.
+    SharedName(&'a Bytes),
     /// Files cannot be located. The number is the length of an address in units.
     Locate(&'a LocateRefusal, u8),
 }

@@ -7,7 +7,7 @@ ghost use Rattle.mufom_outcome.specs.Complaint.{build_reason_text, complaint, de
 ghost use Rattle.mufom_outcome.specs.Complaint.{txt_reason_text};
 
 use crate::locate_text::{push_locate, push_region};
-use crate::outcome::{Input, Outcome, Refusal};
+use crate::outcome::{BinRefusal, Input, Outcome, Refusal};
 use mufom_build::{BuildReason, BuildRefusal};
 use mufom_image::LocateRefusal;
 use mufom_link::LinkRefusal;
@@ -238,6 +238,16 @@ pub fn locate_line(alloc: Global, refusal: &LocateRefusal, maus: u8) -> Result<V
     Ok(line)
 }
 
+/// The line of `Duplicate` in locating: a symbol of the plan has the name of a public symbol.
+pub fn shared_line(alloc: Global, name: &Bytes) -> Result<Vec<u8>, NoMemory>
+    ensures { IfOk result (λ text. text.items ≡ complaint (Outcome.Refused (Refusal.SharedName name.now))) }
+{
+    let mut line = Vec::from_slice(alloc, b"refused: locate: Duplicate ")?;
+    line.extend_from_slice(quoted_name(alloc, name.as_slice())?.as_slice())?;
+    line.push(b'\n')?;
+    Ok(line)
+}
+
 /// The line of `Unknown`: no public symbol has the name of `--keep`.
 pub fn keep_line(alloc: Global, name: &Bytes) -> Result<Vec<u8>, NoMemory>
     ensures { IfOk result (λ text. text.items ≡ complaint (Outcome.Refused (Refusal.Keep name.now))) }
@@ -248,11 +258,31 @@ pub fn keep_line(alloc: Global, name: &Bytes) -> Result<Vec<u8>, NoMemory>
     Ok(line)
 }
 
-// The line for a raw image with too many bytes.
+// The line for a file of `bin` with too many bytes.
 fn raw_line(alloc: Global, count: u128) -> Result<String, NoMemory>
-    ensures { IfOk result (λ text. string_bytes text ≡ complaint (Outcome.Refused (Refusal.Bin count))) }
+    ensures { IfOk result (λ text. string_bytes text ≡ complaint (Outcome.Refused (Refusal.Bin (BinRefusal.TooLong count)))) }
 {
     Ok(format!(in alloc; "refused: bin: TooLong {count}\n")?)
+}
+
+// The line for a name that no region has.
+fn unknown_region_line(alloc: Global, name: &Bytes) -> Result<Vec<u8>, NoMemory>
+    ensures { IfOk result (λ text. text.items ≡ complaint (Outcome.Refused (Refusal.Bin (BinRefusal.Region name.now)))) }
+{
+    let mut line = Vec::from_slice(alloc, b"refused: bin: Region ")?;
+    line.extend_from_slice(quoted_name(alloc, name.as_slice())?.as_slice())?;
+    line.push(b'\n')?;
+    Ok(line)
+}
+
+// The line of an error in what `bin` writes.
+fn bin_line(alloc: Global, refusal: &BinRefusal) -> Result<Vec<u8>, NoMemory>
+    ensures { IfOk result (λ text. text.items ≡ complaint (Outcome.Refused (Refusal.Bin refusal.now))) }
+{
+    match refusal {
+        BinRefusal::TooLong(count) => Ok(raw_line(alloc, *count)?.into_bytes()),
+        BinRefusal::Region(name) => unknown_region_line(alloc, name),
+    }
 }
 
 // Adds the error of a line of a text.
@@ -351,8 +381,9 @@ pub fn refusal_line(alloc: Global, refusal: &Refusal) -> Result<Vec<u8>, NoMemor
         Refusal::Plan(refusal) => plan_line(alloc, *refusal),
         Refusal::Link(refusal) => link_line(alloc, refusal),
         Refusal::Locate(refusal, maus) => locate_line(alloc, refusal, *maus),
+        Refusal::SharedName(name) => shared_line(alloc, name),
         Refusal::Keep(name) => keep_line(alloc, name),
-        Refusal::Bin(count) => Ok(raw_line(alloc, *count)?.into_bytes()),
+        Refusal::Bin(refusal) => bin_line(alloc, refusal),
         Refusal::Text(refusal) => text_line(alloc, *refusal),
         Refusal::Build(refusal) => Ok(listing_line(alloc, *refusal)?.into_bytes()),
     }

@@ -21,6 +21,15 @@ pub enum Input {
     File(u32),
 }
 
+/// Why `bin` does not write the bytes of a location.
+#[derive(Debug, Drop)]
+pub enum BinRefusal {
+    /// The file would have this many bytes, which is too many.
+    TooLong(u128),
+    /// No region of the plan has this name.
+    Region(Bytes),
+}
+
 /// Why a run is refused.
 #[derive(Debug, Drop)]
 pub enum Refusal {
@@ -38,10 +47,12 @@ pub enum Refusal {
     Link(LinkRefusal),
     /// The files cannot be located. The number is the length of an address in units.
     Locate(LocateRefusal, u8),
+    /// A public symbol of the modules that are located has this name, which a symbol of the plan has too.
+    SharedName(Bytes),
     /// No public symbol of the linked modules has this name, which should be kept.
     Keep(Bytes),
-    /// The raw image would have this many bytes, which is too many.
-    Bin(u128),
+    /// The files can be located, but `bin` does not write the bytes.
+    Bin(BinRefusal),
     /// The file is not a valid TI-TXT text.
     Text(TxtRefusal),
     /// The file is not the listing of a module.

@@ -1,11 +1,12 @@
 //! The outcome of a run that an error of a layer ends.
 
 ghost use Rattle.std.specs.Prelude.{◌≡◌};
-ghost use Rattle.mufom_outcome.specs.Outcomes.{outcome_of_link as of_link, outcome_of_locate as of_locate, outcome_of_prune as of_prune, stop_answer};
+ghost use Rattle.mufom_outcome.specs.Outcomes.{outcome_of_link as of_link, outcome_of_locate as of_locate, outcome_of_planned as of_planned, outcome_of_prune as of_prune, stop_answer};
 
 use crate::outcome::{Outcome, Refusal};
 use mufom_image::LocateRefusal;
 use mufom_link::LinkRefusal;
+use mufom_locating::PlannedRefusal;
 use mufom_prune::PruneRefusal;
 use mufom_words::WordsStop;
 
@@ -38,6 +39,16 @@ pub fn outcome_of_locate(maus: u8, refusal: LocateRefusal) -> Outcome
     match refusal {
         LocateRefusal::NoMemory => Outcome::NoMemory,
         refusal => Outcome::Refused(Refusal::Locate(refusal, maus)),
+    }
+}
+
+/// The outcome if modules cannot be located by a plan. `maus` is the length of an address in units.
+pub fn outcome_of_planned(maus: u8, refusal: PlannedRefusal) -> Outcome
+    ensures { result ≡ of_planned maus refusal }
+{
+    match refusal {
+        PlannedRefusal::SharedName(name) => Outcome::Refused(Refusal::SharedName(name)),
+        PlannedRefusal::Locate(refusal) => outcome_of_locate(maus, refusal),
     }
 }
 

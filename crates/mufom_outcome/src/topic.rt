@@ -2,7 +2,7 @@
 
 ghost use Rattle.std.specs.Prelude.{◌≡◌, map, option_map};
 ghost use Rattle.std.specs.String.{string_bytes};
-ghost use Rattle.mufom_outcome.specs.Topic.{build_name as build_text, command_name as named};
+ghost use Rattle.mufom_outcome.specs.Topic.{bin_name as bin_text, build_name as build_text, command_name as named};
 ghost use Rattle.mufom_outcome.specs.Topic.{link_name as link_text, locate_name as locate_text, place_name as place_text};
 ghost use Rattle.mufom_outcome.specs.Topic.{plan_name as plan_text, refusal_name as refusal_text, topic_of as topic, txt_name as txt_text};
 ghost use Rattle.mufom_outcome.specs.Outcomes.{cause_outcome};
@@ -10,7 +10,7 @@ ghost use Rattle.mufom_outcome.specs.Topic.{usage_topic as usage};
 
 use crate::cause::Cause;
 use crate::error_lines::{build_reason_name, defect_name, reason_name};
-use crate::outcome::{Outcome, Refusal};
+use crate::outcome::{BinRefusal, Outcome, Refusal};
 use mufom_build::BuildRefusal;
 use mufom_help::commands::command_topic;
 use mufom_help::{command_list, topic_text};
@@ -75,6 +75,16 @@ fn locate_name(refusal: &LocateRefusal) -> &'static str
     }
 }
 
+// The name of an error in what `bin` writes.
+fn bin_name(refusal: &BinRefusal) -> &'static str
+    ensures { result.now ≡ bin_text refusal.now }
+{
+    match refusal {
+        BinRefusal::TooLong(_) => "TooLong",
+        BinRefusal::Region(_) => "Region",
+    }
+}
+
 // The name of an error in a TI-TXT text.
 fn txt_name(reason: TxtReason) -> &'static str
     ensures { result.now ≡ txt_text reason }
@@ -112,8 +122,9 @@ fn refusal_name(refusal: &Refusal) -> &'static str
         Refusal::Plan(refusal) => plan_name(*refusal),
         Refusal::Link(refusal) => link_name(refusal),
         Refusal::Locate(refusal, _) => locate_name(refusal),
+        Refusal::SharedName(_) => "Duplicate",
         Refusal::Keep(_) => "Unknown",
-        Refusal::Bin(_) => "TooLong",
+        Refusal::Bin(refusal) => bin_name(refusal),
         Refusal::Text(refusal) => txt_name(refusal.reason),
         Refusal::Build(refusal) => build_name(*refusal),
     }
@@ -164,6 +175,7 @@ pub fn topic_of(words: &[String], cause: &Cause<'_>) -> Option<&'static str>
         Cause::Outcome(outcome) => outcome_topic(words, outcome),
         Cause::Link(refusal) => topic_text(link_name(refusal)),
         Cause::Keep(_) => topic_text("Unknown"),
+        Cause::SharedName(_) => topic_text("Duplicate"),
         Cause::Locate(refusal, _) => topic_text(locate_name(refusal)),
     }
 }

@@ -53,7 +53,8 @@ overlaps_never (x ∷ y ∷ more) = by_case (nat_lt y.base (x.base + x.size)) (o
   by_case true later = λ same. cc
   by_case false later = later
 
-fits_never : (width : ℕ) (regions : List Region) (given : List Placing) (whole : List Section) → fit_refusal width regions given whole ≢ Some place_refusal.NoMemory
+fits_never : (width : ℕ) (regions : List Region) (given : List Placing) (whole : List Section)
+    → fit_refusal width regions given whole ≢ Some place_refusal.NoMemory
 fits_never width regions given whole =
     either_never place_refusal.NoMemory (first_some (misfit_by (2 ^ width) regions given) (numbered whole)) _
     (first_never (misfit_by (2 ^ width) regions given) place_refusal.NoMemory (λ t.
@@ -80,7 +81,8 @@ later_never : (ms : List Parts) (plan : Plan) → after_placing ms plan ≢ Some
 later_never ms plan =
     either_never lacking _ _ (mapped_never undefined lacking (λ name same. cc) (first_undefined ms))
     (either_never lacking _ _ (mapped_never common_unplaced lacking (λ name same. cc) (first_unplaced_common ms plan))
-    (either_never lacking _ _ (first_never (cycle_at ms) lacking (λ name. chosen_never lacking (cycle name) (λ same. cc) (is_on_cycle ms name)) (public_names ms))
+    (either_never lacking _ _ (first_never (cycle_at ms) lacking
+    (λ name. chosen_never lacking (cycle name) (λ same. cc) (is_on_cycle ms name)) (public_names ms))
     (either_never lacking _ _ (chosen_never lacking (image_limit (loaded_total ms)) (λ same. cc) (nat_lt MOST_IMAGE_BYTES (loaded_total ms)))
     (λ same. walk_sound ms (setting ms (planned_bases ms plan)) lacking same))))
 

@@ -69,11 +69,13 @@ module _ (f : Numbered → ℕ) where
       λ i. if t.1.size == 0 then rest i else record { base = f t; section = t.0; size = t.1.size } ∷ rest i
 
   module _ (width : ℕ) (regions : List Region) (given : List Placing) (same : (t : Numbered) → f t ≡ (site_by given t).base) where
-    fits_there : (t : Numbered) → misfit_by (2 ^ width) regions given t ≡ None → is_misfit (2 ^ width) [] (record { base = f t; region = None }) t.1.size ≡ false
+    fits_there : (t : Numbered) → misfit_by (2 ^ width) regions given t ≡ None
+        → is_misfit (2 ^ width) [] (record { base = f t; region = None }) t.1.size ≡ false
     fits_there t e =
         let site = site_by given t in
         let all = chosen_none (is_misfit (2 ^ width) regions site t.1.size) _ e in
-        let inside = either_false (nat_le (2 ^ width) site.base || nat_lt (2 ^ width) (site.base + t.1.size)) (is_past regions site.region (site.base + t.1.size)) all in
+        let inside = either_false (nat_le (2 ^ width) site.base || nat_lt (2 ^ width) (site.base + t.1.size))
+        (is_past regions site.region (site.base + t.1.size)) all in
         ap (λ b. (nat_le (2 ^ width) b || nat_lt (2 ^ width) (b + t.1.size)) || false) (same t)
         ∙ ap (λ b. b || false) inside.0
 
@@ -92,7 +94,7 @@ pub placed_again : (width : ℕ) (regions : List Region) (given : List Placing) 
 placed_again width regions given whole e =
     ap (λ sections. place_refusal width no_regions sections []) (placed_at f whole)
     ∙ (λ i. unplaced i or_else (first_some (misfit_at (2 ^ width) no_regions placed []) (numbers i)
-    or_else first_overlap (in_order (extents (numbers i) (map (λ (s : Numbered). (site_with s.1.base (placing_of (placings no_regions placed []) s.0)).base) (numbers i))))))
+    or_else first_overlap (in_order (extents (numbers i) (map base_again (numbers i))))))
     ∙ (λ i. misfits i or_else first_overlap (in_order (extents (map (numbered_at f) ts) (based i))))
     ∙ ap (λ xs. first_overlap (in_order xs)) (same_extents f ts)
     ∙ parts.1
@@ -109,6 +111,9 @@ placed_again width regions given whole e =
     parts : (first_some (misfit_by (2 ^ width) regions given) ts ≡ None) × (first_overlap (in_order (extents ts (map f ts))) ≡ None)
     parts = none_of (first_some (misfit_by (2 ^ width) regions given) ts) (first_overlap (in_order (extents ts (map f ts)))) e
 
+    base_again : Numbered → ℕ
+    base_again s = (site_with s.1.base (placing_of (placings no_regions placed []) s.0)).base
+
     numbers : numbered (placed ++ []) ≡ map (numbered_at f) ts
     numbers = ap numbered (append-nil placed) ∙ numbers_again f 0 whole
 
@@ -118,9 +123,8 @@ placed_again width regions given whole e =
     misfits : first_some (misfit_at (2 ^ width) no_regions placed []) (map (numbered_at f) ts) ≡ None
     misfits = none_misfit f width regions given (λ t. refl) (placings no_regions placed []) ts parts.0
 
-    based : map (λ (s : Numbered). (site_with s.1.base (placing_of (placings no_regions placed []) s.0)).base) (map (numbered_at f) ts) ≡ map f ts
+    based : map base_again (map (numbered_at f) ts) ≡ map f ts
     based = bases_there ts where
-      bases_there : (ts : List Numbered)
-          → map (λ (s : Numbered). (site_with s.1.base (placing_of (placings no_regions placed []) s.0)).base) (map (numbered_at f) ts) ≡ map f ts
+      bases_there : (ts : List Numbered) → map base_again (map (numbered_at f) ts) ≡ map f ts
       bases_there [] = refl
       bases_there (t ∷ more) = ap (λ rest. f t ∷ rest) (bases_there more)

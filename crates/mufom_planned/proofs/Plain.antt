@@ -29,7 +29,7 @@ use Rattle.mufom_planned.specs.PlanLaws.{AreLoadedInPlace, PlainPlansMeanTheSame
 
 -- ---- there is no copy
 
-none_from : (all : List Region) (sections : List Section) (loaded : List Placing) (n : ℕ) (regions : List Region) → AreLoadedInPlace regions
+pub none_from : (all : List Region) (sections : List Section) (loaded : List Placing) (n : ℕ) (regions : List Region) → AreLoadedInPlace regions
     → copies_from all sections loaded n regions ≡ []
 none_from all sections loaded n [] none = refl
 none_from all sections loaded n (region ∷ regions) none =

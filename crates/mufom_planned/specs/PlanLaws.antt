@@ -8,6 +8,7 @@ use Rattle.mufom_module.specs.Defects.{IsValid}
 use Rattle.mufom_module.specs.Written.{weight}
 use Rattle.mufom_plan.specs.declared.plan.Region.{Region}
 use Rattle.mufom_plan.specs.declared.plan.Plan.{Plan}
+use Rattle.mufom_plan.specs.declared.plan.PlanSymbol.{PlanSymbol}
 use Rattle.mufom_plan.specs.Names.{AreDistinctNames, symbol_names}
 use Rattle.mufom_plan.specs.Symbols.{names_size, HaveShortNames}
 use Rattle.mufom_meaning.specs.declared.located.LocatedParts.{LocatedParts}
@@ -20,7 +21,8 @@ use Rattle.mufom_meaning.specs.LocationLaws.{asking_count}
 use Rattle.mufom_meaning.specs.Absolute.{absolute_of, no_regions}
 use Rattle.mufom_meaning.specs.Staging.{AreValid, HaveDescriptor, IsStaged}
 use Rattle.mufom_meaning.specs.StagingLaws.{total_weight, MeansTheSame}
-use Rattle.mufom_planned.specs.PlanSymbols.{with_symbols, first_shared}
+use Rattle.mufom_planned.specs.Layout.{layout}
+use Rattle.mufom_planned.specs.PlanSymbols.{followed_by, with_names, with_symbols, first_shared}
 use Rattle.mufom_planned.specs.Planned.{of_list, planned_answer, IsPlanned}
 use Rattle.mufom_planned.specs.Shown.{shown_list}
 
@@ -73,6 +75,22 @@ abbrev pub PlannedLocationsExist : Type 0
 PlannedLocationsExist =
     (ms : List Parts) (plan : Plan) → ms ≢ [] → AreValid ms → HasSoundSymbols plan → link_answer ms ≡ None → planned_answer ms plan ≡ None
     → (r : LocatedParts) × IsPlanned ms plan r
+
+-- The public names of a list with symbols behind it do not depend on the values of the symbols.
+abbrev pub NamesDoNotDependOnValues : Type 0
+NamesDoNotDependOnValues =
+    (ms : List Parts) (symbols : List PlanSymbol) (numbers others : PlanSymbol → ℕ)
+    → public_names (followed_by ms numbers symbols) ≡ public_names (followed_by ms others symbols)
+
+-- Where a plan puts a list with symbols behind it does not depend on the values of the symbols.
+abbrev pub PlacementDoesNotDependOnValues : Type 0
+PlacementDoesNotDependOnValues =
+    (ms : List Parts) (plan : Plan) (symbols : List PlanSymbol) (numbers others : PlanSymbol → ℕ)
+    → layout (followed_by ms numbers symbols) plan ≡ layout (followed_by ms others symbols) plan
+
+-- So the layout of the list with the plan's symbols is that from which their values are computed.
+abbrev pub SymbolsHaveTheirOwnLayout : Type 0
+SymbolsHaveTheirOwnLayout = (ms : List Parts) (plan : Plan) → layout (with_symbols ms plan) plan ≡ layout (with_names ms plan) plan
 
 -- A list has at most one location by a plan.
 abbrev pub PlannedLocationIsSingle : Type 0

@@ -3,12 +3,22 @@
 
 ghost use Rattle.mufom_planned.specs.PlanLaws.{PlainPlansMeanTheSame, PlannedIsLocatable, StagedPlansMeanTheSame};
 ghost use Rattle.mufom_planned.specs.PlanLaws.{PlannedAbsoluteIsLocatedAsItself, PlannedAbsoluteIsValid, PlannedAbsoluteWeighs};
+ghost use Rattle.mufom_planned.specs.PlanLaws.{NamesDoNotDependOnValues, PlacementDoesNotDependOnValues, SymbolsHaveTheirOwnLayout};
 ghost use Rattle.mufom_planned.specs.PlanLaws.{PlannedLocationIsSingle, PlannedLocationsExist};
 
 /// A plan without symbols, all of whose regions are loaded where they are, means what it means without
 /// symbols and copies: the same fact is returned in place of a location, and the location is the same.
 pub fn plain_plans_mean_the_same()
     ensures { PlainPlansMeanTheSame }
+{}
+
+/// The public names of a list with the symbols of a plan do not depend on the values of the symbols, and neither
+/// does the place of any section, common or copy. So the places that the values are computed from are those of
+/// the list that has the values.
+pub fn places_do_not_depend_on_values()
+    ensures names { NamesDoNotDependOnValues }
+    ensures places { PlacementDoesNotDependOnValues }
+    ensures own { SymbolsHaveTheirOwnLayout }
 {}
 
 /// A list that was linked in stages is located by a plan as the list of its leaves, with the plan's symbols and

@@ -7,7 +7,8 @@
 mod laws;
 
 pub use laws::{
-    plain_plans_mean_the_same, planned_absolute_is_located_as_itself, planned_absolute_is_valid,
-    planned_absolute_weighs, planned_is_locatable, planned_location_is_single,
-    planned_locations_exist, staged_plans_mean_the_same,
+    places_do_not_depend_on_values, plain_plans_mean_the_same,
+    planned_absolute_is_located_as_itself, planned_absolute_is_valid, planned_absolute_weighs,
+    planned_is_locatable, planned_location_is_single, planned_locations_exist,
+    staged_plans_mean_the_same,
 };

@@ -1,28 +1,27 @@
 -- Locating accepted files is done exactly where no fact stands against their flat list.
 use Rattle.std.proofs.Common.{◌≡◌, ◌⊎◌, ◌≤◌, ℕ, Bool, false, true, nat_lt, List, length, Option, Some, None, refl, sym, subst, arith, inl, inr}
-use Rattle.std.proofs.lemmas.Bool.{ltb-true}
-use Rattle.mufom_numbers.specs.declared.limits.TheConstants.{MOST_FILE_BYTES}
 use Rattle.mufom_host.specs.World.{HoldBytes, NamedFile}
 use Rattle.mufom_map.specs.Mapped.{Mapped}
 use Rattle.mufom_origins.specs.Words.{FileNames}
+use Rattle.mufom_origins.specs.Origins.{origins_of}
 use Rattle.mufom_module.specs.declared.module.Parts.{Parts}
 use Rattle.mufom_plan.specs.declared.plan.Plan.{Plan}
 use Rattle.mufom_words.specs.Tree.{tree_of}
 use Rattle.mufom_meaning.specs.declared.located.LocatedParts.{LocatedParts}
-use Rattle.mufom_meaning.specs.Facts.{LocateFact}
 use Rattle.mufom_meaning.specs.LinkAnswer.{link_answer}
-use Rattle.mufom_meaning.specs.LocateAnswer.{locate_answer}
-use Rattle.mufom_meaning.specs.Location.{IsLocation}
+use Rattle.mufom_planned.specs.Planned.{IsPlanned, PlanFact, planned_answer}
 use Rattle.mufom_write.specs.Raw.{raw_image}
 use Rattle.mufom_groups.specs.Work.{gives, stops, Work}
 use Rattle.mufom_groups.proofs.Works.{value-same}
+use Rattle.mufom_outcome.specs.declared.outcome.BinRefusal.{BinRefusal}
 use Rattle.mufom_outcome.specs.Stop.{Stop}
 use Rattle.mufom_task.specs.declared.task.Inputs.{Inputs}
 use Rattle.mufom_task.specs.declared.task.Product.{Product}
 use Rattle.mufom_task.specs.declared.task.Product.TheVariants as product
 use Rattle.mufom_task.specs.declared.task.Task.TheVariants as task
 use Rattle.mufom_command.specs.Roots.{Roots, roots_by}
-use Rattle.mufom_command.specs.Works.{Kept, Output, kept_of, located_unless, locating_kept, producing, product_of, raw_file, unless_too_long, work_of}
+use Rattle.mufom_command.specs.Works.{Kept, Output, kept_of, located_unless, locating_kept, mapped_kept, producing, product_of, work_of}
+use Rattle.mufom_command.specs.Works.{bytes_fact, bytes_unless, length_fact, region_fact, region_image, region_named}
 use Rattle.mufom_command.proofs.EndLaws.{location-of}
 use Rattle.mufom_command.proofs.Runs.{kept_of-single, of-files}
 use Rattle.mufom_run_laws.specs.RunLaws.{Accepts, HasNoFact, LocatingIsDone, MayPutOut}
@@ -39,7 +38,7 @@ module _ (output : Kept → LocatedParts → Work Stop Output) (keep : Option Ro
       record { links = links; kept = kept; keeps = is_kept; locates = (location-of plan kept.modules r is_located).locates }
 
   -- where no fact stands, the work comes to no end, unless the output of a location does
-  pub no-end : ((kept : Kept) (r : LocatedParts) → kept_of keep list (gives kept) → IsLocation kept.modules plan r → (s : Stop)
+  pub no-end : ((kept : Kept) (r : LocatedParts) → kept_of keep list (gives kept) → IsPlanned kept.modules plan r → (s : Stop)
       → output kept r (stops s) → ⊥)
       → HasNoFact keep list plan
       → (s : Stop) → locating_kept output keep plan list (stops s) → ⊥
@@ -47,23 +46,22 @@ module _ (output : Kept → LocatedParts → Work Stop Output) (keep : Option Ro
       let same : stops s ≡ gives none.kept = kept_of-single keep list (stops s) (gives none.kept) ends none.keeps in absurd cc
   no-end never none s (inr (kept, is_kept, inl ends)) =
       let same : kept ≡ none.kept = value-same kept none.kept (kept_of-single keep list (gives kept) (gives none.kept) is_kept none.keeps) in
-      let locates : locate_answer kept.modules plan ≡ None = subst (λ (k : Kept). locate_answer k.modules plan ≡ None) (sym same) none.locates in
-      subst (λ (o : Option LocateFact). located_unless o plan kept.modules (stops s)) locates ends
+      let locates : planned_answer kept.modules plan ≡ None = subst (λ (k : Kept). planned_answer k.modules plan ≡ None) (sym same) none.locates in
+      subst (λ (o : Option PlanFact). located_unless o plan kept.modules (stops s)) locates ends
   no-end never none s (inr (kept, is_kept, inr (r, is_located, ends))) = never kept r is_kept (location-of plan kept.modules r is_located) s ends
 
 -- ---- what is made of a location has no end
 
-raw-never : (fill : ℕ) (out : List ℕ) (r : LocatedParts) → length (raw_image fill r.runs) ≤ MOST_FILE_BYTES → (s : Stop)
-    → raw_file fill out r (stops s) → ⊥
-raw-never fill out r few s = by (nat_lt MOST_FILE_BYTES (length (raw_image fill r.runs))) refl where
-  by : (b : Bool) → nat_lt MOST_FILE_BYTES (length (raw_image fill r.runs)) ≡ b → unless_too_long b out (raw_image fill r.runs) (stops s) → ⊥
-  by true is ends = absurd (omega (arith, few, ltb-true MOST_FILE_BYTES (length (raw_image fill r.runs)) is))
-  by false is ends = ends
+bytes-never : (o : Option BinRefusal) → o ≡ None → (name bytes : List ℕ) (s : Stop) → bytes_unless o name bytes (stops s) → ⊥
+bytes-never o none name bytes s ends = subst (λ (p : Option BinRefusal). bytes_unless p name bytes (stops s)) none ends
 
-pub product-never : (p : Product) (names : FileNames) (shown : Mapped) (r : LocatedParts) → MayPutOut p r → (s : Stop) → product_of p names shown r (stops s)
-    → ⊥
+pub product-never : (p : Product) (names : FileNames) (shown : Mapped) (r : LocatedParts) → bytes_fact p shown.regions r ≡ None → (s : Stop)
+    → product_of p names shown r (stops s) → ⊥
 product-never (product.Absolute out) names shown r may s (held, never) = never
-product-never (product.Raw fill out) names shown r may s ends = raw-never fill out r may s ends
+product-never (product.Raw fill out) names shown r may s ends =
+    bytes-never (length_fact (length (raw_image fill r.runs))) may out (raw_image fill r.runs) s ends
+product-never (product.Region name fill out) names shown r may s ends =
+    bytes-never (region_fact name (region_named shown.regions name)) may out (region_image fill (region_named shown.regions name) r) s ends
 product-never (product.TiTxt out) names shown r may s never = never
 product-never product.Image names shown r may s never = never
 product-never (product.Map at) names shown r may s never = never
@@ -83,13 +81,13 @@ module _ (files : List NamedFile) (c : Inputs) (keep : List (List ℕ)) (p : Pro
       no-fact-there (producing p c.files (tree_of c.marks) accepts.modules plan) (roots_by keep plan) plan flat o links is_put
 
   -- and where none stands the work has no end
-  exact-back : ((kept : Kept) (r : LocatedParts) → kept_of (roots_by keep plan) flat (gives kept) → IsLocation kept.modules plan r → MayPutOut p r)
+  exact-back : ((kept : Kept) (r : LocatedParts) → kept_of (roots_by keep plan) flat (gives kept) → IsPlanned kept.modules plan r → MayPutOut p plan r)
       → HasNoFact (roots_by keep plan) flat plan → (s : Stop) → work_of (task.Locate c keep p) files (stops s) → ⊥
   exact-back may none s ends = by (accepted-stops files c plan flat bytes accepts work s ends) where
-    never : (kept : Kept) (r : LocatedParts) → kept_of (roots_by keep plan) flat (gives kept) → IsLocation kept.modules plan r → (s : Stop)
+    never : (kept : Kept) (r : LocatedParts) → kept_of (roots_by keep plan) flat (gives kept) → IsPlanned kept.modules plan r → (s : Stop)
         → producing p c.files (tree_of c.marks) accepts.modules plan kept r (stops s) → ⊥
     never kept r keeps there s (inl nothing) = nothing
-    never kept r keeps there s (inr (own, are, ends)) = product-never p c.files _ r (may kept r keeps there) s ends
+    never kept r keeps there s (inr (own, are, ends)) = product-never p c.files (mapped_kept (origins_of own) plan kept r) r (may kept r keeps there) s ends
 
     by : EndsAtFact flat s ⊎ ((link_answer flat ≡ None) × work accepts.modules plan flat (stops s)) → ⊥
     by (inl fact) = no-link-fact flat plan s none.links fact

@@ -6,7 +6,7 @@ use Rattle.mufom_module.specs.Written.{written}
 use Rattle.mufom_write.proofs.Stated.{stated}
 use Rattle.mufom_read.specs.Judging.{IsModule}
 use Rattle.mufom_meaning.specs.Absolute.{absolute_of}
-use Rattle.mufom_meaning.proofs.absolute.Located.{absolute_is_located_as_itself}
+use Rattle.mufom_planned.proofs.Absolute.{planned_located_as_itself}
 use Rattle.mufom_meaning.proofs.staging.Staging.{joined_stands_for}
 use Rattle.mufom_groups.specs.Linked.{first_name}
 use Rattle.mufom_command.specs.Works.{IsHeld}
@@ -29,7 +29,7 @@ linked-files-stand name out flat output valid (M, joined, (held, is)) = record {
 }
 
 pub absolute-files-stand : AbsoluteFilesStand
-absolute-files-stand keep out names origins plan flat output valid (kept, is_kept, (r, is_located, (held, is))) =
+absolute-files-stand keep out names origins plan flat output symbols valid (kept, is_kept, (r, is_located, (held, is))) =
     let there = location-of plan kept.modules r is_located in
     record {
       location = r;
@@ -37,6 +37,6 @@ absolute-files-stand keep out names origins plan flat output valid (kept, is_kep
       kept = kept;
       keeps = is_kept;
       located = there;
-      itself = absolute_is_located_as_itself kept.modules plan r (kept-valid keep flat kept valid is_kept) there;
+      itself = planned_located_as_itself kept.modules plan r (kept-valid keep flat kept valid is_kept) symbols there;
       read_back = is-read-back (absolute_of r) held;
     }

@@ -16,7 +16,9 @@ use Rattle.mufom_meaning.proofs.Names.{names_of-sited_publics}
 use Rattle.mufom_meaning.proofs.Unfolding.{readings-publics}
 use Rattle.mufom_plan.specs.Names.{has_name}
 use Rattle.mufom_meaning.specs.StagingLaws.{MeansTheSame}
-use Rattle.mufom_meaning.proofs.staging.Stages.{staged_means_the_same}
+use Rattle.mufom_planned.specs.PlanLaws.{HasSoundSymbols}
+use Rattle.mufom_task.proofs.PlanLaws.{plan-sound}
+use Rattle.mufom_command.specs.Same.{AreSame}
 use Rattle.mufom_groups.specs.Linked.{first_name, joined, linked}
 use Rattle.mufom_groups.specs.Work.{gives, stops, Work, ◌>>=◌, one_with, stop_at, sure, with_stops}
 use Rattle.mufom_groups.proofs.Singles.{linked-single}
@@ -34,11 +36,12 @@ use Rattle.mufom_command.specs.FlatFiles.{AreFlatFiles}
 use Rattle.mufom_command.specs.Roots.{Roots, first_unknown, roots_by}
 use Rattle.mufom_command.specs.Works.{Kept, Output, all_of, writes_module, kept_of, kept_unless, linked_file, linking, located, locating_kept, producing}
 use Rattle.mufom_command.specs.Works.{product_of, product_with, rest_of_link, work_of}
-use Rattle.mufom_command.proofs.LocatingLaws.{located-back, located-forth}
+use Rattle.mufom_command.proofs.EndLaws.{location-of}
+use Rattle.mufom_command.proofs.LocatingLaws.{located-back, located-forth, staged-same}
 use Rattle.mufom_command.proofs.MapLaws.{flat-files-single, same-map}
 use Rattle.mufom_command.proofs.Runs.{modules_in-single, plan_in-single}
 use Rattle.mufom_run_laws.specs.RunLaws.{CameByStages, IsSameWork, LeadsTo, PutOutAlike, RunsOfStages, StagesMakeNoDifference}
-use Rattle.mufom_run_laws.proofs.SameWorks.{same-sym, same-trans, same-work, then-known, then-same}
+use Rattle.mufom_run_laws.proofs.SameWorks.{same-sym, same-trans, same-work, then-known, then-same, then-same-where}
 
 -- the name of the first module, by its header
 abbrev name_by : Option Header → List ℕ
@@ -63,10 +66,16 @@ names-read ms =
     ap (map (λ (p : PublicReading). p.name)) (readings-publics ms no_bases)
     ∙ names-of-readings (setting ms no_bases) (setting ms no_bases).publics ∙ names_of-sited_publics 0 0 0 ms
 
-pub means-same : (ms leaves : List Parts) → CameByStages ms leaves → MeansTheSame ms leaves
-means-same ms leaves came = staged_means_the_same came.descriptor.0 ms leaves came.staged came.valid came.descriptor.1 came.names
+pub lists-same : (ms leaves : List Parts) → CameByStages ms leaves → AreSame ms leaves
+lists-same ms leaves came = staged-same came.descriptor.0 ms leaves came.staged came.valid came.descriptor.1 came.names
 
-module _ (plan : Plan) (ms leaves : List Parts) (means : MeansTheSame ms leaves) where
+pub means-same : (ms leaves : List Parts) → CameByStages ms leaves → MeansTheSame ms leaves
+means-same ms leaves came = (lists-same ms leaves came).means
+
+module _ (plan : Plan) (symbols : HasSoundSymbols plan) (ms leaves : List Parts) (same : AreSame ms leaves) where
+  abbrev means : MeansTheSame ms leaves
+  means = same.means
+
   first-same : first_name ms ≡ first_name leaves
   first-same = first_name-header ms ∙ ap name_by means.same_first ∙ sym (first_name-header leaves)
 
@@ -81,7 +90,7 @@ module _ (plan : Plan) (ms leaves : List Parts) (means : MeansTheSame ms leaves)
   joined-same name (stops s) = ((λ (f, never, is). absurd never), (λ (f, never, is). absurd never))
 
   located-same : IsSameWork (located plan ms) (located plan leaves)
-  located-same x = (located-forth ms leaves plan means x, located-back ms leaves plan means x)
+  located-same x = (located-forth ms leaves plan symbols same x, located-back ms leaves plan symbols same x)
 
   names-same : public_names ms ≡ public_names leaves
   names-same = sym (names-read ms) ∙ ap (λ (r : Readings). map (λ (p : PublicReading). p.name) r.publics) (means.same_readings no_bases) ∙ names-read leaves
@@ -114,7 +123,7 @@ module _ (plan : Plan) (ms leaves : List Parts) (means : MeansTheSame ms leaves)
 
   -- what is made of what is kept of one, and of the location of that, is what is made of the other
   module _ (output : Kept → LocatedParts → Work Stop Output)
-      (each : (r : LocatedParts) → IsSameWork (output (all_of ms) r) (output (all_of leaves) r)) where
+      (each : (r : LocatedParts) → located plan ms (gives r) → IsSameWork (output (all_of ms) r) (output (all_of leaves) r)) where
     abbrev next : Kept → Work Stop Output
     next kept = located plan kept.modules >>= λ r. output kept r
 
@@ -125,17 +134,17 @@ module _ (plan : Plan) (ms leaves : List Parts) (means : MeansTheSame ms leaves)
         = then-known (sure (all_of leaves)) next (all_of leaves) (sure-single (all_of leaves)) refl in
         same-trans (sure (all_of ms) >>= next) (next (all_of ms)) (sure (all_of leaves) >>= next) here
         (same-trans (next (all_of ms)) (next (all_of leaves)) (sure (all_of leaves) >>= next)
-        (then-same (located plan ms) (located plan leaves) (λ r. output (all_of ms) r) (λ r. output (all_of leaves) r) located-same each)
+        (then-same-where (located plan ms) (located plan leaves) (λ r. output (all_of ms) r) (λ r. output (all_of leaves) r) located-same each)
         (same-sym (sure (all_of leaves) >>= next) (next (all_of leaves)) there))
     of_kept (Some roots) =
         then-same (kept_of (Some roots) ms) (kept_of (Some roots) leaves) next next (kept-same roots) (λ kept. same-work (next kept))
 
   -- whatever is made of the location of the whole list, with these origins
-  product-same : (p : Product) (names : FileNames) (origins : List Origin) (r : LocatedParts)
+  product-same : (p : Product) (names : FileNames) (origins : List Origin) (r : LocatedParts) → located plan ms (gives r)
       → IsSameWork (product_with p names origins plan (all_of ms) r) (product_with p names origins plan (all_of leaves) r)
-  product-same p names origins r =
+  product-same p names origins r there =
       subst (λ (shown : Mapped). IsSameWork (product_with p names origins plan (all_of ms) r) (product_of p names shown r))
-      (same-map ms leaves means origins plan r) (same-work (product_with p names origins plan (all_of ms) r))
+      (same-map ms leaves same origins plan symbols r (location-of plan ms r there)) (same-work (product_with p names origins plan (all_of ms) r))
 
   pub put_out-alike : PutOutAlike plan ms leaves
   put_out-alike = record {
@@ -146,7 +155,7 @@ module _ (plan : Plan) (ms leaves : List Parts) (means : MeansTheSame ms leaves)
 
 -- A list that earlier runs linked in stages is put out as the list that the stages began with.
 pub stages-alike : StagesMakeNoDifference
-stages-alike plan ms leaves came = put_out-alike plan ms leaves (means-same ms leaves came)
+stages-alike plan ms leaves symbols came = put_out-alike plan symbols ms leaves (lists-same ms leaves came)
 
 -- the work of a task that links files is what is put out of its flat list
 pub linking-known : (output : List Parts → Plan → List Parts → Work Stop Output) (files : List NamedFile) (c : Inputs) (plan : Plan) (flat : List Parts)
@@ -177,7 +186,7 @@ locating-each keep plan ms output other each =
 module _ (files : List NamedFile) (c : Inputs) (plan : Plan) (flat leaves : List Parts) (own : List FileModule) (bytes : HoldBytes files)
     (leads : LeadsTo files c plan flat) (are : AreFlatFiles (tree_of c.marks) leads.modules own) (came : CameByStages flat leaves) where
   alike : PutOutAlike plan flat leaves
-  alike = put_out-alike plan flat leaves (means-same flat leaves came)
+  alike = put_out-alike plan (plan-sound files c.plan plan leads.planned).symbols flat leaves (lists-same flat leaves came)
 
   link-of-stages : (name : Option (List ℕ)) (out : List ℕ) → IsSameWork (work_of (task.Link c name out) files) (linked_file name out leaves)
   link-of-stages name out =

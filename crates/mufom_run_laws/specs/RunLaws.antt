@@ -16,14 +16,14 @@ use Rattle.mufom_meaning.specs.Absolute.{absolute_of, no_regions}
 use Rattle.mufom_meaning.specs.Flat.{public_names}
 use Rattle.mufom_meaning.specs.Joined.{IsJoined}
 use Rattle.mufom_meaning.specs.LinkAnswer.{link_answer}
-use Rattle.mufom_meaning.specs.LocateAnswer.{locate_answer}
 use Rattle.mufom_meaning.specs.Location.{IsLocation}
+use Rattle.mufom_planned.specs.Planned.{IsPlanned, planned_answer}
+use Rattle.mufom_planned.specs.PlanLaws.{HasSoundSymbols}
 use Rattle.mufom_meaning.specs.Staging.{AreValid, HaveDescriptor, IsStaged, StandsFor}
 use Rattle.mufom_groups.specs.Linked.{IsFlatList, first_name, linked}
 use Rattle.mufom_groups.specs.Work.{Reached, gives, Work, IsSingle}
 use Rattle.mufom_outcome.specs.declared.outcome.Outcome.{Outcome}
 use Rattle.mufom_outcome.specs.declared.outcome.Outcome.TheVariants as outcome
-use Rattle.mufom_write.specs.Raw.{raw_image}
 use Rattle.mufom_numbers.specs.declared.limits.TheConstants.{MOST_FILE_BYTES}
 use Rattle.mufom_origins.specs.declared.origins.Origin.{Origin}
 use Rattle.mufom_origins.specs.Words.{FileNames}
@@ -31,7 +31,7 @@ use Rattle.mufom_origins.specs.Origins.{FileModule, origins_of}
 use Rattle.mufom_command.specs.FlatFiles.{AreFlatFiles}
 use Rattle.mufom_outcome.specs.Stop.{Stop}
 use Rattle.mufom_command.specs.Roots.{Roots, roots_by}
-use Rattle.mufom_command.specs.Works.{Kept, Output, made, kept_of, linked_file, locating_kept, product_with, work_of}
+use Rattle.mufom_command.specs.Works.{Kept, Output, bytes_fact, made, kept_of, linked_file, locating_kept, product_with, work_of}
 use Rattle.mufom_task.specs.declared.task.Inputs.{Inputs}
 use Rattle.mufom_task.specs.declared.task.Product.{Product}
 use Rattle.mufom_task.specs.declared.task.Product.TheVariants as product
@@ -76,27 +76,27 @@ pub record Accepts (files : List NamedFile) (inputs : Inputs) (plan : Plan) (fla
   pub read : modules_in files inputs (gives modules)
   pub is_flat : IsFlatList (tree_of inputs.marks) modules flat
 
--- the output for this location is possible: a raw image does not have too many bytes
-abbrev pub MayPutOut : Product → LocatedParts → Type 0
-MayPutOut (product.Raw fill out) r = length (raw_image fill r.runs) ≤ MOST_FILE_BYTES
-MayPutOut p r = Unit {0}
+-- the output for this location by the plan is possible: a raw image, or a region, does not have too many bytes, and the region whose bytes are asked
+-- for is one of the plan
+abbrev pub MayPutOut : Product → Plan → LocatedParts → Type 0
+MayPutOut p plan r = bytes_fact p plan.regions r ≡ None
 
 -- no error applies to the list: it can be linked, its publics have all names to keep, if roots are given, and what is kept can be located
 pub record HasNoFact (keep : Option Roots) (ms : List Parts) (plan : Plan) : Type 0 where
   pub links : link_answer ms ≡ None
   pub kept : Kept
   pub keeps : kept_of keep ms (gives kept)
-  pub locates : locate_answer kept.modules plan ≡ None
+  pub locates : planned_answer kept.modules plan ≡ None
 
 -- If nothing failed and memory sufficed, a task that locates accepted files is `Done` if and only if no error applies to their flat list or to what is
--- kept of it, whatever the groups of the files are. For a raw image, this assumes that it does not have too many bytes.
+-- kept of it, whatever the groups of the files are. For `bin`, this assumes that the bytes may be written.
 abbrev pub LocatingIsDone : Type 0
 LocatingIsDone =
     (words : List (List ℕ)) (files : List NamedFile) (call : Call) (result : Outcome) (c : Command) (inputs : Inputs) (keep : List (List ℕ)) (p : Product)
     (plan : Plan) (flat : List Parts)
     → Answers words call result → IsUndisturbed files call result → answer_of words ≡ Ok c → request_of c ≡ request.Run (task.Locate inputs keep p)
     → Accepts files inputs plan flat
-    → ((kept : Kept) (r : LocatedParts) → kept_of (roots_by keep plan) flat (gives kept) → IsLocation kept.modules plan r → MayPutOut p r)
+    → ((kept : Kept) (r : LocatedParts) → kept_of (roots_by keep plan) flat (gives kept) → IsPlanned kept.modules plan r → MayPutOut p plan r)
     → (result ≡ outcome.Done) ↔ HasNoFact (roots_by keep plan) flat plan
 
 -- ---- stages
@@ -120,9 +120,10 @@ pub record CameByStages (ms leaves : List Parts) : Type 0 where
   pub descriptor : (d : Parts) × HaveDescriptor d leaves
   pub names : AreDistinct (public_names leaves)
 
--- A list that earlier runs linked in stages has the same outputs as the list that the stages began with.
+-- A list that earlier runs linked in stages has the same outputs as the list that the stages began with, by each plan whose symbols are sound: each
+-- plan that is read, and each plan without symbols.
 abbrev pub StagesMakeNoDifference : Type 0
-StagesMakeNoDifference = (plan : Plan) (ms leaves : List Parts) → CameByStages ms leaves → PutOutAlike plan ms leaves
+StagesMakeNoDifference = (plan : Plan) (ms leaves : List Parts) → HasSoundSymbols plan → CameByStages ms leaves → PutOutAlike plan ms leaves
 
 -- the inputs are accepted, and give this plan and this flat list, which can be linked
 pub record LeadsTo (files : List NamedFile) (inputs : Inputs) (plan : Plan) (flat : List Parts) : Type 0 where
@@ -169,7 +170,7 @@ pub record IsFileOfLocation (keep : Option Roots) (out : List ℕ) (plan : Plan)
   pub bytes : output ≡ made out (written (absolute_of location))
   pub kept : Kept
   pub keeps : kept_of keep flat (gives kept)
-  pub located : IsLocation kept.modules plan location
+  pub located : IsPlanned kept.modules plan location
   pub itself : IsLocation (absolute_of location ∷ []) no_regions location
   pub read_back : length (written (absolute_of location)) ≤ MOST_FILE_BYTES → (gnu : Bool)
       → IsModule (record { debug = true; gnu = gnu }) (written (absolute_of location)) (absolute_of location)
@@ -179,5 +180,5 @@ pub record IsFileOfLocation (keep : Option Roots) (out : List ℕ) (plan : Plan)
 abbrev pub AbsoluteFilesStand : Type 0
 AbsoluteFilesStand =
     (keep : Option Roots) (out : List ℕ) (names : FileNames) (origins : List Origin) (plan : Plan) (flat : List Parts) (output : Output)
-    → AreValid flat → locating_kept (product_with (product.Absolute out) names origins plan) keep plan flat (gives output)
+    → HasSoundSymbols plan → AreValid flat → locating_kept (product_with (product.Absolute out) names origins plan) keep plan flat (gives output)
     → IsFileOfLocation keep out plan flat output

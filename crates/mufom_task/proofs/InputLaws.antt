@@ -233,6 +233,7 @@ module _ (options : ReadOptions) where
     files_stop outcome.Done split place why = absurd why
     files_stop (outcome.Refused (refusal.Bin count)) split place why = absurd why
     files_stop (outcome.Refused (refusal.Keep kept)) split place why = absurd why
+    files_stop (outcome.Refused (refusal.SharedName shared)) split place why = absurd why
     files_stop (outcome.Refused (refusal.Text r)) split place why = absurd why
     files_stop (outcome.Refused (refusal.Build r)) split place why = absurd why
     files_stop (outcome.Refused (refusal.Read i r)) split place why =
@@ -261,6 +262,7 @@ module _ (options : ReadOptions) where
     opened_count outcome.Done why = absurd why
     opened_count (outcome.Refused (refusal.Bin count)) why = absurd why
     opened_count (outcome.Refused (refusal.Keep kept)) why = absurd why
+    opened_count (outcome.Refused (refusal.SharedName shared)) why = absurd why
     opened_count (outcome.Refused (refusal.Text r)) why = absurd why
     opened_count (outcome.Refused (refusal.Build r)) why = absurd why
     opened_count (outcome.Refused (refusal.Read i r)) why = let is = why.0 in omega (arith, is)

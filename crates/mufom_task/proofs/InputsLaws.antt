@@ -83,6 +83,7 @@ module _ (c : Inputs) (old mid : Meaning) (before between : Faults) (only : Only
   plan-stops (outcome.ReadFault input.Plan) (named, rose) = (rose, named)
   plan-stops (outcome.Refused (refusal.Bin count)) why = absurd why
   plan-stops (outcome.Refused (refusal.Keep kept)) why = absurd why
+  plan-stops (outcome.Refused (refusal.SharedName shared)) why = absurd why
   plan-stops (outcome.Refused (refusal.Text r)) why = absurd why
   plan-stops (outcome.Refused (refusal.Build r)) why = absurd why
   plan-stops (outcome.ReadFault (input.File n)) why = absurd why
@@ -107,6 +108,7 @@ module _ (c : Inputs) (old mid : Meaning) (before between : Faults) (only : Only
   plan-count (outcome.ReadFault (input.File n)) why = absurd why
   plan-count (outcome.Refused (refusal.Bin count)) why = absurd why
   plan-count (outcome.Refused (refusal.Keep kept)) why = absurd why
+  plan-count (outcome.Refused (refusal.SharedName shared)) why = absurd why
   plan-count (outcome.Refused (refusal.Text r)) why = absurd why
   plan-count (outcome.Refused (refusal.Build r)) why = absurd why
   plan-count (outcome.Refused (refusal.Read n r)) why = absurd why
@@ -143,6 +145,7 @@ module _ (c : Inputs) (old mid : Meaning) (before between : Faults) (only : Only
   plan-named (outcome.ReadFault (input.File n)) why = tt
   plan-named (outcome.Refused (refusal.Bin count)) why = tt
   plan-named (outcome.Refused (refusal.Keep kept)) why = tt
+  plan-named (outcome.Refused (refusal.SharedName shared)) why = tt
   plan-named (outcome.Refused (refusal.Text r)) why = tt
   plan-named (outcome.Refused (refusal.Build r)) why = tt
   plan-named (outcome.Refused (refusal.Read n r)) why = tt
@@ -163,6 +166,7 @@ module _ (c : Inputs) (old mid : Meaning) (before between : Faults) (only : Only
   files-named new now (outcome.ReadFault (input.File n)) why = tt
   files-named new now (outcome.Refused (refusal.Bin count)) why = tt
   files-named new now (outcome.Refused (refusal.Keep kept)) why = tt
+  files-named new now (outcome.Refused (refusal.SharedName shared)) why = tt
   files-named new now (outcome.Refused (refusal.Text r)) why = tt
   files-named new now (outcome.Refused (refusal.Build r)) why = tt
   files-named new now (outcome.Refused (refusal.Read n r)) why = tt
@@ -182,6 +186,7 @@ module _ (c : Inputs) (old mid : Meaning) (before between : Faults) (only : Only
   files-keep new now files text (outcome.ReadFault at) why = tt
   files-keep new now files text (outcome.Refused (refusal.Bin count)) why = tt
   files-keep new now files text (outcome.Refused (refusal.Keep kept)) why = tt
+  files-keep new now files text (outcome.Refused (refusal.SharedName shared)) why = tt
   files-keep new now files text (outcome.Refused (refusal.Text r)) why = tt
   files-keep new now files text (outcome.Refused (refusal.Build r)) why = tt
   files-keep new now files text (outcome.Refused (refusal.Read n r)) why = tt
@@ -240,6 +245,7 @@ module _ (c : Inputs) (old mid : Meaning) (before between : Faults) (only : Only
     files-stops outcome.NoMemory why opens = tt
     files-stops (outcome.Refused (refusal.Bin count)) why opens = absurd why
     files-stops (outcome.Refused (refusal.Keep kept)) why opens = absurd why
+    files-stops (outcome.Refused (refusal.SharedName shared)) why opens = absurd why
     files-stops (outcome.Refused (refusal.Text r)) why opens = absurd why
     files-stops (outcome.Refused (refusal.Build r)) why opens = absurd why
 
@@ -250,6 +256,7 @@ module _ (c : Inputs) (old mid : Meaning) (before between : Faults) (only : Only
   files-count (outcome.ReadFault input.Plan) count is = absurd is
   files-count (outcome.Refused (refusal.Bin n)) count is = absurd is
   files-count (outcome.Refused (refusal.Keep kept)) count is = absurd is
+  files-count (outcome.Refused (refusal.SharedName shared)) count is = absurd is
   files-count (outcome.Refused (refusal.Text r)) count is = absurd is
   files-count (outcome.Refused (refusal.Build r)) count is = absurd is
   files-count (outcome.Refused (refusal.Plan r)) count is = absurd is

@@ -6,22 +6,20 @@ use Rattle.std.proofs.lemmas.List.{length-append}
 use Rattle.mufom_host.specs.World.{Faults, Meaning, NamedFile, GrowsBy, KeepsAllButLeft, Rose, file_named}
 use Rattle.mufom_plan.specs.declared.plan.Plan.{Plan}
 use Rattle.mufom_plan.specs.declared.refusal.PlanRefusal.{PlanRefusal}
-use Rattle.mufom_plan.specs.declared.refusal.PlanRefusal.TheVariants.{TooLong, Shape, Syntax}
-use Rattle.mufom_plan.specs.declared.refusal.PlanField.TheVariants as field
-use Rattle.mufom_plan.specs.declared.plan.Region.{Region}
-use Rattle.std.specs.Prelude.{is_some, position, ◌==◌}
+use Rattle.mufom_plan.specs.declared.refusal.PlanRefusal.TheVariants.{TooLong, Syntax}
 use Rattle.std.specs.List.{IsDistinct}
 use Rattle.mufom_plan.specs.Names.{AreDistinctNames}
 use Rattle.mufom_plan.specs.Document.{document_of}
 use Rattle.mufom_plan.specs.PlanText.{◌>>=◌, or_refuse, unless, plan_of_document, plan_of_text}
-use Rattle.mufom_image.specs.Placements.{IsSoundPlan}
+use Rattle.mufom_locating.specs.Plans.{IsReadPlan}
+use Rattle.mufom_meaning.specs.Absolute.{no_regions}
 use Rattle.mufom_groups.specs.Work.{gives, stops}
 use Rattle.mufom_outcome.specs.declared.outcome.Input.TheVariants as input
 use Rattle.mufom_outcome.specs.declared.outcome.Outcome.{Outcome}
 use Rattle.mufom_outcome.specs.declared.outcome.Outcome.TheVariants as outcome
 use Rattle.mufom_outcome.specs.declared.outcome.Refusal.TheVariants as refusal
 use Rattle.mufom_outcome.specs.Stop.{plan_refused}
-use Rattle.mufom_task.specs.Reading.{carried_out, loaded_in_place, plan_by, plan_in, supported}
+use Rattle.mufom_task.specs.Reading.{plan_by, plan_in}
 use Rattle.mufom_task.specs.FilesRead.{FileHas}
 use Rattle.mufom_task.specs.InputsRead.{IsEnoughOf, IsPlanAnswer, KeepsPlan, PlanStops, most_plan_bytes}
 use Rattle.mufom_task.proofs.InputLaws.{call_between}
@@ -31,8 +29,21 @@ unfolding IsDistinct
 none-twice = tt
 
 -- the plan without regions has what each plan that is read has
-pub no-regions-sound : IsSoundPlan (record { regions = []; symbols = []; keep = [] })
-no-regions-sound = record { names = none-twice; regions = omega arith; common = omega arith }
+pub no-regions-sound : IsReadPlan (record { regions = []; symbols = []; keep = [] })
+no-regions-sound = record {
+  placed = record { names = none-twice; regions = omega arith; common = omega arith };
+  symbols = record { distinct = none-twice; short = omega arith };
+  loads = refl;
+}
+
+plan_by-sound : (r : Result Plan PlanRefusal) (plan : Plan) → plan_by r (gives plan) → IsReadPlan plan
+plan_by-sound (Ok own) plan (sound, is) = let same : plan ≡ own = cc in subst IsReadPlan (sym same) sound
+plan_by-sound (Err r) plan never = absurd never
+
+-- each plan that is read has these properties
+pub plan-sound : (files : List NamedFile) (name : Option (List ℕ)) (plan : Plan) → plan_in files name (gives plan) → IsReadPlan plan
+plan-sound files None plan is = let same : plan ≡ no_regions = cc in subst IsReadPlan (sym same) no-regions-sound
+plan-sound files (Some name) plan (bytes, there, is) = plan_by-sound (plan_of_text bytes) plan is
 
 pub on_some : {T : Type 0} (o : Option T) (P : Type 0) → P → OnSome o P
 on_some None P p = tt
@@ -55,16 +66,6 @@ bytes_of_file name bytes limit None left opened enough = tt
 bytes_of_file name bytes limit (Some fs) left opened enough =
     (opened.0, opened.1, subst (λ (o : Option (List ℕ)). IfSome o (λ l. IsEnoughOf limit l bytes)) opened.2 enough)
 
--- ---- what is carried out
-
--- a plan without symbols is carried out, unless a region is loaded into another one
-pub supported-by : (plan : Plan) (first : Option ℕ) → length plan.symbols ≡ 0 → first ≡ position (λ (region : Region). is_some region.load) plan.regions
-    → loaded_in_place plan first ≡ supported plan
-supported-by plan first none is =
-    ap (loaded_in_place plan) is
-    ∙ ap (λ (n : ℕ). unless (n == 0) (Shape None field.Extra)
-    (loaded_in_place plan (position (λ (region : Region). is_some region.load) plan.regions))) (sym none)
-
 -- ---- enough of the bytes
 
 too-long : (bytes : List ℕ) → most_plan_bytes < length bytes → plan_of_text bytes ≡ Err TooLong
@@ -79,14 +80,14 @@ plan-enough all bytes (inr (long, (rest, same))) =
 
 module _ (name bytes : List ℕ) where
   pub plan-read : (files : Option (List NamedFile)) (plan : Plan) → FileHas name files (λ all. IsEnoughOf most_plan_bytes all bytes)
-      → carried_out (plan_of_text bytes) ≡ Ok plan
+      → plan_of_text bytes ≡ Ok plan → IsReadPlan plan
       → IfSome files (λ fs. plan_in fs (Some name) (gives plan))
-  plan-read None plan has is = tt
-  plan-read (Some fs) plan (all, there, enough) is =
-      (all, there, subst (λ (r : Result Plan PlanRefusal). plan_by r (gives plan)) (sym (ap carried_out (plan-enough all bytes enough) ∙ is)) refl)
+  plan-read None plan has is sound = tt
+  plan-read (Some fs) plan (all, there, enough) is sound =
+      (all, there, subst (λ (r : Result Plan PlanRefusal). plan_by r (gives plan)) (sym (plan-enough all bytes enough ∙ is)) (sound, refl))
 
   plan-refused : (files : Option (List NamedFile)) (r : PlanRefusal) → FileHas name files (λ all. IsEnoughOf most_plan_bytes all bytes)
-      → carried_out (plan_of_text bytes) ≡ Err r
+      → plan_of_text bytes ≡ Err r
       → IfSome files (λ fs. plan_in fs (Some name) (stops (plan_refused r)))
   plan-refused None r has is = tt
   plan-refused (Some fs) r (all, there, enough) is =
@@ -94,17 +95,18 @@ module _ (name bytes : List ℕ) where
         all,
         there,
         subst (λ (result : Result Plan PlanRefusal). plan_by result (stops (plan_refused r)))
-            (sym (ap carried_out (plan-enough all bytes enough) ∙ is)) refl,
+            (sym (plan-enough all bytes enough ∙ is)) refl,
       )
 
   -- bytes that are no plan end the run
   pub no-plan : (old new : Meaning) (before now : Faults) → FileHas name old.files (λ all. IsEnoughOf most_plan_bytes all bytes) → (stop : Outcome)
-      → IsPlanAnswer (carried_out (plan_of_text bytes)) stop
+      → IsPlanAnswer (plan_of_text bytes) stop
       → PlanStops (Some name) (call_between old new before now) stop
   no-plan old new before now has (outcome.Refused (refusal.Plan r)) (is, memory) = (refl, memory, plan-refused old.files r has is)
   no-plan old new before now has (outcome.Refused (refusal.Read n r)) is = absurd is
   no-plan old new before now has (outcome.Refused (refusal.Bin count)) is = absurd is
   no-plan old new before now has (outcome.Refused (refusal.Keep kept)) is = absurd is
+  no-plan old new before now has (outcome.Refused (refusal.SharedName shared)) is = absurd is
   no-plan old new before now has (outcome.Refused (refusal.Text r)) is = absurd is
   no-plan old new before now has (outcome.Refused (refusal.Build r)) is = absurd is
   no-plan old new before now has (outcome.Refused (refusal.InputLimit n)) is = absurd is
@@ -119,25 +121,26 @@ module _ (name bytes : List ℕ) where
   no-plan old new before now has outcome.NoMemory is = tt
 
   -- all bytes of the file were read, or there are too many
-  kept-all : (r : PlanRefusal) (all : List ℕ) → IsEnoughOf most_plan_bytes all bytes → carried_out (plan_of_text bytes) ≡ Err r
+  kept-all : (r : PlanRefusal) (all : List ℕ) → IsEnoughOf most_plan_bytes all bytes → plan_of_text bytes ≡ Err r
       → (all ≡ bytes) ⊎ (r ≡ TooLong)
   kept-all r all (inl same) is = inl same
-  kept-all r all (inr (long, rest)) is = inr (let both : ◌≡◌ {A = Result Plan PlanRefusal} (Err r) (Err TooLong) = sym is ∙ ap carried_out (too-long bytes long) in cc)
+  kept-all r all (inr (long, rest)) is = inr (let both : ◌≡◌ {A = Result Plan PlanRefusal} (Err r) (Err TooLong) = sym is ∙ too-long bytes long in cc)
 
   kept-of : (files : Option (List NamedFile)) (r : PlanRefusal) → FileHas name files (λ all. IsEnoughOf most_plan_bytes all bytes)
-      → carried_out (plan_of_text bytes) ≡ Err r → FileHas name files (λ all. (all ≡ bytes) ⊎ (r ≡ TooLong))
+      → plan_of_text bytes ≡ Err r → FileHas name files (λ all. (all ≡ bytes) ⊎ (r ≡ TooLong))
   kept-of None r has is = tt
   kept-of (Some fs) r (all, there, enough) is = (all, there, kept-all r all enough is)
 
   -- bytes that are no plan are kept
   pub keeps-plan : (files : Option (List NamedFile)) → FileHas name files (λ all. IsEnoughOf most_plan_bytes all bytes) → (stop : Outcome)
-      → IsPlanAnswer (carried_out (plan_of_text bytes)) stop → KeepsPlan (Some name) files bytes stop
+      → IsPlanAnswer (plan_of_text bytes) stop → KeepsPlan (Some name) files bytes stop
   keeps-plan files has (outcome.Refused (refusal.Plan r)) (is, memory) = λ other named.
       let same : name ≡ other = cc in
       subst (λ (n : List ℕ). FileHas n files (λ all. (all ≡ bytes) ⊎ (r ≡ TooLong))) same (kept-of files r has is)
   keeps-plan files has (outcome.Refused (refusal.Read n r)) is = tt
   keeps-plan files has (outcome.Refused (refusal.Bin count)) is = tt
   keeps-plan files has (outcome.Refused (refusal.Keep kept)) is = tt
+  keeps-plan files has (outcome.Refused (refusal.SharedName shared)) is = tt
   keeps-plan files has (outcome.Refused (refusal.Text r)) is = tt
   keeps-plan files has (outcome.Refused (refusal.Build r)) is = tt
   keeps-plan files has (outcome.Refused (refusal.InputLimit n)) is = tt

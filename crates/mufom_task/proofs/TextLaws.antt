@@ -117,6 +117,7 @@ module _ (c : Inputs) (name : List ℕ) (no_plan : c.plan ≡ None) (one : c.fil
   reading-stops (outcome.Refused (refusal.Locate l maus)) why = absurd why
   reading-stops (outcome.Refused (refusal.Bin count)) why = absurd why
   reading-stops (outcome.Refused (refusal.Keep kept)) why = absurd why
+  reading-stops (outcome.Refused (refusal.SharedName shared)) why = absurd why
   reading-stops (outcome.Refused (refusal.Text r)) why = absurd why
   reading-stops (outcome.Refused (refusal.Build r)) why = absurd why
   reading-stops outcome.Done why = absurd why
@@ -136,6 +137,7 @@ module _ (c : Inputs) (name : List ℕ) (no_plan : c.plan ≡ None) (one : c.fil
   text-count (outcome.Refused (refusal.Locate l maus)) why = absurd why
   text-count (outcome.Refused (refusal.Bin count)) why = absurd why
   text-count (outcome.Refused (refusal.Keep kept)) why = absurd why
+  text-count (outcome.Refused (refusal.SharedName shared)) why = absurd why
   text-count (outcome.Refused (refusal.Text r)) why = absurd why
   text-count (outcome.Refused (refusal.Build r)) why = absurd why
   text-count outcome.Done why = absurd why
@@ -169,6 +171,7 @@ text-names plan name told (outcome.Refused (refusal.TooDeep n)) why = tt
 text-names plan name told (outcome.Refused (refusal.Link l)) why = tt
 text-names plan name told (outcome.Refused (refusal.Locate l maus)) why = tt
 text-names plan name told (outcome.Refused (refusal.Keep kept)) why = tt
+text-names plan name told (outcome.Refused (refusal.SharedName shared)) why = tt
 text-names plan name told (outcome.Refused (refusal.Bin count)) why = tt
 text-names plan name told (outcome.Refused (refusal.Text r)) why = tt
 text-names plan name told (outcome.Refused (refusal.Build r)) why = tt

@@ -15,7 +15,7 @@ use Rattle.mufom_outcome.specs.declared.outcome.Outcome.TheVariants as outcome
 use Rattle.mufom_outcome.specs.declared.outcome.Refusal.TheVariants as refusal
 use Rattle.mufom_outcome.specs.LocateRefusals.{locate_refusal}
 use Rattle.mufom_outcome.specs.Outcomes.{stop_answer}
-use Rattle.mufom_outcome.specs.Stop.{Stop, words_refused, plan_refused, file_refused, past_limit, link_fact, keep_unknown, locate_fact, raw_too_long}
+use Rattle.mufom_outcome.specs.Stop.{Stop, words_refused, plan_refused, file_refused, past_limit, link_fact, keep_unknown, name_shared, locate_fact, bytes_refused}
 use Rattle.mufom_outcome.specs.Stop.{text_refused, listing_refused}
 use Rattle.mufom_task.specs.declared.task.Inputs.{Inputs}
 use Rattle.mufom_task.specs.Inputs.{ComeTo, accepted}
@@ -29,8 +29,9 @@ stop_outcome (file_refused n r) = outcome.Refused (refusal.Read n r)
 stop_outcome (past_limit n) = outcome.Refused (refusal.InputLimit n)
 stop_outcome (link_fact f) = outcome.Refused (refusal.Link (link_refusal f))
 stop_outcome (keep_unknown name) = outcome.Refused (refusal.Keep name)
+stop_outcome (name_shared name) = outcome.Refused (refusal.SharedName name)
 stop_outcome (locate_fact maus f) = outcome.Refused (refusal.Locate (locate_refusal f) maus)
-stop_outcome (raw_too_long count) = outcome.Refused (refusal.Bin count)
+stop_outcome (bytes_refused b) = outcome.Refused (refusal.Bin b)
 stop_outcome (text_refused r) = outcome.Refused (refusal.Text r)
 stop_outcome (listing_refused r) = outcome.Refused (refusal.Build r)
 

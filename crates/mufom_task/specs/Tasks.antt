@@ -24,6 +24,11 @@ out_named c = unwrap_or c.out []
 abbrev pub locating : Command → Product → Request
 locating c p = request.Run (task.Locate (inputs_named c) c.keep p)
 
+-- what `bin` writes: the raw image, or the bytes of the region that is named
+abbrev pub bytes_product : Option (List ℕ) → ℕ → List ℕ → Product
+bytes_product None fill out = product.Raw fill out
+bytes_product (Some name) fill out = product.Region name fill out
+
 abbrev pub request_by : Verb → Command → Request
 request_by verb.Show c = request.Run (task.Show (inputs_named c) c.listing)
 request_by verb.Check c = request.Run (task.Check (inputs_named c))
@@ -33,7 +38,7 @@ request_by verb.Dump c = locating c product.Image
 request_by verb.Map c = locating c (product.Map c.at)
 request_by verb.Make c = request.Run (task.Make c.count)
 request_by verb.Addr c = locating c (product.Hit (unwrap_or c.at 0))
-request_by verb.Bin c = locating c (product.Raw c.fill (out_named c))
+request_by verb.Bin c = locating c (bytes_product c.region c.fill (out_named c))
 request_by verb.Txt c = locating c (product.TiTxt (out_named c))
 request_by verb.FromTxt c = request.Run (task.FromTxt (inputs_named c) c.maus (out_named c))
 request_by verb.Build c = request.Run (task.Build (inputs_named c) (out_named c))
@@ -72,6 +77,7 @@ reads_files _ = true
 abbrev pub file_of : Product → Option (List ℕ)
 file_of (product.Absolute out) = Some out
 file_of (product.Raw fill out) = Some out
+file_of (product.Region name fill out) = Some out
 file_of (product.TiTxt out) = Some out
 file_of _ = None
 

@@ -6,7 +6,7 @@ ghost use Rattle.mufom_module.specs.Written.{weight};
 ghost use Rattle.mufom_meaning.specs.Staging.{AreValid};
 ghost use Rattle.mufom_meaning.specs.StagingLaws.{total_weight};
 ghost use Rattle.mufom_host.specs.World.{GrowsBy, OnlyOpens};
-ghost use Rattle.mufom_image.specs.Placements.{IsSoundPlan};
+ghost use Rattle.mufom_locating.specs.Plans.{IsReadPlan};
 ghost use Rattle.mufom_groups.specs.Groups.{most_weight};
 ghost use Rattle.mufom_groups.specs.Work.{gives};
 ghost use Rattle.mufom_task.specs.FilesRead.{FileHas, FileStops, FilesStop, HasModule, OpensFiles, outcome_of_source_stop};
@@ -127,7 +127,7 @@ pub fn read_or_unread<H: Host>(
     requires { length inputs.now.files < 2 ^ 32 }
     ensures read { IfOk result (λ loaded. IfSome (H.meaning host.old).files
         (λ files. inputs_in files inputs.now (gives (loaded.plan, loaded.modules)))) }
-    ensures sound { IfOk result (λ loaded. IsSoundPlan loaded.plan) }
+    ensures sound { IfOk result (λ loaded. IsReadPlan loaded.plan) }
     ensures count { IfOk result (λ loaded. length loaded.modules ≡ length inputs.now.files) }
     ensures all { IfOk result (λ loaded. GrowsBy (H.meaning host.old).opened (H.meaning host.new).opened (input_names inputs.now)) }
     ensures valid { IfOk result (λ loaded. AreValid loaded.modules) }
@@ -154,7 +154,7 @@ pub fn read_inputs<H: Host>(alloc: Global, inputs: &Inputs, host: &mut H) -> Res
     requires { length inputs.now.files < 2 ^ 32 }
     ensures read { IfOk result (λ loaded. IfSome (H.meaning host.old).files
         (λ files. inputs_in files inputs.now (gives (loaded.plan, loaded.modules)))) }
-    ensures sound { IfOk result (λ loaded. IsSoundPlan loaded.plan) }
+    ensures sound { IfOk result (λ loaded. IsReadPlan loaded.plan) }
     ensures count { IfOk result (λ loaded. length loaded.modules ≡ length inputs.now.files) }
     ensures all { IfOk result (λ loaded. GrowsBy (H.meaning host.old).opened (H.meaning host.new).opened (input_names inputs.now)) }
     ensures valid { IfOk result (λ loaded. AreValid loaded.modules) }

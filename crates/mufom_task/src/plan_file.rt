@@ -1,12 +1,12 @@
 //! Reads the plan that a task names.
 
-ghost use Rattle.std.specs.Prelude.{◌≡◌, ◌≢◌, ◌<◌, ◌^◌, ◌∷◌, [], length, is_some, position, IfErr, IfOk, IfSome, OnSome, Ok, Some, option_to_list};
+ghost use Rattle.std.specs.Prelude.{◌≡◌, ◌∷◌, [], IfErr, IfOk, IfSome, OnSome, Ok, Some, option_to_list};
 ghost use Rattle.mufom_host.specs.World.{GrowsBy, OnlyOpens};
 ghost use Rattle.mufom_plan.specs.PlanText.{plan_of_text};
 ghost use Rattle.mufom_meaning.specs.Absolute.{no_regions as without_regions};
-ghost use Rattle.mufom_image.specs.Placements.{IsSoundPlan};
+ghost use Rattle.mufom_locating.specs.Plans.{IsReadPlan};
 ghost use Rattle.mufom_groups.specs.Work.{gives};
-ghost use Rattle.mufom_task.specs.Reading.{carried_out as as_carried_out, plan_in, supported};
+ghost use Rattle.mufom_task.specs.Reading.{plan_in};
 ghost use Rattle.mufom_task.specs.InputsRead.{IsPlanAnswer, KeepsPlan, PlanStops};
 ghost use Rattle.mufom_task.specs.Calls.{call_of};
 
@@ -17,51 +17,18 @@ use mufom_host::Host;
 use mufom_numbers::List;
 use mufom_numbers::limits::MOST_PLAN_BYTES;
 use mufom_outcome::{Input, Outcome, Refusal};
-use mufom_plan::{Plan, PlanField, PlanRefusal, PlanTable, Region, read_plan};
+use mufom_plan::{Plan, PlanRefusal, read_plan};
 use std::alloc::Global;
-
-// The position of the first region whose bytes are loaded into another one.
-fn first_loaded(regions: &[Region]) -> Option<usize>
-    ensures first { result ≡ position (λ region. is_some region.load) regions.now }
-    ensures within { IfSome result (λ place. place < length regions.now) }
-{
-    let is_loaded_elsewhere = |region: &Region| region.load.is_some();
-    regions.iter().position(is_loaded_elsewhere)
-}
-
-// Returns the plan, or the error for its first key that the program does not carry out yet.
-fn carried_out(plan: Plan) -> Result<Plan, PlanRefusal>
-    requires { length plan.regions < 2 ^ 32 }
-    ensures is { result ≡ supported plan }
-    ensures same { IfOk result (λ kept. kept ≡ plan) }
-    ensures memory { IfErr result (λ refusal. refusal ≢ PlanRefusal.NoMemory) }
-{
-    let field = PlanField::Extra;
-    if plan.symbols.len() != 0 {
-        return Err(PlanRefusal::Shape { table: None, field });
-    }
-    match first_loaded(plan.regions.as_slice()) {
-        Some(place) => Err(PlanRefusal::Shape {
-            table: Some(PlanTable::Region(place as u32)),
-            field,
-        }),
-        None => Ok(plan),
-    }
-}
 
 // The plan in these bytes, or the outcome of the run.
 fn plan_of(alloc: Global, text: &[u8]) -> Result<Plan, Outcome>
-    ensures ok { IfOk result (λ plan. as_carried_out (plan_of_text text.now) ≡ Ok plan) }
-    ensures sound { IfOk result IsSoundPlan }
-    ensures stops { IfErr result (IsPlanAnswer (as_carried_out (plan_of_text text.now))) }
+    ensures ok { IfOk result (λ plan. plan_of_text text.now ≡ Ok plan) }
+    ensures sound { IfOk result IsReadPlan }
+    ensures stops { IfErr result (IsPlanAnswer (plan_of_text text.now)) }
 {
-    let plan = match read_plan(alloc, text) {
-        Ok(plan) => plan,
-        Err(PlanRefusal::NoMemory) => return Err(Outcome::NoMemory),
-        Err(refusal) => return Err(Outcome::Refused(Refusal::Plan(refusal))),
-    };
-    match carried_out(plan) {
+    match read_plan(alloc, text) {
         Ok(plan) => Ok(plan),
+        Err(PlanRefusal::NoMemory) => Err(Outcome::NoMemory),
         Err(refusal) => Err(Outcome::Refused(Refusal::Plan(refusal))),
     }
 }
@@ -69,7 +36,7 @@ fn plan_of(alloc: Global, text: &[u8]) -> Result<Plan, Outcome>
 // Reads the plan of the file with this name.
 fn read_plan_file<H: Host>(alloc: Global, name: &str, host: &mut H) -> Result<Plan, Unread>
     ensures read { IfOk result (λ plan. IfSome (H.meaning host.old).files (λ files. plan_in files (Some name.now) (gives plan))) }
-    ensures sound { IfOk result IsSoundPlan }
+    ensures sound { IfOk result IsReadPlan }
     ensures stops { IfErr result (λ unread. PlanStops (Some name.now) (call_of H.meaning H.faults host.old host.new) unread.outcome) }
     ensures text { IfErr result (λ unread. KeepsPlan (Some name.now) (H.meaning host.old).files unread.plan.items unread.outcome) }
     ensures opens { IfOk result (λ plan. GrowsBy (H.meaning host.old).opened (H.meaning host.new).opened (name.now ∷ [])) }
@@ -107,7 +74,7 @@ pub(crate) fn read_plan_of<H: Host>(
     host: &mut H,
 ) -> Result<Plan, Unread>
     ensures read { IfOk result (λ plan. IfSome (H.meaning host.old).files (λ files. plan_in files inputs.now.plan (gives plan))) }
-    ensures sound { IfOk result IsSoundPlan }
+    ensures sound { IfOk result IsReadPlan }
     ensures stops { IfErr result (λ unread. PlanStops inputs.now.plan (call_of H.meaning H.faults host.old host.new) unread.outcome) }
     ensures text { IfErr result (λ unread. KeepsPlan inputs.now.plan (H.meaning host.old).files unread.plan.items unread.outcome) }
     ensures opens { IfOk result (λ plan. GrowsBy (H.meaning host.old).opened (H.meaning host.new).opened (option_to_list inputs.now.plan)) }

@@ -4,7 +4,7 @@ ghost use Rattle.std.specs.Prelude.{◌≡◌, [], true, unwrap_or, IfOk, OnErr}
 ghost use Rattle.mufom_words.specs.Options.{prints_help};
 ghost use Rattle.mufom_words.specs.Sound.{IsSound};
 ghost use Rattle.mufom_task.specs.Sound.{IsSoundRequest};
-ghost use Rattle.mufom_task.specs.Tasks.{inputs_named as inputs, locating, request_by, request_of as request};
+ghost use Rattle.mufom_task.specs.Tasks.{bytes_product as bytes_of, inputs_named as inputs, locating, request_by, request_of as request};
 
 use mufom_numbers::{Bytes, List, NoMemory, Text};
 use mufom_read::ReadOptions;
@@ -31,6 +31,9 @@ pub enum Product {
     Absolute { out: Text },
     /// The raw bytes of the image, in a file. Addresses without a loaded byte get the fill byte.
     Raw { fill: u8, out: Text },
+    /// The bytes of the region with a name, in a file: one for each of its addresses. Addresses without a loaded
+    /// byte get the fill byte.
+    Region { name: Bytes, fill: u8, out: Text },
     /// The TI-TXT text of the image, in a file.
     TiTxt { out: Text },
     /// The text of the image.
@@ -173,13 +176,24 @@ fn locate_module(alloc: Global, mut command: Command) -> Result<Request, NoMemor
     Ok(locate(command, Product::Absolute { out }))
 }
 
-// Writes the raw image of a location.
+// The raw image of a location, or the bytes of a region, if one is named.
+fn bytes_product(region: Option<Bytes>, fill: u8, out: Text) -> Product
+    ensures { result ≡ bytes_of region fill out }
+{
+    match region {
+        Some(name) => Product::Region { name, fill, out },
+        None => Product::Raw { fill, out },
+    }
+}
+
+// Writes the raw image of a location, or the bytes of a region.
 fn locate_raw(alloc: Global, mut command: Command) -> Result<Request, NoMemory>
     ensures { IfOk result (λ asked. asked ≡ request_by Verb.Bin command) }
 {
     let fill = command.fill;
+    let region = command.region.take();
     let out = named(alloc, command.out.take())?;
-    Ok(locate(command, Product::Raw { fill, out }))
+    Ok(locate(command, bytes_product(region, fill, out)))
 }
 
 // Writes the TI-TXT text of a location.

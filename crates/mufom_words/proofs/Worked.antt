@@ -41,6 +41,7 @@ of_files v no_debug files = record {
   at = None;
   maus = 4;
   keep = [];
+  region = None;
   help = None;
 }
 
@@ -222,6 +223,7 @@ none_given = record {
   fill = None;
   maus = None;
   keep = [];
+  region = None;
   operands = codes "a" ∷ [];
 }
 
@@ -269,6 +271,11 @@ raw_bytes : given form.Bin (codes "bin" ∷ codes "--fill=fF" ∷ codes "-oc" �
     ≡ record none_given { out = Some (codes "c"); fill = Some (codes "fF") }
 unfolding clap_on_literals
 raw_bytes = refl
+
+region_named : given form.Bin (codes "bin" ∷ codes "--region" ∷ codes "rom" ∷ codes "-oc" ∷ codes "a" ∷ [])
+    ≡ record none_given { out = Some (codes "c"); region = Some (codes "rom") }
+unfolding clap_on_literals
+region_named = refl
 
 read_bytes : byte_of (codes "fF") ≡ Some 255
 read_bytes = refl

@@ -32,6 +32,7 @@ dumps = record {
   at = None;
   maus = 4;
   keep = [];
+  region = None;
   help = None;
 }
 

@@ -140,6 +140,7 @@ command_by u g = record {
   at = number_in address_of g.at;
   maus = number_by maus_of 4 g.maus;
   keep = g.keep;
+  region = g.region;
   help = None;
 }
 

@@ -35,6 +35,7 @@ explain_command = record {
   at = None;
   maus = 4;
   keep = [];
+  region = None;
   help = None;
 }
 

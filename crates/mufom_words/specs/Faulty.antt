@@ -44,6 +44,7 @@ spelling_of setting.OptionalAt = codes "--at"
 spelling_of setting.Fill = codes "--fill"
 spelling_of setting.Maus = codes "--maus"
 spelling_of setting.Keep = codes "--keep"
+spelling_of setting.Region = codes "--region"
 
 -- the option takes no value
 abbrev pub is_flag : Setting → Bool

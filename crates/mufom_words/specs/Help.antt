@@ -52,6 +52,7 @@ own_command v text = record {
   at = None;
   maus = 4;
   keep = [];
+  region = None;
   help = Some text;
 }
 

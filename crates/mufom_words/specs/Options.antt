@@ -54,7 +54,7 @@ usage_of form.Addr = record { verb = verb.Addr; name = codes "addr"; settings = 
 usage_of form.Bin = record {
   verb = verb.Bin;
   name = codes "bin";
-  settings = setting.NoDebug ∷ setting.Gnu ∷ setting.Plan ∷ setting.Keep ∷ setting.Fill ∷ setting.Out ∷ [];
+  settings = setting.NoDebug ∷ setting.Gnu ∷ setting.Plan ∷ setting.Keep ∷ setting.Fill ∷ setting.Region ∷ setting.Out ∷ [];
   operands = operands.GroupedFiles;
 }
 usage_of form.Txt = record {
@@ -155,9 +155,10 @@ id_of setting.OptionalAt = codes "at"
 id_of setting.Fill = codes "fill"
 id_of setting.Maus = codes "maus"
 id_of setting.Keep = codes "keep"
+id_of setting.Region = codes "region"
 
 -- `--no-debug`, `--gnu`, `--name NAME`, `--plan PLAN`, `-o OUT` (required), `--listing`, `--at ADDRESS` (required or not),
--- `--fill BYTE`, `--maus N` and `--keep NAME` (which may be given several times)
+-- `--fill BYTE`, `--maus N`, `--keep NAME` (which may be given several times) and `--region NAME`
 abbrev pub rule_for : Setting → Rule
 rule_for setting.NoDebug = record (new_rule (id_of setting.NoDebug)) { long = Some (codes "no-debug"); action = Some SetTrue }
 rule_for setting.Gnu = record (new_rule (id_of setting.Gnu)) { long = Some (codes "gnu"); action = Some SetTrue }
@@ -170,6 +171,7 @@ rule_for setting.OptionalAt = record (new_rule (id_of setting.OptionalAt)) { lon
 rule_for setting.Fill = record (new_rule (id_of setting.Fill)) { long = Some (codes "fill") }
 rule_for setting.Maus = record (new_rule (id_of setting.Maus)) { long = Some (codes "maus") }
 rule_for setting.Keep = record (new_rule (id_of setting.Keep)) { long = Some (codes "keep"); action = Some Append }
+rule_for setting.Region = record (new_rule (id_of setting.Region)) { long = Some (codes "region") }
 
 -- ---- how `clap` parses the arguments
 
@@ -232,6 +234,7 @@ pub record Given : Type 0 where
   pub fill : Option Text
   pub maus : Option Text
   pub keep : List Text
+  pub region : Option Text
   -- the operands
   pub operands : List Text
 
@@ -247,5 +250,6 @@ given_by f rows = record {
   fill = value_in (usage_of f).settings rows setting.Fill;
   maus = value_in (usage_of f).settings rows setting.Maus;
   keep = values_in (usage_of f).settings rows setting.Keep;
+  region = value_in (usage_of f).settings rows setting.Region;
   operands = operands_of rows;
 }

@@ -112,6 +112,8 @@ pub struct Command {
     /// `--keep`: the public symbols to keep, in the order of the arguments. If there is one, all that is needed
     /// neither by these, nor by the start address, nor by a section that always stays is left out.
     pub keep: List<Bytes>,
+    /// `--region`: the region of the plan whose bytes alone are written.
+    pub region: Option<Bytes>,
     /// The text that `help` or `version` prints; `None` for other commands.
     pub help: Option<HelpText>,
 }

@@ -45,6 +45,7 @@ fn explain_command(alloc: Global) -> Command
         at: None,
         maus: 4,
         keep: List::new(alloc),
+        region: None,
         help: None,
     }
 }

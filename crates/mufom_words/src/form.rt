@@ -129,6 +129,7 @@ impl Form {
                 Setting::Plan,
                 Setting::Keep,
                 Setting::Fill,
+                Setting::Region,
                 Setting::Out,
             ],
             Form::Txt => &[

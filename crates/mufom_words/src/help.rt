@@ -72,6 +72,7 @@ fn own_command(alloc: Global, verb: Verb, text: &'static str) -> Command
         at: None,
         maus: 4,
         keep: List::new(alloc),
+        region: None,
         help: Some(HelpText::new(text)),
     }
 }

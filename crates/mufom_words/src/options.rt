@@ -35,6 +35,8 @@ pub enum Setting {
     Maus,
     /// `--keep NAME`, which may be given several times.
     Keep,
+    /// `--region NAME`
+    Region,
 }
 
 impl Setting {
@@ -53,6 +55,7 @@ impl Setting {
             Setting::Fill => "--fill",
             Setting::Maus => "--maus",
             Setting::Keep => "--keep",
+            Setting::Region => "--region",
         }
     }
 
@@ -111,6 +114,7 @@ impl Setting {
             Setting::Fill => "fill",
             Setting::Maus => "maus",
             Setting::Keep => "keep",
+            Setting::Region => "region",
         }
     }
 }
@@ -140,6 +144,7 @@ fn option_of<'a>(alloc: Global, setting: Setting) -> Arg<'a>
         Setting::Keep => Arg::new(alloc, "keep")
             .long("keep")
             .action(ArgAction::Append),
+        Setting::Region => Arg::new(alloc, "region").long("region"),
     }
 }
 

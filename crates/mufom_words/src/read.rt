@@ -190,6 +190,7 @@ fn command_from(
     let operands = form.operands();
     let name = kept_bytes(alloc, value_in(matches, form, Setting::Name))?;
     let keep = keep_in(alloc, matches, form)?;
+    let region = kept_bytes(alloc, value_in(matches, form, Setting::Region))?;
     let out = kept_text(alloc, value_in(matches, form, Setting::Out))?;
     let plan = kept_text(alloc, value_in(matches, form, Setting::Plan))?;
     let marks = marks_of(alloc, operands, words)?;
@@ -209,6 +210,7 @@ fn command_from(
         at: address_in(matches, form),
         maus: maus_in(matches, form),
         keep,
+        region,
         help: None,
     })
 }

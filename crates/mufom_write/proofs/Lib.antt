@@ -27,3 +27,4 @@ pub mod NamingDebug
 pub mod NamingLoads
 pub mod NamingFile
 mod RunsOfBytes
+mod RangeLaws

@@ -3,3 +3,4 @@ pub mod Holding
 pub mod HoldingChains
 pub mod Writing
 pub mod Raw
+pub mod Range

@@ -18,11 +18,13 @@ mod names;
 mod output;
 mod parts;
 mod places;
+mod range;
 mod raw;
 mod sections;
 mod write;
 
 pub use measure::layout;
 pub use places::FileLayout;
+pub use range::write_range;
 pub use raw::{raw_length, write_raw};
 pub use write::{WriteStop, write_module};

@@ -14,8 +14,8 @@ use mufom_meaning::Run;
 /// The greatest number of bytes between runs that are written at once.
 const BLOCK: usize = 256;
 
-// Writes `count` bytes of the value `fill`, for the addresses between two runs.
-fn gap<K: Output>(out: &mut K, count: u64, fill: u8) -> Result<(), Failed>
+/// Writes `count` bytes of the value `fill`, for the addresses between two runs.
+pub(crate) fn gap<K: Output>(out: &mut K, count: u64, fill: u8) -> Result<(), Failed>
     ensures { K.takes out.old out.new (replicate count fill) result }
 {
     let block = [fill; BLOCK];

@@ -15,6 +15,10 @@ pub explain_unlocated-requires-clause-names : goal.explain_unlocated-requires-cl
 explain_unlocated-requires-clause-names g c =
     (subst (IsObstacle (tree_of c.args.inputs.now.marks) c.args.keep.now c.args.modules.now) c.in-Unlocated.is c.requires.obstacle).names
 
+pub explain_unlocated-requires-clause-met : goal.explain_unlocated-requires-clause-met
+explain_unlocated-requires-clause-met g c =
+    (subst (IsObstacle (tree_of c.args.inputs.now.marks) c.args.keep.now c.args.modules.now) c.in-Unlocated.is c.requires.obstacle).met
+
 pub returns-in-Unlinked : goal.returns-in-Unlinked
 returns-in-Unlinked g c = λ files plan made read planned.
     let inputs = c.args.inputs.now in let keep = c.args.keep.now in let ms = c.args.modules.now in

@@ -18,7 +18,7 @@ returns-in-Ok-kept_part-clause-ok c =
     let same : roots_with c.as_slice.result.now c.as_slice-2.result.now ≡ keep = λ i. roots_with (c.as_slice.ensures i) (c.as_slice-2.ensures i) in
     if-ok-map c.locate_part.result (LocatesPart part plan) (AreMapped tree keep plan ms)
     (λ m at. part-mapped tree c.requires.linkable.sound.tree.numbered ms c.requires.linkable.valid keep plan places whole part c.in-Ok.ensures.ok
-    (subst (λ (k : Option Roots). IsKeptPart k whole part) same c.in-Ok-kept_part.ensures.ok) c.requires.plan m at) c.locate_part.ensures.ok
+    (subst (λ (k : Option Roots). IsKeptPart k whole part) same c.in-Ok-kept_part.ensures.ok) c.in-Ok-kept_part.ensures.names c.in-Ok-kept_part.ensures.light c.requires.plan m at) c.locate_part.ensures.ok
 
 pub returns-in-Ok-kept_part-clause-obstacle : goal.returns-in-Ok-kept_part-clause-obstacle
 returns-in-Ok-kept_part-clause-obstacle c =
@@ -28,5 +28,5 @@ returns-in-Ok-kept_part-clause-obstacle c =
     = λ i. roots_with (c.as_slice.ensures i) (c.as_slice-2.ensures i) in
     if-err-map c.locate_part.result (IsUnlocatedPart part plan places) (IsObstacle tree names ms)
     (λ o is. unlocated-is tree names ms places whole part plan c.in-Ok.ensures.ok
-    (subst (λ (k : Option Roots). IsKeptPart k whole part) same c.in-Ok-kept_part.ensures.ok) c.in-Ok-kept_part.ensures.names c.requires.plan o is)
+    (subst (λ (k : Option Roots). IsKeptPart k whole part) same c.in-Ok-kept_part.ensures.ok) c.in-Ok-kept_part.ensures.names c.in-Ok-kept_part.ensures.light c.requires.plan o is)
     c.locate_part.ensures.refused

@@ -1,18 +1,18 @@
-use Rattle.std.proofs.Common.{ℕ, sym, ap, subst, ◌∙◌}
+use Rattle.std.proofs.Common.{ℕ, refl, sym, ap, subst, ◌∙◌}
 use Rattle.mufom_make.specs.Generated.{made_modules, made_plan}
 use Rattle.mufom_outcome.specs.declared.outcome.Outcome.{Outcome}
 use Rattle.mufom_command.specs.Works.{located}
 use Rattle.mufom_command.specs.WorkEnds.{EndsAt}
 use Rattle.mufom_outcome.specs.Outcomes.{outcome_of_locate}
-use Rattle.mufom_command.proofs.EndLaws.{is-located, locate-ends}
+use Rattle.mufom_command.proofs.EndLaws.{plain-ends, plain-located}
 use Rattle.mufom_command.proofs.MakeLaws.{made-units}
 use Rattle.mufom_command.proofs.making.generated.Goals as goal
 
 pub returns-in-Ok-clause-ok : goal.returns-in-Ok-clause-ok
-returns-in-Ok-clause-ok c = is-located (made_modules c.args.count) (made_plan c.args.count) c.in-Ok.located c.in-Ok.ensures.located
+returns-in-Ok-clause-ok c = plain-located (made_modules c.args.count) (made_plan c.args.count) refl (refl, tt) c.in-Ok.located c.in-Ok.ensures.located
 
 pub returns-in-Err-clause-stops : goal.returns-in-Err-clause-stops
 returns-in-Err-clause-stops c =
     subst (λ (o : Outcome). EndsAt (located (made_plan c.args.count) (made_modules c.args.count)) o)
     (sym (c.outcome_of_locate.ensures ∙ ap (λ (n : ℕ). outcome_of_locate n c.in-Err.refusal) (sym (made-units c.args.count c.requires.some))))
-    (locate-ends (made_modules c.args.count) (made_plan c.args.count) c.in-Err.refusal c.in-Err.ensures.refused)
+    (plain-ends (made_modules c.args.count) (made_plan c.args.count) refl (refl, tt) c.in-Err.refusal c.in-Err.ensures.refused)

@@ -1,8 +1,11 @@
-use Rattle.std.proofs.Common.{List, ap, inr, length, refl, ◌∙◌, ◌≡◌}
-use Rattle.mufom_command.proofs.WorkLaws.{raw-stops}
+use Rattle.std.proofs.Common.{List, ap, arith, inr, length, refl, sym, subst, ◌∙◌, ◌≡◌, ◌<◌, ◌≤◌, ℕ}
+use Rattle.mufom_command.proofs.WorkLaws.{bytes-give, bytes-stop, not-too-many, too-many}
+use Rattle.mufom_command.specs.Works.{length_fact}
 use Rattle.mufom_meaning.specs.declared.located.LocatedParts.{LocatedParts}
 use Rattle.mufom_meaning.specs.declared.located.Run.{Run}
-use Rattle.mufom_outcome.specs.Stop.{raw_too_long}
+use Rattle.mufom_numbers.specs.declared.limits.TheConstants.{MOST_FILE_BYTES}
+use Rattle.mufom_outcome.specs.declared.outcome.BinRefusal.TheVariants as bins
+use Rattle.mufom_outcome.specs.Stop.{bytes_refused}
 use Rattle.mufom_write.specs.Raw.{raw_image}
 use Rattle.mufom_command.proofs.ready.raw_file.Goals as goal
 
@@ -12,4 +15,10 @@ returns-then-count-clause-stops c =
     let runs : c.as_slice.result.now ≡ r.runs = c.as_slice.ensures ∙ ap (λ (p : LocatedParts). p.runs) c.parts.ensures.same in
     let counted : c.raw_length-count.result ≡ length (raw_image fill r.runs)
     = c.raw_length-count.ensures fill ∙ ap (λ (l : List Run). length (raw_image fill l)) runs in
-    inr (raw_too_long c.raw_length-count.result, tt, refl, raw-stops fill out r c.raw_length-count.result counted c.if-count.true)
+    let fact = ap length_fact (sym counted) ∙ too-many c.raw_length-count.result c.if-count.true in
+    inr (
+      bytes_refused (bins.TooLong c.raw_length-count.result),
+      tt,
+      refl,
+      bytes-stop (length_fact (length (raw_image fill r.runs))) (bins.TooLong c.raw_length-count.result) fact out (raw_image fill r.runs),
+    )

@@ -20,6 +20,12 @@ returns-in-Absolute-clause-stops c = if-err-map c.absolute_file.result (λ (o : 
 pub returns-in-Raw-clause-stops : goal.returns-in-Raw-clause-stops
 returns-in-Raw-clause-stops c = rw c.in-Raw.is c.raw_file.ensures.stops
 
+pub returns-in-Region-clause-ok : goal.returns-in-Region-clause-ok
+returns-in-Region-clause-ok c = rw c.in-Region.is c.region_file.ensures.ok
+
+pub returns-in-Region-clause-stops : goal.returns-in-Region-clause-stops
+returns-in-Region-clause-stops c = rw c.in-Region.is c.region_file.ensures.stops
+
 pub returns-in-TiTxt-clause-ok : goal.returns-in-TiTxt-clause-ok
 returns-in-TiTxt-clause-ok c = rw c.in-TiTxt.is refl
 

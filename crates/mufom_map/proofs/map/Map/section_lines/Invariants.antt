@@ -7,5 +7,5 @@ use Rattle.mufom_map.proofs.map.Map.section_lines.Given as goal
 
 abbrev pub invariant-loop-number : goal.invariant-loop-number
 invariant-loop-number g l = g.K.Output.takes l.fn.out l.out
-    (flat_map (λ s. section_line l.self.maus (shown_section l.self.origins.now l.self.section_regions.items s))
-    (take l.number-index (ordered (λ (s : ℕ × Section). base_of s.1) l.self.room.sections.now)))
+    (flat_map (λ s. section_line l.self.entries.maus (shown_section l.self.entries.origins.now l.self.entries.section_regions.items l.self.entries.first_copy s))
+    (take l.number-index (ordered (λ (s : ℕ × Section). base_of s.1) l.self.entries.sections.now)))

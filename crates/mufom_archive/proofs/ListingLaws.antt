@@ -1,0 +1,80 @@
+-- Listings: there is one, and the position of its first error.
+use Rattle.std.proofs.Common.{◌≡◌, ◌≤◌, ℕ, Bool, true, false, not, cond, nat_lt, List, [], ◌∷◌, length, take, drop, zero, suc, ◌+◌, length-drop}
+use Rattle.std.proofs.Common.{Option, Some, None, sym, ◌∙◌, ap, refl, arith}
+use Rattle.std.specs.List.{before_first, find, position, position_or_len}
+use Rattle.std.proofs.lemmas.Bool.Decides.{nat_tests}
+use Rattle.std.proofs.lemmas.List.Sums.{prefix_len-le-length}
+use Rattle.mufom_archive.specs.declared.entry.Entry.{Entry}
+use Rattle.mufom_archive.specs.declared.listing.BadArchive.{BadArchive}
+use Rattle.mufom_archive.specs.Entries.{AreEntries, contents_of_table, entry_at, entry_of, long_names, next_offset}
+use Rattle.mufom_archive.specs.Listings.{IsListing, Member, first_error, is_refused, members_of}
+use Rattle.mufom_archive.specs.Laws.{HaveListing, HaveOneListing}
+use Rattle.mufom_archive.specs.Reading.{Knows}
+use Rattle.mufom_archive.proofs.EntryLaws.{entry_parts, entry_short, one_reading}
+use Rattle.std.proofs.lemmas.List.{length-take}
+
+pub one_listing : HaveOneListing
+one_listing bytes ms ns a b one two =
+    let same = one_reading bytes 8 one.entries two.entries one.next two.next one.found one.last two.found two.last in
+    let listed : List Entry → List Member
+    = λ es. members_of (long_names bytes es) (before_first (is_refused (long_names bytes es) (length bytes)) es) in
+    let refused : List Entry → ℕ → Option BadArchive
+    = λ es n. first_error (length bytes) n (find (is_refused (long_names bytes es) (length bytes)) es) in
+    let errors : refused one.entries one.next ≡ refused two.entries two.next = λ i. refused (same.0 i) (same.1 i) in
+    (one.listed ∙ ap listed same.0 ∙ sym two.listed, one.refused ∙ errors ∙ sym two.refused)
+
+-- no element passes
+pub none_passes : {X : Type 0} (p : X → Bool) (xs : List X) → position p xs ≡ None → length xs ≡ position_or_len p xs
+none_passes p xs none = by_test (nat_lt (position_or_len p xs) (length xs)) refl none where
+  by_test : (b : Bool) → nat_lt (position_or_len p xs) (length xs) ≡ b → cond b (Some (position_or_len p xs)) None ≡ None
+      → length xs ≡ position_or_len p xs
+  by_test true is some = absurd (cc)
+  by_test false is some = let within = prefix_len-le-length (λ x. not (p x)) xs in grind (arith, nat_tests)
+
+-- what a reader knows of a whole stream is its listing
+pub listing_known : (stream : List ℕ) (size : ℕ) (entries : List Entry) (next : ℕ) (header : List ℕ) (table : Option Entry) (names : List ℕ)
+    → Knows stream size entries next header table names
+    → IsListing stream (members_of names (before_first (is_refused names size) entries)) (first_error size next (find (is_refused names size) entries))
+listing_known stream size entries next header table names k =
+    let named : names ≡ long_names stream entries = k.named ∙ ap (contents_of_table stream) k.first in
+    record {
+      entries = entries;
+      next = next;
+      found = k.found;
+      last = ap (entry_of next) (sym k.pending) ∙ k.last;
+      listed = λ i. members_of (named i) (before_first (is_refused (named i) (k.counted i)) entries);
+      refused = λ i. first_error (k.counted i) next (find (is_refused (named i) (k.counted i)) entries);
+    }
+
+-- ---- all bytes have a listing
+
+-- the entries from an offset on, and where they stop
+pub record AreAll (bytes : List ℕ) (at : ℕ) : Type 0 where
+  pub entries : List Entry
+  pub next : ℕ
+  pub found : AreEntries bytes at entries next
+  pub last : entry_at bytes next ≡ None
+
+pub none_left : (bytes : List ℕ) (at : ℕ) → length bytes ≤ at → entry_at bytes at ≡ None
+none_left bytes at past = entry_short at (take 60 (drop at bytes)) (omega (arith, length-take 60 (drop at bytes), length-drop at bytes))
+
+all_entries : (fuel : ℕ) (bytes : List ℕ) (at : ℕ) → length bytes ≤ at + fuel → AreAll bytes at
+all_entries zero bytes at enough = record { entries = []; next = at; found = refl; last = none_left bytes at (omega arith) }
+all_entries (suc fuel) bytes at enough = by_entry (entry_at bytes at) refl (λ next. all_entries fuel bytes next) where
+  by_entry : (o : Option Entry) → entry_at bytes at ≡ o → ((next : ℕ) → length bytes ≤ next + fuel → AreAll bytes next) → AreAll bytes at
+  by_entry None is further = record { entries = []; next = at; found = refl; last = is }
+  by_entry (Some e) is further =
+      let parts = entry_parts at (take 60 (drop at bytes)) e is in
+      let start = parts.start in let order = parts.order in
+      let rest = further (next_offset e) (omega arith) in
+      record { entries = e ∷ rest.entries; next = rest.next; found = (is, rest.found); last = rest.last }
+
+pub each_listing : HaveListing
+each_listing bytes =
+    let all = all_entries (length bytes) bytes 8 (omega arith) in
+    let names = long_names bytes all.entries in
+    let refused = is_refused names (length bytes) in (
+      members_of names (before_first refused all.entries),
+      first_error (length bytes) all.next (find refused all.entries),
+      record { entries = all.entries; next = all.next; found = all.found; last = all.last; listed = refl; refused = refl },
+    )

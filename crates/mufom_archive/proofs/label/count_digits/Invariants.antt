@@ -1,0 +1,6 @@
+use Rattle.std.proofs.Common.{◌≡◌, ℕ, ◌<◌, get_or, true}
+use Rattle.std.specs.Char.{is_ascii_digit}
+use Rattle.mufom_archive.proofs.label.count_digits.Given as goal
+
+abbrev pub invariant-loop-count : goal.invariant-loop-count
+invariant-loop-count l = (k : ℕ) → k < l.count → is_ascii_digit (get_or l.text k 0) ≡ true
