@@ -13,8 +13,9 @@ import os, re, sys
 
 COMMAND = "mufom_command/src/"
 # The functions whose clauses a reader has to trust: the file below crates/, and the name (None: every function in the file).
-ROOTS = [("mufom_headline/src/laws.rt", None), (COMMAND + "command.rt", "run"), ("mufom_run_laws/src/laws.rt", None), ("mufom_groups/src/laws.rt", None),
-         ("mufom_make/src/laws.rt", None)]
+ROOTS = [("mufom_headline/src/laws.rt", None), ("mufom_headline/src/read_back.rt", None), (COMMAND + "command.rt", "run"),
+         ("mufom_run_laws/src/laws.rt", None), ("mufom_read/src/laws.rt", None), ("mufom_groups/src/laws.rt", None),
+         ("mufom_prune/src/laws.rt", None), ("mufom_make/src/laws.rt", None)]
 # What an auditor reads in addition: the clauses of the outside world, the exit status, and how contracts see these types.
 BESIDE = ["mufom_host/src/world.rt", "mufom_outcome/src/outcome.rt", "mufom_numbers/src/text.rt", "mufom_numbers/src/bytes.rt",
           "mufom_numbers/src/list.rt", "mufom_expr/src/postfix.rt", "mufom_module/src/module.rt"]
@@ -206,7 +207,8 @@ def file_of(path):
     crate = words[1]
     if not os.path.isdir(f"crates/{crate}"):
         return "library", path, None
-    if words[3:4] == ["declared"]:
+    # (a type whose contracts are of its own, as a recursive one, is declared under `contracts`)
+    if words[3:4] in (["declared"], ["contracts"]):
         rest = words[4:]
         cut = next((n for n, it in enumerate(rest) if it[:1].isupper()), len(rest))
         name = rest[cut] if cut < len(rest) else ""
@@ -314,9 +316,10 @@ def page_text():
     return "\n".join([
         "# What you have to trust", "",
         "This page lists all definitions that are reached from the laws of `mufom_headline`, the contract of `run`, and the public laws of `mufom_run_laws`,"
-        " `mufom_groups` and `mufom_make`. Anyone who reads them and trusts the toolchain knows what is proved; [how to read a contract](ARCHITECTURE.md#how-to-read-a-contract)"
-        " explains the notation. `python3 tools/audit.py` writes this page; with `--check` it says whether the page is up to"
-        " date.", "",
+        " `mufom_read`, `mufom_groups`, `mufom_prune` and `mufom_make`. Anyone who reads them, and trusts the toolchain and"
+        " [the code without a contract](#the-code-without-a-contract), knows what is proved;"
+        " [how to read a contract](ARCHITECTURE.md#how-to-read-a-contract) explains the notation. `python3 tools/audit.py` writes this page; with"
+        " `--check` it says whether the page is up to date.", "",
         "## The clauses", "", "| function | lines | file |", "|---|---|---|",
         *[f"| `{name}` | {lines} | `crates/{path}` |" for path, name, lines, _ in functions], "",
         "## The definitions", "", "In the order in which they are reached.", "", *table_of(reached), "",
@@ -330,6 +333,12 @@ def page_text():
         "", *[f"- `crates/{it}`" for it in BESIDE], "",
         "and two laws that tie the facts to a list: "
         + " and ".join(f"`{name}` of `crates/{place}`" for place, name in FACTS) + ".", "", *table_of(beside), "", *listed(beside.types - reached.types), "",
+        "## The code without a contract", "",
+        "`run` is proved over any host. No clause covers how the arguments, files and streams of the system reach it:", "",
+        "- `main` and `all_arguments` of `crates/mufom/src/main.rt` take the arguments from the system, and end the process with the status.",
+        "- `RealHost` of `crates/mufom_host/src/real.rt` calls the system. It is trusted that a file or a stream takes the bytes that are passed to"
+        " it, and returns those that it has. Blocks, short and interrupted calls, and lasting failures are proved over any writer and reader"
+        " (`crates/mufom_host/src/streams.rt`).", "",
         "## The toolchain's library", "", "Definitions of the library that these use, by module.", "", *listed(library), ""])
 
 
