@@ -42,8 +42,8 @@ For more:
                        line `refused: locate: Misfit section 3 region 0`
                        that is `mufom help Misfit`
 A line `usage: ..` means that the arguments are wrong: `mufom explain` before
-the command prints which. `usage`, `read`, `write`, `memory` and `plan` are
-NAMEs too, for lines that begin so.
+the command prints which. `mufom help` also has the texts `usage`, `read`,
+`write` and `memory`, for lines without a NAME, and `plan`, on memory plans.
 ";
 
 /// The text of `help show`.
@@ -146,7 +146,7 @@ module needs it.
 Options:
   --gnu         accept the forms in which GNU binutils writes modules
   --no-debug    skip the debug parts without reading them
-  --plan PLAN   the file of the memory plan, a TOML document
+  --plan PLAN   the file of the memory plan: `mufom help plan` shows one
   --keep NAME   keep only what is reachable from the public symbol NAME, from
                 the start address and from the sections with a base address
                 or in the plan's keep; debug items are left out. May be
@@ -185,7 +185,7 @@ module needs it.
 Options:
   --gnu         accept the forms in which GNU binutils writes modules
   --no-debug    skip the debug parts without reading them
-  --plan PLAN   the file of the memory plan, a TOML document
+  --plan PLAN   the file of the memory plan: `mufom help plan` shows one
   --keep NAME   keep only what is reachable from the public symbol NAME, from
                 the start address and from the sections with a base address
                 or in the plan's keep; debug items are left out. May be
@@ -227,12 +227,12 @@ FILES are files and groups, then perhaps a + and members:
 Options:
   --gnu         accept the forms in which GNU binutils writes modules
   --no-debug    skip the debug parts without reading them
-  --plan PLAN   the file of the memory plan, a TOML document
+  --plan PLAN   the file of the memory plan: `mufom help plan` shows one
   --keep NAME   keep only what is reachable from the public symbol NAME, the
                 start address and sections with a base or in the plan's keep;
                 modules are printed all. May be given several times
-  --at ADDRESS  print only the section at this hexadecimal address, and the
-                nearest public in it, with the offset from that
+  --at ADDRESS  print only the section at this address (hexadecimal, without
+                0x), and the nearest public in it, with the offset from that
   --            end the options; brackets and + keep their meaning
 
 Exit status:
@@ -259,17 +259,17 @@ FILES are files and groups, then perhaps a + and members:
   a.695 [ b.695 c.695 ] + library.695
 
 Options:
-  --gnu         accept the forms in which GNU binutils writes modules
-  --no-debug    skip the debug parts without reading them
-  --plan PLAN   the file of the memory plan, a TOML document
-  --keep NAME   keep only what is reachable from the public symbol NAME, from
-                the start address and from the sections with a base address
-                or in the plan's keep; debug items are left out. May be
-                given several times
-  --fill BYTE   two hexadecimal digits, as FF, for the gaps; 00 without it
-  --region NAME write the region of this name in the plan, whole
-  -o OUT        the file to write; required
-  --            end the options; brackets and + keep their meaning
+  --gnu           accept the forms in which GNU binutils writes modules
+  --no-debug      skip the debug parts without reading them
+  --plan PLAN     the file of the memory plan: `mufom help plan` shows one
+  --keep NAME     keep only what is reachable from the public symbol NAME, from
+                  the start address and from the sections with a base address
+                  or in the plan's keep; debug items are left out. May be
+                  given several times
+  --fill BYTE     two hexadecimal digits, as FF, for the gaps; 00 without it
+  --region NAME   write all of the plan's region with this name
+  -o OUT          the file to write; required
+  --              end the options; brackets and + keep their meaning
 
 Exit status:
   0 done, 1 refused, 2 usage, 3 read fault, 4 write fault (a part of OUT may
@@ -291,13 +291,16 @@ addresses a line `@` with the first address, then lines of up to 16 bytes, and
 at the end the line `q`. Addresses and bytes are hexadecimal. The start
 address, the public symbols and the debug items are not in it.
 
+S-records and Intel HEX (-intel) are made of it with the program `srec_cat`:
+  srec_cat OUT -ti-txt -execution-start-address 0x100 -output NEW -motorola
+
 FILES are files and groups, then perhaps a + and members:
   a.695 [ b.695 c.695 ] + library.695
 
 Options:
   --gnu         accept the forms in which GNU binutils writes modules
   --no-debug    skip the debug parts without reading them
-  --plan PLAN   the file of the memory plan, a TOML document
+  --plan PLAN   the file of the memory plan: `mufom help plan` shows one
   --keep NAME   keep only what is reachable from the public symbol NAME, from
                 the start address and from the sections with a base address
                 or in the plan's keep; debug items are left out. May be
@@ -379,15 +382,16 @@ one address:
   function KIND NAME BEGIN END   the innermost function around the address
   line N ADDR source NAME        the nearest line at or before the address
 KIND is 4 for a global function and 6 for a local one. What is not known is
-`none`.
+`none`. If the modules have no debug records, use `map --at`: it names the
+section and the nearest public symbol.
 
 FILES are files and groups, then perhaps a + and members:
   a.695 [ b.695 c.695 ] + library.695
 
 Options:
   --gnu          accept the forms in which GNU binutils writes modules
-  --plan PLAN    the file of the memory plan, a TOML document
-  --at ADDRESS   the address, 1 to 16 hexadecimal digits; required
+  --plan PLAN    the file of the memory plan: `mufom help plan` shows one
+  --at ADDRESS   the address, 1 to 16 hexadecimal digits without 0x; required
   --             end the options; brackets and + keep their meaning
 
 Exit status:

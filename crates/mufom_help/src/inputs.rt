@@ -76,7 +76,8 @@ What to do:
       base = 0x2000
       size = 256
       sections = [\"*\"]
-  - Any other program that reads TOML names the line that is wrong.
+  - Put `explain` before the command: it prints the line on which the first
+    statement begins that is not TOML.
 ";
 
 /// The text of `help Shape`.
@@ -106,6 +107,8 @@ Usual causes:
   - A key is misspelled or missing: a region needs name, base, size, sections.
   - `region` or `symbol` is written as [region] instead of [[region]].
   - `keep` is not an array of texts, or has a name twice.
+  - `keep` comes after a [[region]] or a [[symbol]]: it must come before them,
+    or it is a key of that table (`extra`).
   - A number is in quotes.
   - A section is listed in two regions, or * is.
 

@@ -135,8 +135,8 @@ A plan is the file after --plan. It says where the sections go:
   [[symbol]]
   name = \"data_begin\"        # a public symbol that the plan defines, by one of
   start = \"data\"             # value, start, end, load and region_end
-`start` and `end` are the addresses of a section in the list of a region, `load`
-is where its bytes are stored, and `region_end` is the end of what a region has.
+`start` and `end` are where the sections of a name begin and end, `load` where
+their bytes are stored, and `region_end` the end of all that is in a region.
 ";
 
 /// The text about error lines that begin with a word.

@@ -39,11 +39,14 @@ Usual causes:
   - A library's function was replaced by one of the program, and a member that
     defines it too is needed for another name.
   - The plan and the startup code both define an address of a section.
+  - A file that `locate` wrote is located by the same plan again. It has the
+    symbols of the plan already.
 
 What to do:
   - Put `explain` before the command: it names each module that defines NAME,
     and its file, and the symbol of the plan.
   - Remove one of the definitions, make it local to its module, or rename it.
+  - Use a located file without --plan, or name the files that it was made of.
   - Put a library after the +. Its modules are then linked only if they are
     needed.
 ";

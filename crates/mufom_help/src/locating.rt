@@ -88,11 +88,13 @@ Usual causes:
   - The name is spelled in another way: upper and lower case differ, and
     compilers put a _ before a name, or after it.
   - The module that defines NAME keeps it local.
+  - NAME is a symbol of a plan, and --plan is missing or names another plan.
 
 What to do:
   - Put `explain` before the command: it names each module that refers to NAME,
     and does the same for all other undefined names.
   - Name the file that defines NAME, before the + or after it.
+  - Or define NAME in the plan: `mufom help plan` shows a symbol.
 ";
 
 /// The text of `help CommonUnplaced`.

@@ -40,6 +40,8 @@ What to do:
   - Check the name of file N. Brackets and + are not counted.
   - Look at how it begins: xxd -l 96 FILE.
   - If it is a library, take its modules out, and name them after a +.
+  - If it is an object of gcc, GNU binutils 2.16.1 can write it as a module:
+      objcopy -O ieee a.o a.695
 ";
 
 /// The text of `help BadDescriptor`.
