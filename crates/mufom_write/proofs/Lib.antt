@@ -28,3 +28,4 @@ pub mod NamingLoads
 pub mod NamingFile
 mod RunsOfBytes
 mod RangeLaws
+mod RawLaws

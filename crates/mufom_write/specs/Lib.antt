@@ -4,3 +4,4 @@ pub mod HoldingChains
 pub mod Writing
 pub mod Raw
 pub mod Range
+pub mod Laws

@@ -12,6 +12,7 @@
 mod debug;
 mod fields;
 mod held;
+mod laws;
 mod loads;
 mod measure;
 mod names;
@@ -23,6 +24,7 @@ mod raw;
 mod sections;
 mod write;
 
+pub use laws::raw_images_are_ranges;
 pub use measure::layout;
 pub use places::FileLayout;
 pub use range::write_range;

@@ -146,8 +146,10 @@ pub fn write_range<K: Sink>(
     sink: &mut K,
 ) -> Result<(), WriteStop>
     requires { AreApart 0 runs.now }
-    ensures whole { OnOk result (MakingGrowsBy (K.meaning sink.old).making (K.meaning sink.new).making (range_image fill from count runs.now)) }
-    ensures prefix { OnErr result (MakingGrowsByPrefix (K.meaning sink.old).making (K.meaning sink.new).making (range_image fill from count runs.now)) }
+    ensures whole { OnOk result
+        (MakingGrowsBy (K.meaning sink.old).making (K.meaning sink.new).making (range_image fill from count runs.now)) }
+    ensures prefix { OnErr result
+        (MakingGrowsByPrefix (K.meaning sink.old).making (K.meaning sink.new).making (range_image fill from count runs.now)) }
     ensures only { OnlyWrites (K.meaning sink.old) (K.meaning sink.new) (K.faults sink.old) (K.faults sink.new) }
     ensures cause { OnErr result (Rose (K.faults sink.old).writes (K.faults sink.new).writes) }
 {
