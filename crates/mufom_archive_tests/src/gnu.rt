@@ -30,8 +30,8 @@ fn listing(rt: &impl Abort, alloc: Global, bytes: &[u8], chunk: usize) -> Listin
 {
     let mut archive = Archive::new(alloc);
     for part in bytes.chunks(chunk) {
-        assert!(rt; archive.len() < 1000);
-        assert!(rt; part.len() < 1000);
+        assert!(rt; archive.len() < 1000, "chunks of {chunk} bytes");
+        assert!(rt; part.len() < 1000, "chunks of {chunk} bytes");
         archive.feed(part).expect(rt, "memory");
     }
     archive.finish()
@@ -42,10 +42,10 @@ fn has_members(rt: &impl Abort, listing: &Listing, count: usize) {
     let mut number = 0;
     for entry in listing.entries.as_slice() {
         if entry.is_member() {
-            assert!(rt; number < 3);
+            assert!(rt; number < 3, "member {number}");
             let (name, start, end) = MEMBERS[number];
-            assert_eq!(rt; listing.name(entry), Some(name));
-            assert_eq!(rt; (entry.start, entry.end), (start, end));
+            assert_eq!(rt; listing.name(entry), Some(name), "member {number}");
+            assert_eq!(rt; (entry.start, entry.end), (start, end), "member {number}");
             number += 1;
         }
     }
@@ -58,7 +58,7 @@ fn members_are_found_in_any_chunks(rt: HostRuntime) {
     for chunk in [1, 7, 64, 1000] {
         let listing = listing(&rt, rt.alloc(), ARCHIVE, chunk);
         has_members(&rt, &listing, 3);
-        assert_eq!(&rt; listing.error, None);
+        assert_eq!(&rt; listing.error, None, "chunks of {chunk} bytes");
     }
 }
 

@@ -61,7 +61,7 @@ pub record IsKeptPart (keep : Option Roots) (whole part : TracedModule) : Type 0
 abbrev pub shown_of : Location → Mapped
 shown_of m = mapped_by m.origins (planned_layout (m.object ∷ []) m.plan) m.located
 
--- the module, no two publics of which have the same name and which is not too heavy, is located by a plan that was read
+-- the module, no two publics of which have the same name and which is light enough, is located by a plan that was read
 pub record AreLocated (m : Location) : Type 0 where
   pub names : AreDistinct (names_of m.object.names.publics)
   pub light : weight m.object < weight_limit
@@ -105,7 +105,7 @@ pub record IsUnkept (tree : Forest) (keep : Option Roots) (ms : List Parts) (r :
   pub link : IsTracedLink tree ms places whole
   pub ends : EndsAt (own_kept keep whole.object) (outcome_of_prune r)
 
--- what is kept of such a link, in which no two publics have the same name and which is not too heavy, cannot be located
+-- what is kept of such a link, in which no two publics have the same name and which is light enough, cannot be located
 pub record IsUnlocated (tree : Forest) (keep : Option Roots) (ms : List Parts) (r : PlannedRefusal) (part : TracedModule) (plan : Plan) (places : Places)
     : Type 0 where
   pub whole : TracedModule

@@ -75,7 +75,11 @@ made_modules count = modules_from count count 0
 
 -- the plan for `count` modules: one region, which takes all sections
 abbrev pub made_plan : (count : ℕ) → Plan
-made_plan count = record { regions = record { name = codes "all"; base = 4096; size = 16 * count; sections = codes "*" ∷ []; common = false; load = None } ∷ []; symbols = []; keep = [] }
+made_plan count = record {
+  regions = record { name = codes "all"; base = 4096; size = 16 * count; sections = codes "*" ∷ []; common = false; load = None } ∷ [];
+  symbols = [];
+  keep = [];
+}
 
 -- four lines about `count` modules and their location: the number of modules, of publics and of loaded bytes, and the sum of those bytes
 abbrev pub summary : (count : ℕ) → LocatedParts → List ℕ

@@ -71,7 +71,7 @@ const OPTIONS: ReadOptions = ReadOptions {
 fn read(rt: &impl Abort, alloc: Global, fed: &[&[u8]]) -> Module {
     let mut reader = Reader::new(alloc, OPTIONS).expect(rt, "memory");
     for chunk in fed {
-        assert_eq!(rt; reader.feed(chunk), Ok(()));
+        assert_eq!(rt; reader.feed(chunk), Ok(()), "{chunk:?}");
     }
     match reader.finish() {
         Ok(module) => module,

@@ -1,4 +1,4 @@
--- The module of a sound location has no defect, if it is not too heavy.
+-- The module of a sound location has no defect, if it is light enough.
 use Rattle.std.proofs.Common.{◌≡◌, ℕ, ◌^◌, ◌<◌, List, [], ◌∷◌, map, length, Option, Some, None, Bool, false, not, ◌||◌}
 use Rattle.std.proofs.Common.{◌&&◌, refl, sym, ◌∙◌, ap, subst, cond}
 use Rattle.std.specs.Prelude.{option_map, is_none}
