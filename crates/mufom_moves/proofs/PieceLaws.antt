@@ -1,14 +1,12 @@
--- Pieces that are moved, and runs that are loaded piece by piece.
-use Rattle.std.proofs.Common.{◌≡◌, ℕ, zero, suc, ◌+◌, ◌-◌, ◌<◌, ◌≤◌, ◌^◌, inl, inr, List, [], ◌∷◌, ◌++◌, length, take, drop, get_or, Some, None, Bool, true, false}
-use Rattle.std.proofs.Common.{◌||◌, refl, sym, ◌∙◌, ap, subst, arith, append_assoc, append-nil}
-use Rattle.std.specs.Prelude.{◌==◌, if◌then◌else◌}
+-- Pieces of runs at the addresses to which they are moved.
+use Rattle.std.proofs.Common.{◌≡◌, ℕ, zero, suc, ◌+◌, ◌-◌, ◌<◌, ◌≤◌, ◌^◌, inl, inr, List, [], ◌∷◌, ◌++◌, length, take, drop, get_or, Bool, true, false}
+use Rattle.std.proofs.Common.{refl, sym, ◌∙◌, ap, subst, arith, append_assoc, append-nil}
+use Rattle.std.specs.Prelude.{nat_lt, if◌then◌else◌}
 use Rattle.std.proofs.lemmas.List.{map-append}
 use Rattle.mufom_meaning.specs.declared.located.Run.{Run}
 use Rattle.mufom_meaning.specs.AddressMap.{Cell, cells_from, run_cells, AreApart}
-use Rattle.mufom_meaning.specs.Facts.{loaded_twice}
 use Rattle.mufom_meaning.specs.Runs.{run_end}
-use Rattle.mufom_meaning.specs.Walk.{has_number, first_twice}
-use Rattle.mufom_numbers.proofs.Choices.{equal_numbers}
+use Rattle.mufom_numbers.proofs.Choices.{of_lt, of_not_lt}
 use Rattle.mufom_meaning.proofs.Members.{In, In-Contains, In-map, map-In, In-flat_map}
 use Rattle.mufom_meaning.proofs.locations.CellRuns.{HaveOwnAddresses}
 use Rattle.mufom_meaning.proofs.absolute.Cells.{apart_own}
@@ -17,7 +15,7 @@ use Rattle.mufom_image_bytes.specs.Images.{AreLow}
 use Rattle.mufom_image_bytes.proofs.ChunkLaws.{cells_from-append, length_dropped}
 use Rattle.mufom_moves.specs.declared.shift.Shift.{Shift}
 use Rattle.mufom_moves.specs.Shifts.{shifted, shifted_cell, shifted_cells, AreRisingFrom, MoveAlikeFrom, MoveTogether}
-use Rattle.mufom_moves.specs.Shifts.{StayApart, StaysLow}
+use Rattle.mufom_moves.specs.Shifts.{StayApart, StayLow}
 use Rattle.mufom_moves.proofs.ShiftLaws.{has-there, shifted-below}
 
 -- ---- one piece
@@ -61,6 +59,17 @@ moved_piece shifts (byte ∷ bytes) a to h =
 pub together_alike : (shifts all : List Shift) (a count to : ℕ) → MoveAlikeFrom a shifts all → MoveTogether shifts a count to → MoveTogether all a count to
 together_alike shifts all a count to alike h = λ k less. sym (alike (a + k) (omega arith)) ∙ h k less
 
+-- the bytes after them that are moved as far
+pub together_on : (shifts : List Shift) (a m n to next : ℕ) → MoveTogether shifts a m to → MoveTogether shifts (a + m) n next → next ≡ to + m
+    → MoveTogether shifts a (m + n) to
+together_on shifts a m n to next first later far = λ k less. by_test k less (nat_lt k m) refl where
+  by_test : (k : ℕ) → k < m + n → (b : Bool) → nat_lt k m ≡ b → shifted shifts (a + k) ≡ to + k
+  by_test k less true e = first k (of_lt k m e)
+  by_test k less false e =
+      let high = of_not_lt k m e in
+      let here : a + k ≡ a + m + (k - m) = omega (arith, high) in
+      ap (shifted shifts) here ∙ later (k - m) (omega (arith, less, high)) ∙ omega (arith, high, far)
+
 pub alike-later : (low high : ℕ) (shifts all : List Shift) → low ≤ high → MoveAlikeFrom low shifts all → MoveAlikeFrom high shifts all
 alike-later low high shifts all less alike = λ a from. alike a (omega (arith, less, from))
 
@@ -81,14 +90,16 @@ length-taken zero xs less = refl
 length-taken (suc n) [] less = absurd (omega (arith, less))
 length-taken (suc n) (x ∷ xs) less = ap suc (length-taken n xs (omega (arith, less)))
 
--- the bytes that are loaded, once a piece of the run is loaded after those before it
+pub piece_length : (done count : ℕ) (bytes : List ℕ) → done + count ≤ length bytes → length (take count (drop done bytes)) ≡ count
+piece_length done count bytes less = let left = length_dropped done bytes in length-taken count (drop done bytes) (omega (arith, less, left))
+
+-- the bytes that are moved, once a piece of the run is moved after those before it
 pub piece_more : (shifts : List Shift) (at : ℕ) (bytes : List ℕ) (done count to : ℕ) (before cells more : List Cell) → done + count ≤ length bytes
     → MoveTogether shifts (at + done) count to
     → cells ≡ before ++ shifted_cells shifts (cells_from at (take done bytes)) → more ≡ cells ++ cells_from to (take count (drop done bytes))
     → more ≡ before ++ shifted_cells shifts (cells_from at (take (done + count) bytes))
 piece_more shifts at bytes done count to before cells more less together e f =
-    let left = length_dropped done bytes in
-    let own : length (take count (drop done bytes)) ≡ count = length-taken count (drop done bytes) (omega (arith, less, left)) in
+    let own = piece_length done count bytes less in
     let old : length (take done bytes) ≡ done = length-taken done bytes (omega (arith, less)) in
     let piece = take count (drop done bytes) in
     let front = cells_from at (take done bytes) in
@@ -131,45 +142,40 @@ low_end runs run low h some =
     let less = low_cell (run_cells runs) (last, there.0) low there.1 in
     omega (arith, some, less)
 
-pub stays_low : (shifts rest : List Shift) (runs : List Run) (run : Run) (from : ℕ) → AreLow (shifted_cells shifts (run_cells runs)) → In run runs
-    → from ≤ run.address → MoveAlikeFrom from rest shifts → StaysLow rest run
-stays_low shifts rest runs run from low h less alike = λ a after before.
+pub stays_low : (shifts rest : List Shift) (runs : List Run) (run : Run) → AreLow (shifted_cells shifts (run_cells runs)) → In run runs
+    → MoveAlikeFrom run.address rest shifts → StayLow rest run.address (run_end run)
+stays_low shifts rest runs run low h alike = λ a after before.
     let there = run_cell runs run a h after before in
-    let same = alike a (omega (arith, less, after)) in
-    subst (λ n. n < 2 ^ 64) (sym same)
+    subst (λ n. n < 2 ^ 64) (sym (alike a after))
     (low_cell (shifted_cells shifts (run_cells runs)) (shifted shifts a, there.0) low (In-map (shifted_cell shifts) (a, there.0) (run_cells runs) there.1))
 
 -- ---- run by run
 
-run_cells-append : (xs ys : List Run) → run_cells (xs ++ ys) ≡ run_cells xs ++ run_cells ys
+pub run_cells-append : (xs ys : List Run) → run_cells (xs ++ ys) ≡ run_cells xs ++ run_cells ys
 run_cells-append [] ys = refl
 run_cells-append (x ∷ xs) ys =
     ap (λ rest. cells_from x.address x.bytes ++ rest) (run_cells-append xs ys) ∙ sym (append_assoc (cells_from x.address x.bytes) (run_cells xs) (run_cells ys))
+
+pub run_cells-push : (runs : List Run) (run : Run) → run_cells (runs ++ run ∷ []) ≡ run_cells runs ++ cells_from run.address run.bytes
+run_cells-push runs run = run_cells-append runs (run ∷ []) ∙ ap (λ last. run_cells runs ++ last) (append-nil (cells_from run.address run.bytes))
 
 pub run_more : (shifts : List Shift) (runs : List Run) (run : Run) (cells : List Cell) → cells ≡ shifted_cells shifts (run_cells runs)
     → cells ++ shifted_cells shifts (cells_from run.address run.bytes) ≡ shifted_cells shifts (run_cells (runs ++ run ∷ []))
 run_more shifts runs run cells e =
     ap (λ all. all ++ shifted_cells shifts (cells_from run.address run.bytes)) e
     ∙ sym (map-append (shifted_cell shifts) (run_cells runs) (cells_from run.address run.bytes))
-    ∙ ap (shifted_cells shifts)
-    (ap (λ last. run_cells runs ++ last) (sym (append-nil (cells_from run.address run.bytes))) ∙ sym (run_cells-append runs (run ∷ [])))
+    ∙ ap (shifted_cells shifts) (sym (run_cells-push runs run))
+
+-- other extents that move alike move cells alike
+pub cells_alike : (shifts rest : List Shift) (a : ℕ) (bytes : List ℕ) → MoveAlikeFrom a rest shifts → shifted_cells rest (cells_from a bytes)
+    ≡ shifted_cells shifts (cells_from a bytes)
+cells_alike shifts rest a [] same = refl
+cells_alike shifts rest a (byte ∷ bytes) same =
+    let first = same a (omega arith) in
+    let later = cells_alike shifts rest (suc a) bytes (alike-later a (suc a) rest shifts (omega arith) same) in
+    λ j. (first j, byte) ∷ later j
 
 -- ---- no address twice
-
--- what no address has twice
-differ : (m n : ℕ) → (m ≡ n → ⊥) → (m == n) ≡ false
-differ m n h = by_test (m == n) refl where
-  by_test : (b : Bool) → (m == n) ≡ b → (m == n) ≡ false
-  by_test true e = absurd (h (equal_numbers m n e))
-  by_test false e = e
-
-own_once : (cells : List Cell) (earlier : List ℕ) → HaveOwnAddresses cells → ((x : Cell) → In x cells → has_number earlier x.0 ≡ false)
-    → first_twice earlier (cell_addresses cells) ≡ None
-own_once [] earlier own new = refl
-own_once (c ∷ cells) earlier own new =
-    ap (λ b. if b then Some (loaded_twice c.0) else first_twice (c.0 ∷ earlier) (cell_addresses cells)) (new c (inl refl))
-    ∙ own_once cells (c.0 ∷ earlier) own.1
-    (λ x h. ap (λ b. b || has_number earlier x.0) (differ c.0 x.0 (own.0 x h)) ∙ new x (inr h))
 
 shifted_own : (shifts : List Shift) (cells : List Cell) → HaveOwnAddresses cells
     → ((x y : Cell) → In x cells → In y cells → shifted shifts x.0 ≡ shifted shifts y.0 → x.0 ≡ y.0) → HaveOwnAddresses (shifted_cells shifts cells)
@@ -182,20 +188,14 @@ shifted_own shifts (c ∷ cells) own apart = (
 )
 
 -- bytes that stay apart have no address twice
-pub once : (shifts : List Shift) (runs : List Run) → AreApart 0 runs → StayApart shifts (run_cells runs)
-    → first_twice [] (cell_addresses (shifted_cells shifts (run_cells runs))) ≡ None
-once shifts runs apart stay =
-    own_once (shifted_cells shifts (run_cells runs)) []
-    (shifted_own shifts (run_cells runs) (apart_own runs apart)
-    (λ x y h k e. stay x y (In-Contains x (run_cells runs) h) (In-Contains y (run_cells runs) k) e))
-    (λ x h. refl)
+pub moved_own : (shifts : List Shift) (runs : List Run) → AreApart 0 runs → StayApart shifts (run_cells runs)
+    → HaveOwnAddresses (shifted_cells shifts (run_cells runs))
+moved_own shifts runs apart stay =
+    shifted_own shifts (run_cells runs) (apart_own runs apart)
+    (λ x y h k e. stay x y (In-Contains x (run_cells runs) h) (In-Contains y (run_cells runs) k) e)
 
 -- extents that move alike move cells alike
 pub shifted_cells-same : (xs ys : List Shift) → ((a : ℕ) → shifted xs a ≡ shifted ys a) → (cells : List Cell) → shifted_cells xs cells ≡ shifted_cells ys cells
 shifted_cells-same xs ys same [] = refl
 shifted_cells-same xs ys same (c ∷ cells) =
     let first = same c.0 in let rest = shifted_cells-same xs ys same cells in λ i. (first i, c.1) ∷ rest i
-
-pub shifted_cells-nothing : (cells : List Cell) → shifted_cells [] cells ≡ cells
-shifted_cells-nothing [] = refl
-shifted_cells-nothing (c ∷ cells) = ap (λ rest. c ∷ rest) (shifted_cells-nothing cells)

@@ -1,24 +1,24 @@
--- Runs that are loaded one after another, each piece by piece.
-use Rattle.std.proofs.Common.{◌≡◌, ℕ, zero, suc, ◌+◌, ◌<◌, ◌≤◌, ◌^◌, inl, inr, List, [], ◌∷◌, ◌++◌, length, get_or, take, drop, refl, sym, ◌∙◌, ap, subst, arith}
+-- Runs that are moved one after another.
+use Rattle.std.proofs.Common.{◌≡◌, ℕ, zero, suc, ◌+◌, ◌<◌, ◌≤◌, ◌^◌, inl, inr, List, [], ◌∷◌, ◌++◌, length, get_or, take, drop, sym, ◌∙◌, ap, subst, arith}
+use Rattle.std.specs.List.{All}
 use Rattle.mufom_meaning.specs.declared.located.Run.{Run}
-use Rattle.mufom_meaning.specs.AddressMap.{cells_from, run_cells, AreApart}
+use Rattle.mufom_meaning.specs.AddressMap.{run_cells, AreApart}
 use Rattle.mufom_meaning.specs.Runs.{run_end}
 use Rattle.mufom_meaning.proofs.Members.{In}
-use Rattle.mufom_image_bytes.specs.declared.loaded.Loaded.{Loaded}
 use Rattle.mufom_image_bytes.specs.Images.{AreLow}
-use Rattle.mufom_image_bytes.specs.Loaded.{loaded_cells, IsTiled}
 use Rattle.mufom_moves.specs.declared.shift.Shift.{Shift}
-use Rattle.mufom_moves.specs.Shifts.{shifted_cells, AreRisingFrom, MoveAlikeFrom, StaysLow}
-use Rattle.mufom_moves.proofs.PieceLaws.{low_end, stays_low, run_more, alike-later}
+use Rattle.mufom_moves.specs.Shifts.{shifted_cells, AreRisingFrom, MoveAlikeFrom, StayLow}
+use Rattle.mufom_moves.specs.Joined.{HasBytes, AddsMoved}
+use Rattle.mufom_moves.proofs.PieceLaws.{low_end, stays_low, run_more, cells_alike, alike-later}
 
--- the first runs are loaded, and the others begin where the extents that are left move as all of them do
-pub record AreLoadedSoFar (runs : List Run) (shifts rest : List Shift) (loaded : Loaded) (i : ℕ) : Type 0 where
+-- the first runs are moved, and the others begin where the extents that are left move as all of them do
+pub record AreMovedSoFar (runs : List Run) (shifts rest : List Shift) (moved : List Run) (i : ℕ) : Type 0 where
   pub from : ℕ
   pub apart : AreApart from (drop i runs)
   pub alike : MoveAlikeFrom from rest shifts
   pub rising : AreRisingFrom 0 rest
-  pub tiled : IsTiled loaded
-  pub cells : loaded_cells loaded ≡ shifted_cells shifts (run_cells (take i runs))
+  pub filled : All HasBytes moved
+  pub cells : run_cells moved ≡ shifted_cells shifts (run_cells (take i runs))
 
 -- the run at a position, and what is before and after it
 record IsAt (runs : List Run) (i : ℕ) (run : Run) : Type 0 where
@@ -38,7 +38,7 @@ at (r ∷ runs) (suc i) run less e =
       more = ap (λ k. take k (r ∷ runs)) next ∙ ap (λ rest. r ∷ rest) later.more;
     }
 
-module _ (runs : List Run) (shifts rest : List Shift) (loaded : Loaded) (i : ℕ) (run : Run) (h : AreLoadedSoFar runs shifts rest loaded i)
+module _ (runs : List Run) (shifts rest : List Shift) (moved : List Run) (i : ℕ) (run : Run) (h : AreMovedSoFar runs shifts rest moved i)
     (less : i < length runs) (e : run ≡ get_or runs i run) where
   there : IsAt runs i run
   there = at runs i run less e
@@ -46,28 +46,27 @@ module _ (runs : List Run) (shifts rest : List Shift) (loaded : Loaded) (i : ℕ
   apart : AreApart h.from (run ∷ drop (i + 1) runs)
   apart = subst (AreApart h.from) there.next h.apart
 
+  pub next_some : HasBytes run
+  next_some = apart.1
+
   pub next_end : AreLow (run_cells runs) → run_end run ≤ 2 ^ 64
   next_end low = low_end runs run low there.among apart.1
 
-  pub next_low : AreLow (shifted_cells shifts (run_cells runs)) → StaysLow rest run
-  next_low low = stays_low shifts rest runs run h.from low there.among apart.0 h.alike
+  module _ (after : List Shift) (alike_after : MoveAlikeFrom run.address after rest) where
+    alike_all : MoveAlikeFrom run.address after shifts
+    alike_all = λ a from. alike_after a from ∙ h.alike a (let low = apart.0 in omega (arith, from, low))
 
-  -- once it is loaded too
-  pub next_loaded : (after : List Shift) (more : Loaded) → AreRisingFrom 0 after → MoveAlikeFrom (run_end run) after rest → IsTiled more
-      → loaded_cells more ≡ loaded_cells loaded ++ shifted_cells rest (cells_from run.address run.bytes)
-      → AreLoadedSoFar runs shifts after more (i + 1)
-  next_loaded after more rising alike tiled cells = record {
-    from = run_end run + 1;
-    apart = apart.2;
-    alike = λ a from. alike a (omega (arith, from)) ∙ h.alike a (let low = apart.0 in omega (arith, from, low));
-    rising = rising;
-    tiled = tiled;
-    cells = cells ∙ ap (λ last. loaded_cells loaded ++ last) (cells_alike run.address run.bytes (λ a from. h.alike a (let low = apart.0 in omega (arith, from, low))))
-        ∙ run_more shifts (take i runs) run (loaded_cells loaded) h.cells ∙ ap (λ first. shifted_cells shifts (run_cells first)) (sym there.more);
-  } where
-    cells_alike : (a : ℕ) (bytes : List ℕ) → MoveAlikeFrom a rest shifts → shifted_cells rest (cells_from a bytes) ≡ shifted_cells shifts (cells_from a bytes)
-    cells_alike a [] same = refl
-    cells_alike a (byte ∷ bytes) same =
-        let first = same a (omega arith) in
-        let later = cells_alike (suc a) bytes (alike-later a (suc a) rest shifts (omega arith) same) in
-        λ j. (first j, byte) ∷ later j
+    pub next_low : AreLow (shifted_cells shifts (run_cells runs)) → StayLow after run.address (run_end run)
+    next_low low = stays_low shifts after runs run low there.among alike_all
+
+    -- once it is moved too
+    pub next_moved : (more : List Run) → AreRisingFrom 0 after → All HasBytes more → AddsMoved after run moved more → AreMovedSoFar runs shifts after more (i + 1)
+    next_moved more rising filled cells = record {
+      from = run_end run + 1;
+      apart = apart.2;
+      alike = alike-later run.address (run_end run + 1) after shifts (omega arith) alike_all;
+      rising = rising;
+      filled = filled;
+      cells = cells ∙ ap (λ last. run_cells moved ++ last) (cells_alike shifts after run.address run.bytes alike_all)
+          ∙ run_more shifts (take i runs) run (run_cells moved) h.cells ∙ ap (λ first. shifted_cells shifts (run_cells first)) (sym there.more);
+    }

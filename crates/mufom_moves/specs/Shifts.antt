@@ -1,9 +1,7 @@
 -- Extents of addresses whose bytes are moved, and the loaded bytes at their new addresses.
 use Rattle.std.specs.Prelude.{◌≡◌, ℕ, ◌+◌, ◌-◌, ◌^◌, ◌<◌, ◌≤◌, List, [], ◌∷◌, map, Contains}
 use Rattle.std.specs.Prelude.{Bool, ◌&&◌, nat_le, nat_lt, if◌then◌else◌}
-use Rattle.mufom_meaning.specs.declared.located.Run.{Run}
 use Rattle.mufom_meaning.specs.AddressMap.{Cell}
-use Rattle.mufom_meaning.specs.Runs.{run_end}
 use Rattle.mufom_moves.specs.declared.shift.Shift.{Shift}
 
 -- the extent has the address
@@ -52,6 +50,6 @@ EndsAfter a (s ∷ shifts) = a < s.from + s.size
 abbrev pub MoveTogether : List Shift → ℕ → ℕ → ℕ → Type 0
 MoveTogether shifts a count to = (k : ℕ) → k < count → shifted shifts (a + k) ≡ to + k
 
--- the bytes of a run are moved to addresses of 64 bits
-abbrev pub StaysLow : List Shift → Run → Type 0
-StaysLow shifts run = (a : ℕ) → run.address ≤ a → a < run_end run → shifted shifts a < 2 ^ 64
+-- the bytes from an address on and below another one are moved to addresses of 64 bits
+abbrev pub StayLow : List Shift → ℕ → ℕ → Type 0
+StayLow shifts low high = (a : ℕ) → low ≤ a → a < high → shifted shifts a < 2 ^ 64

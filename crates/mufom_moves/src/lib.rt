@@ -4,6 +4,7 @@
 //! addresses.
 #![tactic(auto)]
 
+mod joining;
 mod moving;
 mod pieces;
 mod shift;

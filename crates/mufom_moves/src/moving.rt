@@ -1,39 +1,32 @@
 //! The runs of bytes that are moved.
 
-ghost use Rattle.std.specs.Prelude.{◌≡◌, [], None, IfOk};
+ghost use Rattle.std.specs.Prelude.{IfOk};
+ghost use Rattle.std.specs.List.Sorted.{IsPermutation};
 ghost use Rattle.mufom_meaning.specs.AddressMap.{run_cells, AreApart, AreRunsOf};
-ghost use Rattle.mufom_meaning.specs.Walk.{first_twice};
-ghost use Rattle.mufom_image_bytes.specs.Chunks.{cell_addresses};
 ghost use Rattle.mufom_image_bytes.specs.Images.{AreLow};
-ghost use Rattle.mufom_image_bytes.specs.Loaded.{loaded_cells, IsTiled};
 ghost use Rattle.mufom_moves.specs.Shifts.{shifted_cells, ShareNoAddress, StayApart};
+ghost use Rattle.mufom_moves.specs.Joined.{AreInOrder};
 
-use crate::pieces::load_runs;
+use crate::joining::joined_runs;
+use crate::pieces::moved_runs;
 use crate::shift::{Shift, sort_by_start};
-use mufom_image_bytes::{ImageStop, Loaded, runs_of_loaded};
 use mufom_meaning::Run;
 use mufom_numbers::{List, NoMemory};
 use std::alloc::Global;
 
-// The runs of loaded bytes, no two of which have the same address.
-fn joined(alloc: Global, loaded: Loaded) -> Result<List<Run>, NoMemory>
-    requires tiled { IsTiled loaded }
-    requires low { AreLow (loaded_cells loaded) }
-    requires once { first_twice [] (cell_addresses (loaded_cells loaded)) ≡ None }
-    ensures { IfOk result (AreRunsOf (loaded_cells loaded)) }
+// Sorts runs by their addresses.
+fn sort_by_address(runs: &mut Vec<Run>)
+    ensures permutation { IsPermutation runs.old.items runs.new.items }
+    ensures rising { AreInOrder 0 runs.new.items }
 {
-    match runs_of_loaded(alloc, loaded, None) {
-        Ok(runs) => Ok(runs),
-        Err(ImageStop::NoMemory) => Err(NoMemory),
-        Err(ImageStop::Refused(_)) => unreachable!(),
-    }
+    runs.sort_unstable_by_key(|run| run.address);
 }
 
 /// Moves loaded bytes. Returns the runs of all bytes, those of the extents at their new addresses and the
 /// others where they are.
 ///
 /// Extents may be in any order. No two of them may share an address, and no byte may be moved to the address of
-/// another one. Nothing is copied if there are no extents.
+/// another one. Only the bytes of runs that are cut or joined are copied.
 pub fn move_runs(alloc: Global, runs: List<Run>, shifts: Vec<Shift>) -> Result<List<Run>, NoMemory>
     requires apart { AreApart 0 runs }
     requires low { AreLow (run_cells runs) }
@@ -47,7 +40,7 @@ pub fn move_runs(alloc: Global, runs: List<Run>, shifts: Vec<Shift>) -> Result<L
     }
     let mut shifts = shifts;
     sort_by_start(&mut shifts);
-    let loaded = load_runs(alloc, runs.as_slice(), &shifts)?;
-    drop(runs);
-    joined(alloc, loaded)
+    let mut moved = moved_runs(alloc, runs, &shifts)?;
+    sort_by_address(&mut moved);
+    joined_runs(alloc, moved)
 }
