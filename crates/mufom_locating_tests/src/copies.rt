@@ -76,6 +76,68 @@ bytes 6 010200000100
     becomes(&rt, rt.alloc(), PROGRAM, PLAN, listed);
 }
 
+// Data whose bytes are right before those of an absolute section.
+const TOUCHING: &str = r#"module "m" processor "68000" maus 4 order M
+section 0 "t" C size 8 align 4
+section 1 "d" C size 6 align 4
+section 2 "x" AS size 2 align 1 base 262
+select 0
+bytes 8 4E714E714E714E75
+select 1
+bytes 6 010203040506
+select 2
+bytes 2 0708
+"#;
+
+// The run of both is cut, and the copy of the data touches the code.
+#[test]
+fn bytes_that_touch_a_region_are_not_moved(rt: HostRuntime) {
+    let listed = r#"section 0 "t" AS size 8 align 4 base 0
+section 1 "d" AS size 6 align 4 base 256
+section 2 "x" AS size 2 align 1 base 262
+section 3 "ram" AS size 6 align 8 base 8
+select 0
+counter 0 = 0
+bytes 8 4E714E714E714E75
+select 2
+counter 2 = 262
+bytes 2 0708
+select 3
+counter 3 = 8
+bytes 6 010203040506
+"#;
+    becomes(&rt, rt.alloc(), TOUCHING, PLAN, listed);
+}
+
+// Two sections of a region whose bytes are one run.
+const ADJACENT: &str = r#"module "m" processor "68000" maus 4 order M
+section 0 "t" C size 4 align 2
+section 1 "d" C size 4 align 4
+section 2 "b" C size 2 align 4
+select 0
+bytes 4 4E714E75
+select 1
+bytes 4 01020304
+select 2
+bytes 2 0506
+"#;
+
+#[test]
+fn sections_are_moved_together(rt: HostRuntime) {
+    let listed = r#"section 0 "t" AS size 4 align 2 base 0
+section 1 "d" AS size 4 align 4 base 256
+section 2 "b" AS size 2 align 4 base 260
+section 3 "ram" AS size 6 align 8 base 8
+select 0
+counter 0 = 0
+bytes 4 4E714E75
+select 3
+counter 3 = 8
+bytes 6 010203040506
+"#;
+    becomes(&rt, rt.alloc(), ADJACENT, PLAN, listed);
+}
+
 #[test]
 fn symbols_name_both_addresses(rt: HostRuntime) {
     let listed = r#"section 0 "t" AS size 4 align 2 base 0
