@@ -14,5 +14,5 @@ mod Commons
 mod SameValues
 mod LeftSteps
 mod LeftReadings
-mod Meaning
+pub mod Meaning
 pub mod Single
