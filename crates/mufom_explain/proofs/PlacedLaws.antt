@@ -1,6 +1,9 @@
--- What is known of a module that is not located: how many units an address has, and that each section has a place, if one does not fit.
-use Rattle.std.proofs.Common.{◌≡◌, ◌≢◌, ℕ, List, [], ◌∷◌, Option, Some, None, Bool, true, false, refl, sym, ap, subst, ◌∙◌, append-nil, arith}
-use Rattle.std.specs.Prelude.{option_map, if◌then◌else◌}
+-- What is known of a module that is not located: how many units an address has, and that each section has a place, if one does not fit. And
+-- what needs no copies.
+use Rattle.std.proofs.Common.{◌≡◌, ◌≢◌, ℕ, ◌+◌, ◌-◌, ◌<◌, List, [], ◌∷◌, ◌++◌, length, Option, Some, None, Bool, true, false, refl, sym, ap, subst, ◌∙◌, append-nil}
+use Rattle.std.proofs.Common.{arith}
+use Rattle.std.specs.Prelude.{option_map, slice_get, if◌then◌else◌}
+use Rattle.mufom_numbers.proofs.Choices.{not_le}
 use Rattle.mufom_sections.specs.declared.section.Section.{Section}
 use Rattle.mufom_module.specs.declared.module.Parts.{Parts}
 use Rattle.mufom_module.specs.Defects.{IsValid}
@@ -14,7 +17,10 @@ use Rattle.mufom_meaning.specs.Facts.{LocateFact, placement}
 use Rattle.mufom_meaning.specs.Flat.{flat_sections}
 use Rattle.mufom_planned.specs.Planned.{copied_answer}
 use Rattle.mufom_meaning.proofs.CallLaws.{modules_may_be_placed}
+use Rattle.mufom_place.specs.declared.placing.RegionCopy.{RegionCopy}
 use Rattle.mufom_text.specs.Fitting.{IsUnitCount}
+use Rattle.mufom_explain.specs.Details.{Explained, commons_of, entry_lines, lines_among, sections_of}
+use Rattle.mufom_explain.specs.Lines.{copied_line}
 
 pub unit-count : (m : Parts) (plan : Plan) → IsValid m → IsUnitCount m.maus
 unit-count m plan valid =
@@ -53,3 +59,11 @@ all-placed m plan r other h =
         let same : q ≡ r = same-placement q r (sym (first-of _ _ _ q e) ∙ h) in
         let (n, unplaced) = unplaced-only (listed_names plan.regions) (numbered (flat_sections (m ∷ []))) q e in
         absurd (other n (sym same ∙ unplaced))
+
+-- the lines of a section or common need no copies
+pub plain-lines : (e : Explained) (copied other : List RegionCopy) (n : ℕ) → n < length (sections_of e) + length (commons_of e)
+    → lines_among e copied n ≡ lines_among e other n
+plain-lines e copied other n low = none copied ∙ sym (none other) where
+  none : (cs : List RegionCopy) → lines_among e cs n ≡ entry_lines e n ++ []
+  none cs = ap (λ b. entry_lines e n ++ copied_line n (if b then slice_get cs (n - (length (sections_of e) + length (commons_of e))) else None))
+      (not_le (length (sections_of e) + length (commons_of e)) n low)

@@ -8,14 +8,11 @@ ghost use Rattle.mufom_image.specs.Placements.{placing_refusal};
 ghost use Rattle.mufom_image.specs.Refusals.{IsMet};
 ghost use Rattle.mufom_image.specs.Stages.{circular};
 ghost use Rattle.mufom_meaning.specs.Facts.{placement, zero_divisor};
-ghost use Rattle.mufom_place.specs.Bases.{numbered};
-ghost use Rattle.mufom_place.specs.Facts.{first_some, unplaced_at};
-ghost use Rattle.mufom_plan.specs.Names.{listed_names};
 ghost use Rattle.mufom_planned.specs.Planned.{copied_answer};
-ghost use Rattle.mufom_locating.specs.Exported.{AllListed, IsPlacedList};
+ghost use Rattle.mufom_locating.specs.Exported.{AllListed};
 ghost use Rattle.mufom_locating.specs.Plans.{IsReadPlan};
 ghost use Rattle.mufom_explain.specs.Details.{entry_lines, field_details, layout_of, lines_among, locate_details, numbered_copy, numbered_lines};
-ghost use Rattle.mufom_explain.specs.Details.{placement_details, site_details, undefined_names};
+ghost use Rattle.mufom_explain.specs.Details.{commons_of, placed_lines, placement_details, site_details, undefined_names};
 ghost use Rattle.mufom_explain.specs.Explained.{explained_of, locate_lines, locate_text, taken_text};
 ghost use Rattle.mufom_explain.specs.Flat.{flat_of};
 ghost use Rattle.mufom_explain.specs.Lines.{copied_line};
@@ -25,14 +22,14 @@ use crate::details::{LocateContext, LocateDetails, LocateKind};
 use crate::entries::{common_lines, copy_line, section_line};
 use crate::finding::find_mentions;
 use crate::naming::one_name;
-use crate::regions::{region_line, taken_in};
+use crate::regions::region_line;
 use crate::undefined::undefined_names;
 use mufom_field_values::{field_value, find_field};
 use mufom_image::{LocateRefusal, Site, planned_commons};
 use mufom_image_values::{Resolution, resolve_references};
-use mufom_locating::{Placed, placed_list};
+use mufom_locating::{module_copies, region_ends};
 use mufom_module::a_module_is_valid;
-use mufom_numbers::{Bytes, NoMemory};
+use mufom_numbers::{Bytes, List, NoMemory};
 use mufom_place::{PlaceRefusal, RegionCopy};
 use mufom_sections::Section;
 use mufom_text::{Lines, Output};
@@ -198,71 +195,107 @@ fn about_undefined<'a>(
     Ok(LocateKind::Mentions(find_mentions(alloc, wanted, context.flat)?))
 }
 
+// The copies of regions, if a number is that of one of them. They are numbered after the commons, and the lines of
+// sections and commons need none.
+fn copies_for(
+    alloc: Global,
+    context: &LocateContext<'_>,
+    commons: usize,
+    number: u32,
+) -> Result<List<RegionCopy>, NoMemory>
+    requires plan { IsReadPlan context.now.plan.now }
+    requires commons { commons ≡ length (commons_of (explained_of context.now)) }
+    ensures { IfOk result (λ copies. lines_among (explained_of context.now) copies number ≡ placed_lines (explained_of context.now) number) }
+{
+    let position = number as usize;
+    let sections = context.object.parts().sections.len();
+    if position < sections || position - sections < commons {
+        return Ok(List::new(alloc));
+    }
+    Ok(module_copies(alloc, context.object, context.plan)?)
+}
+
 // The lines of a section, common or copy that does not fit the region with a number.
 fn about_region<'a>(
+    alloc: Global,
     context: &LocateContext<'a>,
-    placed: Placed,
+    copies: List<RegionCopy>,
     section: u32,
     number: u32,
-) -> LocateKind<'a>
-    requires placed { IsPlacedList (layout_of (explained_of context.now)) placed }
-    ensures { locate_lines (explained_of context.now) result
-        ≡ placement_details (explained_of context.now) (PlaceRefusal.Misfit section (Some number)) }
+) -> Result<LocateKind<'a>, NoMemory>
+    requires plan { IsReadPlan context.now.plan.now }
+    requires listed { AllListed context.now.plan.now context.now.object.now.sections }
+    requires copies { lines_among (explained_of context.now) copies section ≡ placed_lines (explained_of context.now) section }
+    ensures { IfOk result (λ kind. locate_lines (explained_of context.now) kind
+        ≡ placement_details (explained_of context.now) (PlaceRefusal.Misfit section (Some number))) }
 {
     let Some(region) = context.plan.regions.get(number as usize) else {
-        return LocateKind::Placed(placed.copies, section);
+        return Ok(LocateKind::Placed(copies, section));
     };
-    let taken = taken_in(&placed, number, region);
-    LocateKind::Misfit {
-        copies: placed.copies,
+    let ends = region_ends(alloc, context.object, context.plan)?;
+    let taken = ends[number as usize].saturating_sub(region.base as u128);
+    Ok(LocateKind::Misfit {
+        copies,
         section,
         region: number,
         taken,
+    })
+}
+
+// The lines of a section, common or copy that does not fit the region with a number, if a region places it.
+fn about_misfit<'a>(
+    alloc: Global,
+    context: &LocateContext<'a>,
+    commons: usize,
+    section: u32,
+    region: Option<u32>,
+) -> Result<LocateKind<'a>, NoMemory>
+    requires plan { IsReadPlan context.now.plan.now }
+    requires listed { AllListed context.now.plan.now context.now.object.now.sections }
+    requires commons { commons ≡ length (commons_of (explained_of context.now)) }
+    ensures { IfOk result (λ kind. locate_lines (explained_of context.now) kind
+        ≡ placement_details (explained_of context.now) (PlaceRefusal.Misfit section region)) }
+{
+    let copies = copies_for(alloc, context, commons, section)?;
+    match region {
+        Some(region) => about_region(alloc, context, copies, section, region),
+        None => Ok(LocateKind::Placed(copies, section)),
     }
 }
 
-// The lines that explain an error of placing, if each section is placed.
-fn about_placed<'a>(
+// The lines of two sections, commons or copies that overlap.
+fn about_overlap<'a>(
     alloc: Global,
     context: &LocateContext<'a>,
-    refusal: PlaceRefusal,
+    first: u32,
+    second: u32,
 ) -> Result<LocateKind<'a>, NoMemory>
     requires plan { IsReadPlan context.now.plan.now }
-    requires placed { first_some (unplaced_at (listed_names context.now.plan.now.regions)) (numbered context.now.object.now.sections) ≡ None }
-    ensures { IfOk result (λ kind. locate_lines (explained_of context.now) kind ≡ placement_details (explained_of context.now) refusal) }
+    ensures { IfOk result (λ kind. locate_lines (explained_of context.now) kind
+        ≡ placement_details (explained_of context.now) (PlaceRefusal.Overlap first second)) }
 {
-    let placed = placed_list(alloc, context.object, context.plan)?;
-    match refusal {
-        PlaceRefusal::Misfit {
-            section,
-            region: Some(region),
-        } => Ok(about_region(context, placed, section, region)),
-        PlaceRefusal::Misfit {
-            section,
-            region: None,
-        } => Ok(LocateKind::Placed(placed.copies, section)),
-        PlaceRefusal::Overlap(first, second) => {
-            Ok(LocateKind::Entries(placed.copies, first, second))
-        }
-        PlaceRefusal::Unplaced(number) => Ok(LocateKind::Entry(number)),
-        PlaceRefusal::NoMemory => Ok(LocateKind::Nothing),
-    }
+    let copies = module_copies(alloc, context.object, context.plan)?;
+    Ok(LocateKind::Entries(copies, first, second))
 }
 
 // The lines that explain an error of placing.
 fn about_placement<'a>(
     alloc: Global,
     context: &LocateContext<'a>,
+    commons: usize,
     refusal: PlaceRefusal,
 ) -> Result<LocateKind<'a>, NoMemory>
     requires plan { IsReadPlan context.now.plan.now }
+    requires commons { commons ≡ length (commons_of (explained_of context.now)) }
     requires met { copied_answer (context.now.object.now ∷ []) context.now.plan.now ≡ Some (placement refusal) }
     ensures { IfOk result (λ kind. locate_lines (explained_of context.now) kind ≡ placement_details (explained_of context.now) refusal) }
 {
     match refusal {
         PlaceRefusal::Unplaced(number) => Ok(LocateKind::Entry(number)),
-        PlaceRefusal::Misfit { .. } => about_placed(alloc, context, refusal),
-        PlaceRefusal::Overlap(_, _) => about_placed(alloc, context, refusal),
+        PlaceRefusal::Misfit { section, region } => {
+            about_misfit(alloc, context, commons, section, region)
+        }
+        PlaceRefusal::Overlap(first, second) => about_overlap(alloc, context, first, second),
         PlaceRefusal::NoMemory => Ok(LocateKind::Nothing),
     }
 }
@@ -323,17 +356,19 @@ fn about<'a>(
     alloc: Global,
     context: &LocateContext<'a>,
     resolutions: &[Resolution],
+    commons: usize,
     refusal: &'a LocateRefusal,
 ) -> Result<LocateKind<'a>, NoMemory>
     requires flat { length context.now.flat.now < 2 ^ 32 }
     requires names { AreDistinct (names_of context.now.object.now.names.publics) }
     requires plan { IsReadPlan context.now.plan.now }
     requires resolved { resolutions.now ≡ resolutions_of context.now.object.now }
+    requires commons { commons ≡ length (commons_of (explained_of context.now)) }
     requires met { IsMet (copied_answer (context.now.object.now ∷ []) context.now.plan.now) refusal.now }
     ensures { IfOk result (λ kind. locate_lines (explained_of context.now) kind ≡ locate_details (explained_of context.now) refusal.now) }
 {
     match refusal {
-        LocateRefusal::Place(refusal) => about_placement(alloc, context, *refusal),
+        LocateRefusal::Place(refusal) => about_placement(alloc, context, commons, *refusal),
         LocateRefusal::Undefined(_) => about_undefined(alloc, context),
         LocateRefusal::CommonUnplaced(name) => about_name(alloc, context, name),
         LocateRefusal::Cycle(name) => about_name(alloc, context, name),
@@ -373,7 +408,13 @@ pub fn explain_locate<'a>(
 {
     let resolutions = resolve_references(alloc, context.object)?;
     let commons = planned_commons(alloc, context.object, resolutions.as_slice(), context.plan)?;
-    let kind = about(alloc, &context, resolutions.as_slice(), refusal)?;
+    let kind = about(
+        alloc,
+        &context,
+        resolutions.as_slice(),
+        commons.len(),
+        refusal,
+    )?;
     a_module_is_valid(context.object);
     Ok(LocateDetails {
         context,

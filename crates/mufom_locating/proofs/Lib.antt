@@ -3,6 +3,7 @@ pub mod LinkLaws
 pub mod ListLaws
 pub mod EntryLaws
 pub mod LayoutLaws
+pub mod MisfitLaws
 pub mod ShiftedLaws
 pub mod NumberLaws
 pub mod SectionLaws
@@ -11,3 +12,4 @@ pub mod JoinLaws
 pub mod CopiedLaws
 pub mod LightLaws
 pub mod ExportLaws
+pub mod EndLaws

@@ -10,3 +10,4 @@ pub mod Linked
 pub mod Copied
 pub mod Light
 pub mod Exported
+pub mod Ends

@@ -1,10 +1,14 @@
 -- What the code keeps of a layout.
-use Rattle.std.specs.Prelude.{◌≡◌, ℕ, ◌+◌, ◌<◌, ◌^◌, List, [], ◌∷◌, length, All, None}
+use Rattle.std.specs.Prelude.{◌≡◌, ℕ, ◌+◌, ◌<◌, ◌^◌, List, [], ◌∷◌, ◌++◌, length, All, None, Bool, true, false}
 use Rattle.mufom_module.specs.declared.module.Parts.{Parts}
 use Rattle.mufom_plan.specs.declared.plan.Plan.{Plan}
 use Rattle.mufom_plan.specs.declared.plan.PlanSymbol.{PlanSymbol}
 use Rattle.mufom_place.specs.declared.placing.RegionCopy.{RegionCopy}
+use Rattle.mufom_place.specs.declared.refusal.PlaceRefusal.{PlaceRefusal}
+use Rattle.mufom_place.specs.declared.refusal.PlaceRefusal.TheVariants.{Misfit, NoMemory, Overlap, Unplaced}
+use Rattle.mufom_place.specs.Bases.{numbered}
 use Rattle.mufom_place.specs.Copies.{all_refusal}
+use Rattle.mufom_place.specs.Facts.{first_some, misfit_at}
 use Rattle.mufom_place.specs.Filling.{IsPlaceableCopy}
 use Rattle.mufom_meaning.specs.Flat.{width}
 use Rattle.mufom_planned.specs.Layout.{Layout, layout, layout_bases, whole_list}
@@ -12,6 +16,17 @@ use Rattle.mufom_planned.specs.Numbers.{symbol_number}
 use Rattle.mufom_planned.specs.PlanSymbols.{with_names}
 use Rattle.mufom_locating.specs.Numbered.{AreValues}
 use Rattle.mufom_locating.specs.declared.layout.Layout.{Layout as Laid}
+
+-- an error of placing is an overlap
+abbrev pub is_overlap : PlaceRefusal → Bool
+is_overlap (Overlap m n) = true
+is_overlap (Unplaced n) = false
+is_overlap (Misfit n region) = false
+is_overlap NoMemory = false
+
+-- at this width of addresses each section and each common lies in the address space and in its region
+abbrev pub HaveRoom : ℕ → Layout → Type 0
+HaveRoom width l = first_some (misfit_at (2 ^ width) l.plan l.sections l.commons) (numbered (l.sections ++ l.commons)) ≡ None
 
 -- these are the copies of a layout
 pub record AreCopies (l : Layout) (copied : List RegionCopy) : Type 0 where

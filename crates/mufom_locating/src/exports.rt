@@ -8,10 +8,9 @@ ghost use Rattle.mufom_meaning.specs.Joined.{IsJoined};
 ghost use Rattle.mufom_meaning.specs.StagingLaws.{MeansTheSame};
 ghost use Rattle.mufom_image.specs.Placements.{IsSoundPlan};
 ghost use Rattle.mufom_meaning.specs.Placed.{extended_sections};
-ghost use Rattle.mufom_planned.specs.Layout.{layout, layout_placings, whole_list};
+ghost use Rattle.mufom_planned.specs.Layout.{layout};
 ghost use Rattle.mufom_planned.specs.PlanSymbols.{first_shared, with_symbols};
 ghost use Rattle.mufom_planned.specs.Planned.{copied_answer, planned_answer};
-ghost use Rattle.mufom_locating.specs.Exported.{AllListed, AreLowPlacings, IsPlacedList};
 ghost use Rattle.mufom_planned.specs.Shown.{shown_list};
 ghost use Rattle.mufom_locating.specs.Placed.{AreCopies};
 ghost use Rattle.mufom_locating.specs.Light.{weight_limit};
@@ -19,15 +18,14 @@ ghost use Rattle.mufom_locating.specs.Linked.{HaveNumbers, IsLinkWith};
 ghost use Rattle.mufom_locating.specs.Numbered.{AreValues};
 ghost use Rattle.mufom_locating.specs.Plans.{IsReadPlan};
 
-use crate::layout::{copies_among, layout_of, plain_sections, with_copies};
+use crate::layout::{copies_among, layout_of, plain_sections};
 use crate::locating::{values_at, zeros};
 use crate::plain::loads_in_place;
 use crate::symbols::linked_with;
 use mufom_image::LocateRefusal;
-use mufom_meaning::modules_may_be_placed;
 use mufom_module::Module;
 use mufom_numbers::{List, NoMemory};
-use mufom_place::{Placing, RegionCopy, add_copies, all_placings};
+use mufom_place::RegionCopy;
 use mufom_plan::Plan;
 use mufom_sections::Section;
 use std::alloc::Global;
@@ -101,16 +99,6 @@ pub fn with_plan_symbols(alloc: Global, module: &Module, plan: &Plan) -> Result<
     Ok(linked(alloc, module, plan, &values)?)
 }
 
-/// All that a plan places for a module: its sections, its commons and the copies of regions.
-#[derive(Debug, Drop)]
-pub struct Placed {
-    pub copies: List<RegionCopy>,
-    /// The sections, the commons and the copies as sections.
-    pub whole: List<Section>,
-    /// What the regions place, with its bases.
-    pub placings: List<Placing>,
-}
-
 // The copies of regions, given the sections and commons of a module.
 fn copies(
     alloc: Global,
@@ -131,76 +119,14 @@ fn copies(
     }
 }
 
-// No 2^32 sections, each with a size and an alignment below 2^64, reach as far from a base below 2^64.
-const LEAST_HIGH_BASE: u128 = 1 << 101;
-
-// Whether all bases are below this.
-fn are_low(placings: &[Placing]) -> bool
-    ensures { IsTrue result → AreLowPlacings placings.now }
-{
-    placings
-        .iter()
-        .all(|placing| placing.base < LEAST_HIGH_BASE)
-}
-
-// What the regions place.
-fn placings(
+/// The copies of regions by a plan, for a module as it is, whether or not they fit.
+///
+/// A copy of 2^64 addresses or more is out of memory. There is none if all sections and commons fit.
+pub fn module_copies(
     alloc: Global,
     module: &Module,
     plan: &Plan,
-    copies: &[RegionCopy],
-    whole: &[Section],
-) -> Result<List<Placing>, NoMemory>
-    requires plan { IsSoundPlan plan.now }
-    requires listed { AllListed plan.now «module».now.sections }
-    requires copies { AreCopies (layout («module».now ∷ []) plan.now) copies.now }
-    requires whole { whole.now ≡ whole_list (layout («module».now ∷ []) plan.now) }
-    ensures given { IfOk result (λ list. list ≡ layout_placings (layout («module».now ∷ []) plan.now)) }
-    ensures low { IfOk result AreLowPlacings }
-{
-    modules_may_be_placed();
-    // No plan of 65,536 bytes has so many regions.
-    if whole.len() > u32::MAX as usize {
-        return Err(NoMemory);
-    }
-    let (plain, _) = whole.split_at(whole.len() - copies.len());
-    let (sections, commons) = plain.split_at(module.parts().sections.len());
-    let mut placings = all_placings(alloc, sections, commons, plan)?;
-    add_copies(
-        alloc,
-        plan.regions.as_slice(),
-        whole,
-        copies,
-        plain.len() as u32,
-        &mut placings,
-    )?;
-    if !are_low(placings.as_slice()) {
-        return Err(NoMemory);
-    }
-    Ok(placings)
-}
-
-/// What a plan places for a module as it is, whether or not it fits.
-///
-/// Each section without a base must have a name that a list of the plan matches.
-pub fn placed_list(alloc: Global, module: &Module, plan: &Plan) -> Result<Placed, NoMemory>
-    requires plan { IsSoundPlan plan.now }
-    requires listed { AllListed plan.now «module».now.sections }
-    ensures { IfOk result (λ p. IsPlacedList (layout («module».now ∷ []) plan.now) p) }
-{
-    let plain = plain_sections(alloc, module, plan)?;
-    let copies = copies(alloc, module, plan, plain.as_slice())?;
-    let whole = with_copies(alloc, plain, copies.as_slice())?;
-    let placings = placings(alloc, module, plan, copies.as_slice(), whole.as_slice())?;
-    Ok(Placed {
-        copies,
-        whole,
-        placings,
-    })
-}
-
-// The copies of regions by a plan, for a module as it is.
-fn copies_of(alloc: Global, module: &Module, plan: &Plan) -> Result<List<RegionCopy>, NoMemory>
+) -> Result<List<RegionCopy>, NoMemory>
     requires plan { IsSoundPlan plan.now }
     ensures { IfOk result (λ copies. copies ≡ (layout («module».now ∷ []) plan.now).copied) }
 {
@@ -224,8 +150,8 @@ pub fn planned_copies(
         return Ok(List::new(alloc));
     }
     if plan.symbols.is_empty() {
-        return Ok(copies_of(alloc, module, plan)?);
+        return Ok(module_copies(alloc, module, plan)?);
     }
     let named = named(alloc, module, plan)?;
-    Ok(copies_of(alloc, &named, plan)?)
+    Ok(module_copies(alloc, &named, plan)?)
 }

@@ -1,6 +1,6 @@
 //! Where a plan puts a module: its sections, its commons and the copies of regions.
 
-ghost use Rattle.std.specs.Prelude.{◌≡◌, ◌≤◌, ◌++◌, ◌∷◌, [], All, IfOk, IfErr, Option, length, option_map};
+ghost use Rattle.std.specs.Prelude.{◌≡◌, ◌≤◌, ◌++◌, ◌∷◌, [], All, IfOk, IfErr, OnOk, Option, length, option_map};
 ghost use Rattle.mufom_place.specs.Copies.{copy_sections};
 ghost use Rattle.mufom_place.specs.Facts.{IsAnswer};
 ghost use Rattle.mufom_place.specs.Filling.{IsPlaceableCopy};
@@ -11,7 +11,7 @@ ghost use Rattle.mufom_planned.specs.Layout.{layout};
 ghost use Rattle.mufom_planned.specs.Planned.{layout_fact};
 ghost use Rattle.mufom_image.specs.Placements.{IsSoundPlan};
 ghost use Rattle.mufom_image.specs.Refusals.{IsMet};
-ghost use Rattle.mufom_locating.specs.Placed.{AreCopies, ArePlacedAt, IsPlacedBy};
+ghost use Rattle.mufom_locating.specs.Placed.{AreCopies, ArePlacedAt, HaveRoom, IsPlacedBy, is_overlap};
 
 use crate::loaded::loaded_sections;
 use mufom_copies::{copy_section, copy_sections};
@@ -20,7 +20,7 @@ use mufom_image_values::resolve_references;
 use mufom_meaning::modules_may_be_placed;
 use mufom_module::Module;
 use mufom_numbers::{List, NoMemory};
-use mufom_place::{PlaceRefusal, RegionCopy, place_copies, region_copies};
+use mufom_place::{PlaceRefusal, RegionCopy, place, place_copies, region_copies};
 use mufom_plan::Plan;
 use mufom_sections::Section;
 use std::alloc::Global;
@@ -89,7 +89,42 @@ pub(crate) fn plain_sections(
     with_commons(alloc, module.parts().sections.as_slice(), commons)
 }
 
-// The copies of regions, given the sections and commons of a module.
+// Whether an error of placing is an overlap.
+fn is_overlap(refusal: PlaceRefusal) -> bool
+    ensures { result ≡ is_overlap refusal }
+{
+    matches!(refusal, PlaceRefusal::Overlap(_, _))
+}
+
+// Returns the first error of placing the sections and commons of a module, unless it is an overlap.
+//
+// An overlap is no error yet: a copy that does not fit is reported before it.
+fn check_room(
+    alloc: Global,
+    module: &Module,
+    plan: &Plan,
+    plain: &[Section],
+) -> Result<(), LocateRefusal>
+    requires plan { IsSoundPlan plan.now }
+    requires plain { plain.now ≡ extended_sections («module».now ∷ []) plan.now }
+    ensures room { OnOk result (HaveRoom (width («module».now ∷ [])) (layout («module».now ∷ []) plan.now)) }
+    ensures refused { IfErr result (IsMet (layout_fact («module».now ∷ []) (layout («module».now ∷ []) plan.now))) }
+{
+    modules_may_be_placed();
+    let parts = module.parts();
+    let commons = plain.len() - parts.sections.len();
+    let width = 8 * u32::from(parts.maus);
+    let Err(refusal) = place(alloc, plain, commons as u32, plan, width) else {
+        return Ok(());
+    };
+    if is_overlap(refusal) {
+        return Ok(());
+    }
+    Err(refused(refusal))
+}
+
+// The copies of regions, given the sections and commons of a module, whether or not these fit. A copy that would
+// have 2^64 addresses or more is out of memory.
 pub(crate) fn copies_among(
     alloc: Global,
     module: &Module,
@@ -108,6 +143,23 @@ pub(crate) fn copies_among(
         Ok(copies) => Ok(copies),
         Err(refusal) => Err(refused(refusal)),
     }
+}
+
+// The copies of regions, given the sections and commons of a module, which all fit. So no copy is larger than its
+// region.
+fn fitting_copies(
+    alloc: Global,
+    module: &Module,
+    plan: &Plan,
+    plain: &[Section],
+) -> Result<List<RegionCopy>, LocateRefusal>
+    requires plan { IsSoundPlan plan.now }
+    requires plain { plain.now ≡ extended_sections («module».now ∷ []) plan.now }
+    requires room { HaveRoom (width («module».now ∷ [])) (layout («module».now ∷ []) plan.now) }
+    ensures copies { IfOk result (AreCopies (layout («module».now ∷ []) plan.now)) }
+    ensures refused { IfErr result (IsMet (layout_fact («module».now ∷ []) (layout («module».now ∷ []) plan.now))) }
+{
+    copies_among(alloc, module, plan, plain)
 }
 
 // The bases of sections, commons and copies.
@@ -151,7 +203,8 @@ pub(crate) fn layout_of(
 {
     let sections = plain_sections(alloc, module, plan)?;
     let plain = sections.len();
-    let copies = copies_among(alloc, module, plan, sections.as_slice())?;
+    check_room(alloc, module, plan, sections.as_slice())?;
+    let copies = fitting_copies(alloc, module, plan, sections.as_slice())?;
     let whole = with_copies(alloc, sections, copies.as_slice())?;
     let bases = bases_of(alloc, module, plan, copies.as_slice(), whole.as_slice())?;
     Ok(Layout {

@@ -8,6 +8,7 @@
 
 mod copied;
 mod copies;
+mod ends;
 mod entries;
 mod exports;
 mod layout;
@@ -19,6 +20,7 @@ mod plain;
 mod refusal;
 mod symbols;
 
-pub use exports::{Placed, placed_list, planned_copies, with_plan_symbols};
+pub use ends::region_ends;
+pub use exports::{module_copies, planned_copies, with_plan_symbols};
 pub use locating::locate_by_plan;
 pub use refusal::PlannedRefusal;

@@ -260,3 +260,28 @@ fn copies_are_placed_as_sections_are(rt: HostRuntime) {
     let overlap = "Locate(Place(Overlap(4, 3)))";
     refuses(&rt, rt.alloc(), ABSOLUTE, PLAN, overlap);
 }
+
+// Two sections of a region that is loaded into another one have 2^64 addresses or more together.
+const ENDLESS: &str = r#"module "m" processor "68000" maus 8 order M
+section 0 "t" C size 9223372036854775808 align 1
+section 1 "d" C size 18446744073709551615 align 1
+section 2 "d" C size 18446744073709551615 align 1
+select 2
+bytes 1 01
+"#;
+
+const LONG: &str = r#"module "m" processor "68000" maus 8 order M
+section 0 "t" C size 4 align 1
+section 1 "d" C size 18446744073709551615 align 1
+section 2 "d" C size 18446744073709551615 align 1
+select 2
+bytes 1 01
+"#;
+
+#[test]
+fn sections_that_do_not_fit_come_before_copies(rt: HostRuntime) {
+    let first = "Locate(Place(Misfit { section: 0, region: Some(0) }))";
+    refuses(&rt, rt.alloc(), ENDLESS, PLAN, first);
+    let second = "Locate(Place(Misfit { section: 1, region: Some(1) }))";
+    refuses(&rt, rt.alloc(), LONG, PLAN, second);
+}

@@ -12,7 +12,7 @@ returns-then-loads_in_place c =
 pub returns-then-is_empty : goal.returns-then-is_empty
 returns-then-is_empty c =
     let none = c.is_empty.ensures.0 c.if-is_empty.true in
-    c.in_ok-copies_of.ensures ∙ ap (λ ms. (layout ms c.args.plan.now).copied) (sym (same-list c.args.module.now c.args.plan.now none))
+    c.in_ok-module_copies.ensures ∙ ap (λ ms. (layout ms c.args.plan.now).copied) (sym (same-list c.args.module.now c.args.plan.now none))
 
 pub named-requires-clause-some : goal.named-requires-clause-some
 named-requires-clause-some c = λ none. (let is = sym (c.is_empty.ensures.1 none) ∙ c.if-is_empty.false in cc)
@@ -24,5 +24,5 @@ pub returns : goal.returns
 returns c =
     let is = c.in_ok-named.ensures in
     let some : c.args.plan.now.symbols ≢ [] = λ none. (let is = sym (c.is_empty.ensures.1 none) ∙ c.if-is_empty.false in cc) in
-    c.in_ok-copies_of-2.ensures
+    c.in_ok-module_copies-2.ensures
     ∙ ap (λ (l : Layout). l.copied) (whole-layout c.args.module.now is.source c.args.plan.now c.requires.plan.symbols some (λ symbol. 0) c.in_ok-named.named is)
