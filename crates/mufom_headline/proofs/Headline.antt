@@ -7,7 +7,9 @@ use Rattle.mufom_module.specs.declared.module.Parts.{Parts}
 use Rattle.mufom_plan.specs.declared.plan.Plan.{Plan}
 use Rattle.mufom_meaning.specs.declared.located.LocatedParts.{LocatedParts}
 use Rattle.mufom_meaning.specs.Absolute.{absolute_of}
+use Rattle.mufom_meaning.specs.Facts.{LinkFact}
 use Rattle.mufom_meaning.specs.LinkAnswer.{link_answer}
+use Rattle.mufom_meaning.specs.Stands.{LinkFactStands}
 use Rattle.mufom_planned.specs.Planned.{IsPlanned, PlanFact, of_list, planned_answer, shared_name}
 use Rattle.mufom_planned.specs.PlanLaws.{HasSoundSymbols}
 use Rattle.mufom_planned.proofs.Absolute.{planned_located_as_itself}
@@ -24,7 +26,7 @@ use Rattle.mufom_origins.specs.Origins.{FileModule, origins_of}
 use Rattle.mufom_outcome.specs.declared.outcome.Outcome.{Outcome}
 use Rattle.mufom_outcome.specs.declared.outcome.Outcome.TheVariants as outcome
 use Rattle.mufom_outcome.specs.declared.outcome.BinRefusal.{BinRefusal}
-use Rattle.mufom_outcome.specs.Stop.{Stop, name_shared, locate_fact, bytes_refused}
+use Rattle.mufom_outcome.specs.Stop.{Stop, keep_unknown, link_fact, name_shared, locate_fact, bytes_refused}
 use Rattle.mufom_task.specs.declared.task.Inputs.{Inputs}
 use Rattle.mufom_task.specs.declared.task.Product.{Product}
 use Rattle.mufom_task.specs.declared.task.Product.TheVariants as product
@@ -32,23 +34,25 @@ use Rattle.mufom_task.specs.declared.task.Task.TheVariants as task
 use Rattle.mufom_task.specs.Calls.{Call}
 use Rattle.mufom_command.specs.FlatFiles.{AreFlatFiles}
 use Rattle.mufom_command.specs.Run.{AnswersFor, MakesFile, PutsOut, outcome_of}
-use Rattle.mufom_command.specs.Roots.{Roots, roots_by}
-use Rattle.mufom_command.specs.Works.{Kept, Output, kept_of, located, located_unless, locating_kept, mapped_kept, maus_of, producing, product_of}
-use Rattle.mufom_command.specs.Works.{product_with, stop_of, work_of}
+use Rattle.mufom_command.specs.Roots.{Roots, first_unknown, roots_by}
+use Rattle.mufom_command.specs.Works.{Kept, Output, kept_of, kept_unless, located, located_unless, locating_kept, mapped_kept, maus_of, producing}
+use Rattle.mufom_command.specs.Works.{product_of, product_with, stop_of, work_of}
 use Rattle.mufom_command.specs.Works.{bytes_fact, bytes_unless, length_fact, region_fact, region_image, region_named}
 use Rattle.mufom_command.proofs.WorkLaws.{bytes-stop}
 use Rattle.mufom_command.proofs.EndLaws.{location-of}
 use Rattle.mufom_command.proofs.KeptLaws.{kept-valid}
 use Rattle.mufom_command.proofs.Runs.{kept_of-single, of-files}
 use Rattle.mufom_run_laws.specs.RunLaws.{Accepts, CameByStages, HasNoFact, IsSameWork, IsUndisturbed, MayPutOut}
-use Rattle.mufom_run_laws.proofs.Accepted.{EndsAtFact, accepted-back, accepted-gives, accepted-stops, no-link-fact}
+use Rattle.mufom_run_laws.proofs.Accepted.{EndsAtFact, accepted-back, accepted-fact, accepted-gives, accepted-stops, no-link-fact}
 use Rattle.mufom_run_laws.proofs.Calm.{CameTo, done-comes, never-done}
 use Rattle.mufom_run_laws.proofs.Determined.{answers-determined}
 use Rattle.mufom_run_laws.proofs.LocatingDone.{no-end, no-fact-there, product-never}
 use Rattle.mufom_run_laws.proofs.Plain.{plain-answers, plain-run}
 use Rattle.mufom_run_laws.proofs.StageLaws.{means-same}
 use Rattle.mufom_headline.specs.Headline.{HasLocated, MayBeWritten, LocatesAll, PutsOutLocation, TheHeadline}
+use Rattle.mufom_headline.specs.Linking.{IsRefusedLink}
 use Rattle.mufom_headline.specs.ReadBack.{IsPutInFile}
+use Rattle.mufom_headline.proofs.Kept.{kept-means}
 use Rattle.mufom_headline.proofs.LinkedFiles.{file-made, flat-valid}
 use Rattle.mufom_headline.proofs.Maps.{flat-files, producing-known, producing-staged}
 
@@ -129,6 +133,14 @@ module _ (keep : Option Roots) (p : Product) (names : FileNames) (origins : List
             (sym some) refl),
       )
 
+  -- where no public of the list has a name to keep, that is the end
+  unknown-end : (roots : Roots) (name : List ℕ) → keep ≡ Some roots → first_unknown list roots.names ≡ Some name
+      → locating_kept target keep plan list (stops (keep_unknown name))
+  unknown-end roots name given some =
+      let ends : kept_unless (first_unknown list roots.names) roots list (stops (keep_unknown name))
+      = subst (λ (o : Option (List ℕ)). kept_unless o roots list (stops (keep_unknown name))) (sym some) refl in
+      inl (subst (λ (o : Option Roots). kept_of o list (stops (keep_unknown name))) (sym given) ends)
+
   -- what is kept of the list and its location are known
   one-location : (kept other : Kept) (r q : LocatedParts) → kept_of keep list (gives kept) → kept_of keep list (gives other)
       → IsPlanned kept.modules plan r → IsPlanned other.modules plan q → r ≡ q
@@ -175,6 +187,7 @@ module _ (files : List NamedFile) (call : Call) (result : Outcome) (c : Inputs) 
 
   -- a list of which the same is put out as of the flat list
   module _ (list : List Parts) (valid : AreValid list) (links : link_answer flat ≡ link_answer list)
+      (facts : (f : LinkFact) → LinkFactStands flat f → LinkFactStands list f)
       (alike : IsSameWork (outputs accepts.modules plan flat) (put_out_of list)) where
     list-output : (o : Output) → work_of (task.Locate c keep p) files (gives o) → (link_answer list ≡ None) × put_out_of list (gives o)
     list-output o comes =
@@ -193,6 +206,12 @@ module _ (files : List NamedFile) (call : Call) (result : Outcome) (c : Inputs) 
     ends-there s linkable is =
         answer (stops s) (accepted-back files c plan flat bytes accepts outputs (links ∙ linkable) (stops s) ((alike (stops s)).1 is))
 
+    -- and so is a link fact, where the list cannot be linked
+    unlinked-there : (f : LinkFact) → link_answer list ≡ Some f → IsRefusedLink list result
+    unlinked-there f some =
+        let (g, stands, ends) = accepted-fact files c plan flat bytes accepts outputs f (links ∙ some) in
+        (g, facts g stands, answer (stops (link_fact g)) ends)
+
     has-located : HasLocated roots p c.files origins plan call result list
     has-located = record {
       done = (
@@ -209,11 +228,15 @@ module _ (files : List NamedFile) (call : Call) (result : Outcome) (c : Inputs) 
           record {
             kept = of.kept;
             keeps = of.keeps;
+            means = kept-means roots list valid linkable of.kept of.keeps;
             location = of.location;
             is_location = of.is_location;
             itself = planned_located_as_itself of.kept.modules plan of.location (kept-valid roots list of.kept valid of.keeps) symbols of.is_location;
             puts_out = product-shown p c.files origins plan of.kept of.location call there.output of.puts there.puts_out;
           };
+      unlinked = unlinked-there;
+      unknown = λ given name same linkable some.
+          ends-there (keep_unknown name) linkable (unknown-end roots p c.files origins plan list given name same some);
       refused = λ kept f linkable is_kept some.
           ends-there (locate_fact (maus_of kept.modules) f) linkable (fact-end roots p c.files origins plan list kept (of_list f) is_kept some);
       shared = λ kept name linkable is_kept some.
@@ -227,8 +250,10 @@ module _ (files : List NamedFile) (call : Call) (result : Outcome) (c : Inputs) 
   locates-all = record {
     files = own;
     are_files = are;
-    located = has-located flat (flat-valid files c plan flat accepts) refl (producing-known roots p c.files plan (tree_of c.marks) accepts.modules own are flat);
+    located = has-located flat (flat-valid files c plan flat accepts) refl (λ f stands. stands)
+        (producing-known roots p c.files plan (tree_of c.marks) accepts.modules own are flat);
     staged = λ leaves stages. has-located leaves stages.valid (means-same flat leaves stages).same_link
+        (λ f stands. ((means-same flat leaves stages).same_link_facts f).0 stands)
         (producing-staged roots p c.files plan (tree_of c.marks) accepts.modules own are symbols flat leaves stages);
   }
 

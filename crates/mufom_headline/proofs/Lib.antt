@@ -1,4 +1,6 @@
 pub mod Staged
+pub mod Kept
+pub mod Later
 pub mod Linking
 pub mod LinkedFiles
 pub mod Maps
@@ -6,3 +8,4 @@ pub mod Headline
 pub mod ReadBack
 mod TextMade
 pub mod Texts
+pub mod Built

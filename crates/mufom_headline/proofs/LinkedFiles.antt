@@ -1,16 +1,19 @@
 -- The result of `link` is that of linking its flat list, and each list from which that was linked in stages.
-use Rattle.std.proofs.Common.{◌≡◌, Bool, not, ℕ, List, [], ◌∷◌, length, Option, None, unwrap_or, refl, sym, subst, ◌∙◌}
+use Rattle.std.proofs.Common.{◌≡◌, Bool, not, ℕ, List, [], ◌∷◌, length, Option, Some, None, unwrap_or, refl, sym, subst, ◌∙◌}
 use Rattle.mufom_records.specs.declared.options.ReadOptions.{ReadOptions}
 use Rattle.mufom_host.specs.World.{HoldBytes, NamedFile}
 use Rattle.mufom_words.specs.Tree.{leaves as files_in, tree_of}
 use Rattle.mufom_module.specs.declared.module.Parts.{Parts}
 use Rattle.mufom_plan.specs.declared.plan.Plan.{Plan}
+use Rattle.mufom_meaning.specs.Facts.{LinkFact}
 use Rattle.mufom_meaning.specs.LinkAnswer.{link_answer}
+use Rattle.mufom_meaning.specs.Stands.{LinkFactStands}
 use Rattle.mufom_meaning.specs.Selection.{members_at}
 use Rattle.mufom_meaning.specs.Staging.{AreValid}
 use Rattle.mufom_meaning.proofs.staging.Staging.{joined_stands_for}
 use Rattle.mufom_groups.specs.Linked.{first_name, members, roots}
-use Rattle.mufom_groups.specs.Work.{gives}
+use Rattle.mufom_groups.specs.Work.{gives, stops}
+use Rattle.mufom_outcome.specs.Stop.{link_fact}
 use Rattle.mufom_groups.proofs.LinkWalk.{valid-append, valid-drop, valid-members}
 use Rattle.mufom_task.specs.declared.task.Inputs.{Inputs}
 use Rattle.mufom_task.specs.declared.task.Task.TheVariants as task
@@ -20,13 +23,14 @@ use Rattle.mufom_command.specs.Works.{Output, linked_file, writes_module}
 use Rattle.mufom_command.specs.Run.{PutsOut}
 use Rattle.mufom_command.proofs.Runs.{of-files}
 use Rattle.mufom_run_laws.specs.RunLaws.{Accepts, IsSameWork}
-use Rattle.mufom_run_laws.proofs.Accepted.{accepted-gives}
+use Rattle.mufom_run_laws.proofs.Accepted.{accepted-fact, accepted-gives}
 use Rattle.mufom_run_laws.proofs.Calm.{done-comes}
-use Rattle.mufom_run_laws.proofs.Plain.{plain-answers}
+use Rattle.mufom_run_laws.proofs.Determined.{answers-determined}
+use Rattle.mufom_run_laws.proofs.Plain.{plain-answers, plain-run}
 use Rattle.mufom_run_laws.proofs.SameWorks.{same-work}
 use Rattle.mufom_run_laws.proofs.StageLaws.{lists-same, means-same, put_out-alike}
 use Rattle.mufom_task.proofs.PlanLaws.{plan-sound}
-use Rattle.mufom_headline.specs.Linking.{HasLinked, IsLinkPutOut, LinksArePutOut}
+use Rattle.mufom_headline.specs.Linking.{HasLinked, IsLinkPutOut, IsRefusedLink, LinksArePutOut}
 use Rattle.mufom_headline.specs.ReadBack.{IsPutInFile}
 use Rattle.mufom_headline.proofs.Linking.{linking-is-done}
 use Rattle.mufom_headline.proofs.ReadBack.{held-read-back}
@@ -65,16 +69,27 @@ module _ (name : Option (List ℕ)) (out : List ℕ) (list : List Parts) (valid 
 
 pub links-are-put-out : LinksArePutOut
 links-are-put-out words files call result c inputs name out plan flat is calm named asks accepts = record {
-  linked = has-linked flat refl (same-work (linked_file name out flat)) (flat-valid files inputs plan flat accepts);
+  linked = has-linked flat refl (λ f stands. stands) (same-work (linked_file name out flat)) (flat-valid files inputs plan flat accepts);
   staged = λ leaves stages. has-linked leaves (means-same flat leaves stages).same_link
+      (λ f stands. ((means-same flat leaves stages).same_link_facts f).0 stands)
       ((put_out-alike plan (plan-sound files inputs.plan plan accepts.planned).symbols flat leaves (lists-same flat leaves stages)).linked name out) stages.valid;
 } where
   bytes : HoldBytes files
   bytes = of-files call files calm.known HoldBytes calm.revealed.bytes
 
-  has-linked : (list : List Parts) → link_answer flat ≡ link_answer list → IsSameWork (linked_file name out flat) (linked_file name out list)
-      → AreValid list → HasLinked name out call result list
-  has-linked list same alike valid =
+  -- where the flat list cannot be linked, a link fact that stands against it is the result
+  refused-there : (f : LinkFact) → link_answer flat ≡ Some f → IsRefusedLink flat result
+  refused-there f some =
+      let (g, stands, ends) = accepted-fact files inputs plan flat bytes accepts (λ ms plan flat. linked_file name out flat) f some in (
+        g,
+        stands,
+        answers-determined words files call result (stops (link_fact g)) is calm
+            (plain-run words c named (task.Link inputs name out) asks files (stops (link_fact g)) ends),
+      )
+
+  has-linked : (list : List Parts) → link_answer flat ≡ link_answer list → ((f : LinkFact) → LinkFactStands flat f → LinkFactStands list f)
+      → IsSameWork (linked_file name out flat) (linked_file name out list) → AreValid list → HasLinked name out call result list
+  has-linked list same facts alike valid =
       let exactly = linking-is-done words files call result c inputs name out plan flat is calm named asks accepts in
       record {
         done = ((λ done. sym same ∙ exactly.0 done), (λ none. exactly.1 (same ∙ none)));
@@ -83,4 +98,5 @@ links-are-put-out words files call result c inputs name out plan flat is calm na
             (plain-answers words c named (task.Link inputs name out) asks call result is) calm done in
             let (linkable, puts) = accepted-gives files inputs plan flat bytes accepts (λ ms plan flat. linked_file name out flat) came.output came.comes in
             link-put-out name out list valid call came.output ((alike (gives came.output)).0 puts) came.puts_out;
+        refused = λ f some. let (g, stands, ends) = refused-there f (same ∙ some) in (g, facts g stands, ends);
       }

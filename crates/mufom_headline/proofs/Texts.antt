@@ -51,6 +51,14 @@ use Rattle.mufom_headline.proofs.Maps.{flat-files}
 use Rattle.mufom_headline.proofs.ReadBack.{read-back}
 use Rattle.mufom_headline.proofs.TextMade.{text-accepted, text-held, text-is-module}
 
+-- a text in the only file is read, if it is not too long
+pub text-read : (files : List NamedFile) (c : Inputs) (name text : List ℕ) → length text ≤ MOST_FILE_BYTES → c.files ≡ name ∷ []
+    → file_named name files ≡ Some text → text_in files c.files (gives text)
+text-read files c name text short alone there =
+    let kept : unless_past_limit (nat_lt MOST_FILE_BYTES (length text)) text (gives text)
+    = subst (λ (b : Bool). unless_past_limit b text (gives text)) (sym (not_lt MOST_FILE_BYTES (length text) short)) refl in
+    subst (λ (names : List (List ℕ)). text_in files names (gives text)) (sym alone) (text, there, kept)
+
 module _ (text : List ℕ) (maus : ℕ) (runs : List Run) (low : 1 ≤ maus) (high : maus ≤ 8) (short : length text ≤ MOST_FILE_BYTES)
     (is : IsTxtOf text (8 * maus) runs) (few : length (written (text_parts maus runs)) ≤ MOST_FILE_BYTES) where
   abbrev m : Parts
@@ -68,15 +76,9 @@ module _ (text : List ℕ) (maus : ℕ) (runs : List Run) (low : 1 ≤ maus) (hi
   -- ---- `fromtxt`
 
   module _ (files : List NamedFile) (c : Inputs) (name out : List ℕ) (alone : c.files ≡ name ∷ []) (there : file_named name files ≡ Some text) where
-    is-read : text_in files c.files (gives text)
-    is-read =
-        let kept : unless_past_limit (nat_lt MOST_FILE_BYTES (length text)) text (gives text)
-        = subst (λ (b : Bool). unless_past_limit b text (gives text)) (sym (not_lt MOST_FILE_BYTES (length text) short)) refl in
-        subst (λ (names : List (List ℕ)). text_in files names (gives text)) (sym alone) (text, there, kept)
-
     module-file : work_of (task.FromTxt c maus out) files (gives (made out bytes))
     module-file =
-        (text, is-read, (text_parts maus runs, (runs, text-rows maus text runs is, refl), (text-held maus runs low high has-module has-text, refl)))
+        (text, text-read files c name text short alone there, (text_parts maus runs, (runs, text-rows maus text runs is, refl), (text-held maus runs low high has-module has-text, refl)))
 
   -- ---- `txt`
 
@@ -150,7 +152,7 @@ module _ (files : List NamedFile) (t : Task) (name bytes : List ℕ) (works : wo
           (run_of-single words files hold (gives came.output) (gives (made name bytes)) (of-run came.output came.comes) (of-run (made name bytes) works)) in
           subst (λ (o : Output). PutsOut o call) same came.puts_out
 
-  makes : Makes files t name bytes
+  pub makes : Makes files t name bytes
   makes = record {
     work = works;
     run = λ words call result c is calm named asks.

@@ -9,7 +9,7 @@ use Rattle.mufom_plan.specs.declared.plan.Plan.{Plan}
 use Rattle.mufom_text.specs.Image.{image_text}
 use Rattle.mufom_meaning.specs.declared.located.LocatedParts.{LocatedParts}
 use Rattle.mufom_meaning.specs.Absolute.{absolute_of, no_regions}
-use Rattle.mufom_meaning.specs.Facts.{LocateFact}
+use Rattle.mufom_meaning.specs.Facts.{LinkFact, LocateFact}
 use Rattle.mufom_planned.specs.Planned.{IsPlanned, of_list, planned_answer, shared_name}
 use Rattle.mufom_meaning.specs.LinkAnswer.{link_answer}
 use Rattle.mufom_meaning.specs.Location.{IsLocation}
@@ -33,13 +33,15 @@ use Rattle.mufom_task.specs.declared.task.Request.TheVariants as request
 use Rattle.mufom_task.specs.declared.task.Task.TheVariants as task
 use Rattle.mufom_task.specs.Calls.{Call}
 use Rattle.mufom_task.specs.Tasks.{request_of}
-use Rattle.mufom_command.specs.Roots.{Roots, roots_by}
+use Rattle.mufom_command.specs.Roots.{Roots, first_unknown, roots_by}
 use Rattle.mufom_command.specs.Works.{Kept, bytes_fact, kept_of, mapped_kept, maus_of, region_image, region_named}
 use Rattle.mufom_command.specs.FlatFiles.{AreFlatFiles}
 use Rattle.mufom_command.specs.Contract.{Answers}
 use Rattle.mufom_command.specs.Run.{MakesFile, PrintsText}
 use Rattle.mufom_command.specs.Text.{hit_text}
 use Rattle.mufom_run_laws.specs.RunLaws.{Accepts, CameByStages, HasNoFact, IsUndisturbed, MayPutOut}
+use Rattle.mufom_headline.specs.Kept.{KeepsMeaning}
+use Rattle.mufom_headline.specs.Linking.{IsRefusedLink}
 use Rattle.mufom_headline.specs.ReadBack.{IsPutInFile}
 
 -- The output of a run is this location of what is kept, and nothing else. `locate` writes the file of the location's absolute module, from which a
@@ -58,7 +60,8 @@ PutsOutLocation (product.Hit at) names origins plan kept r call = PrintsText (hi
 PutsOutLocation (product.Map at) names origins plan kept r call = PrintsText (view_text names at (mapped_kept origins plan kept r)) call
 
 -- The output of a run over a list of modules is a location, by the plan, of what is kept of the list. Without `--keep`, that is the list
--- itself; with it, it is one module: the part of the list's link that the named public symbols need, and the sections that the plan keeps.
+-- itself; with it, it is one module: the part of the list's link that the named public symbols need, and the sections that the plan keeps. Wherever
+-- sections and commons are placed, this part means what the list means of it.
 --
 -- `IsPlanned` defines the location: each public, the start and each debug expression has the value of its expression at the planned bases
 -- of sections and commons, where the plan's symbols are publics too; each loaded address holds the byte of the literal or field that is loaded there;
@@ -70,6 +73,7 @@ pub record IsPutOut (keep : Option Roots) (p : Product) (names : FileNames) (ori
     : Type 0 where
   pub kept : Kept
   pub keeps : kept_of keep list (gives kept)
+  pub means : KeepsMeaning kept.rest kept.modules list
   pub location : LocatedParts
   pub is_location : IsPlanned kept.modules plan location
   pub itself : IsLocation (absolute_of location ∷ []) no_regions location
@@ -82,13 +86,17 @@ MayBeWritten keep p plan list =
     (kept : Kept) (r : LocatedParts) → kept_of keep list (gives kept) → IsPlanned kept.modules plan r → MayPutOut p plan r
 
 -- The result of the run is that of locating this list. It is `Done` if and only if the list can be linked, what is kept of it can be located, and the
--- bytes of `bin` may be written; the output is then the location. If the list can be linked but what is kept of it cannot be located, the run is
--- refused with the first error of locating it. A raw image, or a region, that is too long is refused with its length in bytes; and a name that no region
--- of the plan has, with the name.
+-- bytes of `bin` may be written; the output is then the location. A list that cannot be linked is refused with a link error of the list. If it can be
+-- linked, the first name of `--keep` that no public symbol of it has is refused; and if what is kept of it cannot be located, the run is refused with the
+-- first error of locating it. A raw image, or a region, that is too long is refused with its length in bytes; and a name that no region of the plan has,
+-- with the name.
 pub record HasLocated (keep : Option Roots) (p : Product) (names : FileNames) (origins : List Origin) (plan : Plan) (call : Call) (result : Outcome)
     (list : List Parts) : Type 0 where
   pub done : (result ≡ outcome.Done) ↔ (HasNoFact keep list plan × MayBeWritten keep p plan list)
   pub output : result ≡ outcome.Done → IsPutOut keep p names origins plan list call
+  pub unlinked : (f : LinkFact) → link_answer list ≡ Some f → IsRefusedLink list result
+  pub unknown : (roots : Roots) (name : List ℕ) → keep ≡ Some roots → link_answer list ≡ None → first_unknown list roots.names ≡ Some name
+      → result ≡ outcome.Refused (refusal.Keep name)
   pub refused : (kept : Kept) (f : LocateFact) → link_answer list ≡ None → kept_of keep list (gives kept)
       → planned_answer kept.modules plan ≡ Some (of_list f) → result ≡ outcome.Refused (refusal.Locate (locate_refusal f) (maus_of kept.modules))
   pub shared : (kept : Kept) (name : List ℕ) → link_answer list ≡ None → kept_of keep list (gives kept)

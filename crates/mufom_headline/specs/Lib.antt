@@ -1,4 +1,6 @@
 pub mod ReadBack
+pub mod Kept
 pub mod Linking
+pub mod Later
 pub mod Headline
 pub mod Texts

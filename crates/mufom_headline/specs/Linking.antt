@@ -1,21 +1,25 @@
 -- The result of a run of `link`, and the work of a task whose files were linked in stages.
-use Rattle.std.specs.Prelude.{◌≡◌, ◌↔◌, ℕ, List, [], ◌∷◌, Option, None, Ok, unwrap_or}
+use Rattle.std.specs.Prelude.{◌≡◌, ◌↔◌, ℕ, List, [], ◌∷◌, Option, Some, None, Ok, unwrap_or}
 use Rattle.mufom_host.specs.World.{NamedFile, HoldBytes}
 use Rattle.mufom_words.specs.declared.command.Command.{Command}
 use Rattle.mufom_words.specs.Answer.{answer_of}
 use Rattle.mufom_words.specs.Tree.{tree_of}
 use Rattle.mufom_module.specs.declared.module.Parts.{Parts}
 use Rattle.mufom_plan.specs.declared.plan.Plan.{Plan}
+use Rattle.mufom_meaning.specs.Facts.{LinkFact}
 use Rattle.mufom_meaning.specs.Joined.{IsJoined}
 use Rattle.mufom_meaning.specs.LinkAnswer.{link_answer}
 use Rattle.mufom_meaning.specs.Staging.{StandsFor}
+use Rattle.mufom_meaning.specs.Stands.{LinkFactStands}
 use Rattle.mufom_groups.specs.Linked.{first_name, links}
+use Rattle.mufom_groups.specs.Refusals.{link_refusal}
 use Rattle.mufom_groups.specs.Work.{Work, ◌>>=◌, with_stops}
 use Rattle.mufom_origins.specs.declared.origins.Origin.{Origin}
 use Rattle.mufom_origins.specs.Origins.{FileModule, origins_of}
 use Rattle.mufom_origins.specs.Words.{FileNames}
 use Rattle.mufom_outcome.specs.declared.outcome.Outcome.{Outcome}
 use Rattle.mufom_outcome.specs.declared.outcome.Outcome.TheVariants as outcome
+use Rattle.mufom_outcome.specs.declared.outcome.Refusal.TheVariants as refusal
 use Rattle.mufom_outcome.specs.Stop.{Stop, link_fact}
 use Rattle.mufom_task.specs.declared.task.Inputs.{Inputs}
 use Rattle.mufom_task.specs.declared.task.Product.{Product}
@@ -48,10 +52,16 @@ pub record IsLinkPutOut (name : Option (List ℕ)) (out : List ℕ) (list : List
   pub stands : StandsFor link list
   pub put_out : IsPutInFile out link call
 
--- The result of the run is that of linking this list: it is `Done` if and only if the list can be linked, and the output is then the link.
+-- The run is refused with a link error that applies to the list. If several do, a group of the arguments may decide which.
+abbrev pub IsRefusedLink : List Parts → Outcome → Type 0
+IsRefusedLink list result = (f : LinkFact) × LinkFactStands list f × (result ≡ outcome.Refused (refusal.Link (link_refusal f)))
+
+-- The result of the run is that of linking this list: it is `Done` if and only if the list can be linked, and the output is then the link. Otherwise the
+-- run is refused with a link error of the list.
 pub record HasLinked (name : Option (List ℕ)) (out : List ℕ) (call : Call) (result : Outcome) (list : List Parts) : Type 0 where
   pub done : (result ≡ outcome.Done) ↔ (link_answer list ≡ None)
   pub output : result ≡ outcome.Done → IsLinkPutOut name out list call
+  pub refused : (f : LinkFact) → link_answer list ≡ Some f → IsRefusedLink list result
 
 -- The result is that of linking the flat list, and of linking each list from which earlier runs made its modules in stages.
 pub record LinksAll (name : Option (List ℕ)) (out : List ℕ) (call : Call) (result : Outcome) (flat : List Parts) : Type 0 where

@@ -1,11 +1,16 @@
--- The file that `fromtxt` makes of a TI-TXT text, and the text that `txt` makes of that file.
+-- The files that `fromtxt` makes of a TI-TXT text and `build` of a listing, and the text that `txt` makes of the former.
 use Rattle.std.specs.Prelude.{◌≡◌, ◌≤◌, ℕ, ◌*◌, List, [], ◌∷◌, length, Some, None, Ok}
 use Rattle.mufom_numbers.specs.declared.limits.TheConstants.{MOST_FILE_BYTES}
 use Rattle.mufom_host.specs.World.{NamedFile, file_named}
 use Rattle.mufom_words.specs.declared.command.Command.{Command}
 use Rattle.mufom_words.specs.Answer.{answer_of}
 use Rattle.mufom_words.specs.Tree.{empty, file, tree_of}
+use Rattle.mufom_module.specs.declared.module.Parts.{Parts}
+use Rattle.mufom_module.specs.Defects.{IsValid}
+use Rattle.mufom_module.specs.Made.{IsMade}
 use Rattle.mufom_module.specs.Written.{written}
+use Rattle.mufom_text.specs.Show.{listing_text}
+use Rattle.mufom_build.specs.Lines.{Build}
 use Rattle.mufom_meaning.specs.declared.located.Run.{Run}
 use Rattle.mufom_titxt.specs.TextModules.{text_parts}
 use Rattle.mufom_titxt.specs.Texts.{IsTxtOf}
@@ -55,3 +60,15 @@ abbrev pub TextsComeBack : Type 0
 TextsComeBack =
     (text : List ℕ) (maus : ℕ) (runs : List Run) → 1 ≤ maus → maus ≤ 8 → length text ≤ MOST_FILE_BYTES → IsTxtOf text (8 * maus) runs
     → length (written (text_parts maus runs)) ≤ MOST_FILE_BYTES → ComesBack text maus runs
+
+-- Given a text from which the module is built, `build` makes the file of the module. A later run reads the module from it, if the file is not too long.
+pub record IsBuilt (text : List ℕ) (m : Parts) : Type 0 where
+  pub module_file : (files : List NamedFile) (inputs : Inputs) (name out : List ℕ) → inputs.files ≡ name ∷ [] → file_named name files ≡ Some text
+      → Makes files (task.Build inputs out) out (written m)
+  pub read_back : length (written m) ≤ MOST_FILE_BYTES → IsReadBack m
+
+-- This holds for each text that is a listing of a module, up to the spaces and the forms of numbers that may differ, and for the text that
+-- `show --listing` prints for a module. The text must not be too long.
+pub record ListingsAreBuilt : Type 0 where
+  pub texts : (text : List ℕ) (m : Parts) → Build text m → length text ≤ MOST_FILE_BYTES → IsBuilt text m
+  pub listings : (m : Parts) → IsValid m → IsMade m → length (listing_text m) ≤ MOST_FILE_BYTES → IsBuilt (listing_text m) m

@@ -1,9 +1,10 @@
 //! Laws of whole runs, each the contract of a function that does nothing.
 
 ghost use Rattle.mufom_headline.specs.Headline.{TheHeadline};
+ghost use Rattle.mufom_headline.specs.Later.{LinkedFilesReplaceLists, SameWorksEndTheSame};
 ghost use Rattle.mufom_headline.specs.Linking.{LinkingIsDone, LinksArePutOut, StagedRunsAreFlat};
 ghost use Rattle.mufom_headline.specs.ReadBack.{WrittenFilesAreReadBack};
-ghost use Rattle.mufom_headline.specs.Texts.{TextsComeBack};
+ghost use Rattle.mufom_headline.specs.Texts.{ListingsAreBuilt, TextsComeBack};
 
 /// If no I/O call failed, the run did not run out of memory, and the plan and the files were accepted,
 /// a task that locates is `Done` if and only if the flat list of the modules can be linked, what is
@@ -34,6 +35,19 @@ pub fn staged_runs_are_flat()
     ensures { StagedRunsAreFlat }
 {}
 
+/// The file that a run of `link` made replaces the modules that were linked: the tasks of later runs that read
+/// it have the same works as over those modules, if these have one descriptor and no two of their public
+/// symbols have one name. A map, which names modules and files, is left out.
+pub fn linked_files_replace_lists()
+    ensures { LinkedFilesReplaceLists }
+{}
+
+/// If the works of two tasks are the same, runs of them end the same: with the same outcome, and with the
+/// same output. This holds if no I/O call failed in either run and neither ran out of memory.
+pub fn same_works_end_the_same()
+    ensures { SameWorksEndTheSame }
+{}
+
 /// A later run reads exactly this module from the file of a module, if the file is not too long.
 pub fn written_files_are_read_back()
     ensures { WrittenFilesAreReadBack }
@@ -44,4 +58,11 @@ pub fn written_files_are_read_back()
 /// text and the module file are not too long.
 pub fn texts_come_back()
     ensures { TextsComeBack }
+{}
+
+/// `build` makes the file of the module of a listing: of each text that is a listing of the module, and so of the
+/// one that `show --listing` prints. A later run reads the module from the file. This holds if the text and
+/// the file are not too long.
+pub fn listings_are_built()
+    ensures { ListingsAreBuilt }
 {}

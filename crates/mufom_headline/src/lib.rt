@@ -8,7 +8,8 @@ mod laws;
 mod read_back;
 
 pub use laws::{
-    linking_is_done, links_are_put_out, staged_runs_are_flat, texts_come_back, the_headline,
+    linked_files_replace_lists, linking_is_done, links_are_put_out, listings_are_built,
+    same_works_end_the_same, staged_runs_are_flat, texts_come_back, the_headline,
     written_files_are_read_back,
 };
 pub use read_back::written_module_is_read_back;

@@ -1,17 +1,19 @@
 -- The work of a task that links files, where its inputs are accepted.
-use Rattle.std.proofs.Common.{◌≡◌, ◌⊎◌, List, None, subst, inl, inr}
+use Rattle.std.proofs.Common.{◌≡◌, ◌⊎◌, List, [], ◌∷◌, Option, Some, None, refl, ap, subst, inl, inr}
 use Rattle.mufom_host.specs.World.{HoldBytes, NamedFile}
 use Rattle.mufom_words.specs.Tree.{tree_of}
 use Rattle.mufom_module.specs.declared.module.Parts.{Parts}
+use Rattle.mufom_place.specs.Facts.{first_some, ◌or_else◌}
 use Rattle.mufom_plan.specs.declared.plan.Plan.{Plan}
 use Rattle.mufom_meaning.specs.Facts.{LinkFact}
 use Rattle.mufom_meaning.specs.LinkAnswer.{link_answer}
 use Rattle.mufom_meaning.specs.Stands.{LinkFactStands}
 use Rattle.mufom_meaning.proofs.facts.AllAnswers.{answers_are_facts}
 use Rattle.mufom_meaning.proofs.facts.LinkFacts.{link_facts_grow}
-use Rattle.mufom_groups.specs.Linked.{linked}
+use Rattle.mufom_groups.specs.Linked.{linked, links, tree_links}
 use Rattle.mufom_groups.specs.Work.{Reached, gives, stops, Work, ◌>>=◌, with_stops}
 use Rattle.mufom_groups.proofs.GroupsAlike.{linked-flat, links-stand}
+use Rattle.mufom_groups.proofs.LinkWalk.{links-give, links-stop}
 use Rattle.mufom_groups.proofs.Singles.{flat_list-single}
 use Rattle.mufom_outcome.specs.Stop.{Stop, link_fact}
 use Rattle.mufom_command.specs.Works.{Output, linking}
@@ -78,3 +80,23 @@ module _ (files : List NamedFile) (c : Inputs) (plan : Plan) (flat : List Parts)
       by : (x : Reached Stop Output) → puts flat x → (with_stops link_fact (linked (tree_of c.marks) accepts.modules) >>= puts) x
       by (gives o) is = (flat, is_linked, is)
       by (stops s) is = inr (flat, is_linked, is)
+
+    -- where the flat list cannot be linked, a link fact that stands against it is an end
+    pub accepted-fact : (f : LinkFact) → link_answer flat ≡ Some f → (g : LinkFact) × LinkFactStands flat g × linking output files c (stops (link_fact g))
+    accepted-fact f some = by (first_some link_answer lists) refl where
+      lists : List (List Parts)
+      lists = tree_links (tree_of c.marks) accepts.modules
+
+      ends : (g : LinkFact) → linked (tree_of c.marks) accepts.modules (stops g)
+          → (h : LinkFact) × LinkFactStands flat h × linking output files c (stops (link_fact h))
+      ends g is = (
+        g,
+        links-stand answers_are_facts link_facts_grow (tree_of c.marks) accepts.modules flat g accepts.is_flat is,
+        (after-inputs (stops (link_fact g))).1 (inl (g, is, refl)),
+      )
+
+      by : (o : Option LinkFact) → first_some link_answer lists ≡ o → (h : LinkFact) × LinkFactStands flat h × linking output files c (stops (link_fact h))
+      by (Some g) found = ends g (inl (links-stop lists g found))
+      by None none =
+          let last : links (flat ∷ []) (stops f) = links-stop (flat ∷ []) f (ap (λ (o : Option LinkFact). o or_else None) some) in
+          ends f (inr (tt, links-give lists none, inr (flat, accepts.is_flat, inl last)))
