@@ -7,3 +7,10 @@ pub mod LocatingDone
 pub mod MakeDone
 pub mod MadeLaws
 pub mod StageLaws
+pub mod Starts
+pub mod Selections
+pub mod Links
+pub mod Marks
+pub mod Light
+pub mod KeptExist
+pub mod Verdicts

@@ -1,6 +1,8 @@
 //! The laws of runs.
 
 ghost use Rattle.mufom_task.specs.Inputs.{HaveOneVerdict};
+ghost use Rattle.mufom_run_laws.specs.Exist.{FilesHaveAVerdict, FlatListsExist, InputsAreAccepted, KeptEntriesExist, LinksExist};
+ghost use Rattle.mufom_run_laws.specs.Exist.{MarksExist, NoFactIsDecided, SelectionsExist, WhatIsKeptExists};
 ghost use Rattle.mufom_run_laws.specs.MakeLaws.{MakeIsDone};
 ghost use Rattle.mufom_run_laws.specs.RunLaws.{AbsoluteFilesStand, AnswersAreDetermined, LinkedFilesStand, LocatingIsDone};
 ghost use Rattle.mufom_run_laws.specs.RunLaws.{RunsAreSingle, RunsOfStages, StagesMakeNoDifference};
@@ -8,6 +10,11 @@ ghost use Rattle.mufom_run_laws.specs.RunLaws.{RunsAreSingle, RunsOfStages, Stag
 /// Reading files in order has only one result, if the files hold bytes.
 pub fn files_have_one_verdict()
     ensures { HaveOneVerdict }
+{}
+
+/// Files that exist and hold bytes have a result when they are read in order.
+pub fn files_have_a_verdict()
+    ensures { FilesHaveAVerdict }
 {}
 
 /// A run has at most one result: one output or one error.
@@ -56,4 +63,48 @@ pub fn absolute_files_stand()
 /// located, however many of them there are.
 pub fn make_is_done()
     ensures { MakeIsDone }
+{}
+
+/// For all roots and members, members can be selected. Selections are unique, so there is exactly one.
+pub fn selections_exist()
+    ensures { SelectionsExist }
+{}
+
+/// The modules of each tree of files have a flat list.
+pub fn flat_lists_exist()
+    ensures { FlatListsExist }
+{}
+
+/// If the plan and the modules of the files can be read, the inputs are accepted, and give a flat list.
+pub fn inputs_are_accepted()
+    ensures { InputsAreAccepted }
+{}
+
+/// A list of at least one module that can be linked has a partial link, under each name.
+pub fn links_exist()
+    ensures { LinksExist }
+{}
+
+/// If the roots are entries, and each entry needs only entries, there is a smallest set that contains the
+/// roots and what its entries need.
+pub fn marks_exist()
+    ensures { MarksExist }
+{}
+
+/// For each module and all names of public symbols and of sections, there is a smallest set of entries to
+/// keep.
+pub fn kept_entries_exist()
+    ensures { KeptEntriesExist }
+{}
+
+/// If the arguments ask for a location of accepted inputs, the flat list can be linked and each name that
+/// `--keep` gives is that of a public symbol of the list, then something is kept of the list.
+pub fn what_is_kept_exists()
+    ensures { WhatIsKeptExists }
+{}
+
+/// No error applies to the flat list of accepted inputs if and only if the list can be linked, each name
+/// that `--keep` gives is that of a public symbol of the list, and whatever is kept of it can be located.
+pub fn no_fact_is_decided()
+    ensures { NoFactIsDecided }
 {}
