@@ -1,0 +1,14 @@
+pub mod EntryOrder
+pub mod Walk
+pub mod Verdicts
+pub mod Chunks
+pub mod Steps
+pub mod Inside
+pub mod NameLaws
+pub mod Taking
+pub mod Gathering
+pub mod Finishing
+pub mod OneVerdict
+pub mod EachVerdict
+pub mod Feeding
+pub mod Sourcing

@@ -1,0 +1,13 @@
+//! Laws about the verdicts on files. Each law is the contract of a function with an empty body.
+
+ghost use Rattle.mufom_members.specs.Laws.{HaveOneVerdict, HaveVerdict};
+
+/// No file has two verdicts: its bytes determine its modules, or its error.
+pub fn files_have_one_verdict()
+    ensures { HaveOneVerdict }
+{}
+
+/// Each file has a verdict.
+pub fn files_have_a_verdict()
+    ensures { HaveVerdict }
+{}
