@@ -61,8 +61,9 @@ fn open_host(rt: &impl Abort, alloc: Global, bytes: &[u8]) -> MemHost {
     let content = Bytes::from_slice(alloc, bytes).expect(rt, "memory");
     let mut files = List::new(alloc);
     files.push((name, content)).expect(rt, "memory");
-    let mut host =
-        MemHost::new(alloc, files, List::new(alloc), List::new(alloc), 1000).expect(rt, "memory");
+    let mut host = MemHost::new(alloc, files, List::new(alloc), List::new(alloc), 1000).expect(
+        rt, "memory",
+    );
     assert_eq!(rt; host.open("a"), Ok(()));
     host
 }
@@ -88,7 +89,13 @@ fn stop(rt: &impl Abort, alloc: Global, bytes: &[u8], limit: u64) -> Option<Memb
 // An archive of 426 bytes: a table of symbols of 5 bytes, a module of 111 bytes, and one of 120 bytes.
 fn library(rt: &impl Abort, alloc: Global) -> Vec<u8> {
     let mut bytes = archive(rt, alloc);
-    add_entry(rt, &mut bytes, b"/               ", b"5         ", b"\0\0\0\0\0");
+    add_entry(
+        rt,
+        &mut bytes,
+        b"/               ",
+        b"5         ",
+        b"\0\0\0\0\0",
+    );
     add_entry(rt, &mut bytes, b"b.o/            ", b"111       ", ODD);
     add_entry(rt, &mut bytes, b"c.o/            ", b"120       ", EVEN);
     bytes
@@ -123,13 +130,22 @@ fn another_file_has_one_module(rt: HostRuntime) {
 #[test]
 fn a_member_that_is_cut_off_is_refused(rt: HostRuntime) {
     let mut bytes = archive(&rt, rt.alloc());
-    add_entry(&rt, &mut bytes, b"b.o/            ", b"110       ", &ODD[..110]);
+    add_entry(
+        &rt,
+        &mut bytes,
+        b"b.o/            ",
+        b"110       ",
+        &ODD[..110],
+    );
     add_entry(&rt, &mut bytes, b"c.o/            ", b"120       ", EVEN);
     let refusal = ReadRefusal {
         offset: 68 + 110,
         reason: Reason::Truncated,
     };
-    assert_eq!(rt; stop(&rt, rt.alloc(), &bytes, MOST), Some(MembersStop::Refused(refusal)));
+    assert_eq!(rt;
+        stop(&rt, rt.alloc(), &bytes, MOST),
+        Some(MembersStop::Refused(refusal))
+    );
 }
 
 #[test]
@@ -138,7 +154,10 @@ fn a_bad_size_is_refused(rt: HostRuntime) {
     add_entry(&rt, &mut bytes, b"b.o/            ", b"111       ", ODD);
     add_entry(&rt, &mut bytes, b"c.o/            ", b"4x        ", EVEN);
     let error = BadArchive { offset: 180 };
-    assert_eq!(rt; stop(&rt, rt.alloc(), &bytes, MOST), Some(MembersStop::BadArchive(error)));
+    assert_eq!(rt;
+        stop(&rt, rt.alloc(), &bytes, MOST),
+        Some(MembersStop::BadArchive(error))
+    );
 }
 
 #[test]
@@ -147,13 +166,19 @@ fn an_earlier_entry_is_refused_first(rt: HostRuntime) {
     add_entry(&rt, &mut bytes, b"/9              ", b"111       ", ODD);
     add_entry(&rt, &mut bytes, b"c.o/            ", b"4         ", b"none");
     let error = BadArchive { offset: 8 };
-    assert_eq!(rt; stop(&rt, rt.alloc(), &bytes, MOST), Some(MembersStop::BadArchive(error)));
+    assert_eq!(rt;
+        stop(&rt, rt.alloc(), &bytes, MOST),
+        Some(MembersStop::BadArchive(error))
+    );
 }
 
 #[test]
 fn all_bytes_of_an_archive_count(rt: HostRuntime) {
     let bytes = library(&rt, rt.alloc());
-    assert_eq!(rt; stop(&rt, rt.alloc(), &bytes, 425), Some(MembersStop::Limit));
+    assert_eq!(rt;
+        stop(&rt, rt.alloc(), &bytes, 425),
+        Some(MembersStop::Limit)
+    );
 }
 
 #[test]
