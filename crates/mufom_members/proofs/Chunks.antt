@@ -8,8 +8,8 @@ use Rattle.mufom_module.specs.declared.module.Parts.{Parts}
 use Rattle.mufom_records.specs.declared.options.ReadOptions.{ReadOptions}
 use Rattle.mufom_read.specs.declared.refusal.ReadRefusal.{ReadRefusal}
 use Rattle.mufom_read.specs.declared.state.State.{State}
-use Rattle.mufom_read.specs.Judging.{IsModule, IsJudged, refusal}
-use Rattle.mufom_members.specs.Reading.{ArePartly, ArePending, IsBetween, StartAfter, AreRead, AreReadUpTo, HasError, IsRefusedEarly, is_member_entry}
+use Rattle.mufom_read.specs.Judging.{IsJudged, refusal}
+use Rattle.mufom_members.specs.Reading.{ArePartly, ArePending, IsBetween, StartAfter, AreRead, AreReadUpTo, IsReadModule, HasError, IsRefusedEarly, is_member_entry}
 use Rattle.mufom_members.proofs.EntryOrder.{contents_grow, contents_stay, entries_more, no_contents, part_of, start_after, start_before}
 use Rattle.mufom_members.proofs.EntryOrder.{start_later}
 
@@ -22,7 +22,7 @@ read_stays options bytes more [] (m ∷ ms) is = absurd is
 read_stays options bytes more (e ∷ es) [] is = absurd is
 read_stays options bytes more (e ∷ es) (m ∷ ms) is = let inside = is.0 in (
   omega (arith, inside, length-append bytes more),
-  subst (λ l. IsModule options l m) (sym (contents_stay bytes more e is.0)) is.1,
+  subst (λ l. IsReadModule options l m) (sym (contents_stay bytes more e is.0)) is.1,
   read_stays options bytes more es ms is.2,
 )
 

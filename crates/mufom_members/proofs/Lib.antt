@@ -12,3 +12,4 @@ pub mod OneVerdict
 pub mod EachVerdict
 pub mod Feeding
 pub mod Sourcing
+pub mod Weights

@@ -9,14 +9,14 @@ use Rattle.mufom_module.specs.declared.module.Parts.{Parts}
 use Rattle.mufom_records.specs.declared.options.ReadOptions.{ReadOptions}
 use Rattle.mufom_read.specs.declared.refusal.ReadRefusal.{ReadRefusal}
 use Rattle.mufom_read.specs.declared.state.State.{State}
-use Rattle.mufom_read.specs.Judging.{IsModule, IsJudged, refusal}
-use Rattle.mufom_members.specs.Reading.{ArePartly, ArePending, IsBetween, AreRead, AreReadUpTo, HasError, HasTaken, IsOpenAt, IsRefusedEarly, is_member_entry}
+use Rattle.mufom_read.specs.Judging.{IsJudged, refusal}
+use Rattle.mufom_members.specs.Reading.{ArePartly, ArePending, IsBetween, AreRead, AreReadUpTo, IsReadModule, HasError, HasTaken, IsOpenAt, IsRefusedEarly, is_member_entry}
 use Rattle.mufom_members.proofs.EntryOrder.{contents_grow, part_of}
 use Rattle.mufom_members.proofs.Chunks.{fresh, next_is}
 
 -- a further entry with its module
 read_more : (options : ReadOptions) (bytes : List ℕ) (es : List Entry) (ms : List Parts) (e : Entry) (m : Parts) → AreRead options bytes es ms
-    → e.end ≤ length bytes → IsModule options (contents_of bytes e) m → AreRead options bytes (es ++ e ∷ []) (ms ++ m ∷ [])
+    → e.end ≤ length bytes → IsReadModule options (contents_of bytes e) m → AreRead options bytes (es ++ e ∷ []) (ms ++ m ∷ [])
 read_more options bytes [] [] e m is inside module_of = (inside, module_of, tt)
 read_more options bytes [] (n ∷ ms) e m is inside module_of = absurd is
 read_more options bytes (x ∷ es) [] e m is inside module_of = absurd is
@@ -52,7 +52,7 @@ module _ (options : ReadOptions) (bytes more : List ℕ) (entries : List Entry) 
           let added = taken.1.0 member in
           subst (AreRead options (bytes ++ more) (filter is_member_entry between.before ++ e ∷ [])) (sym added.1)
           (read_more options (bytes ++ more) (filter is_member_entry between.before) ms e added.0 between.read inside
-          (subst (λ l. IsModule options l added.0) (sym (contents_grow bytes more e)) added.2))
+          (subst (λ l. IsReadModule options l added.0) (sym (contents_grow bytes more e)) added.2))
       by_kind false other =
           subst (λ l. AreRead options (bytes ++ more) l ns) (sym (append-nil (filter is_member_entry between.before)))
           (subst (AreRead options (bytes ++ more) (filter is_member_entry between.before)) (sym (taken.1.1 other)) between.read)

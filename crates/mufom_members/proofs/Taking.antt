@@ -12,10 +12,10 @@ use Rattle.mufom_read.specs.declared.refusal.ReadRefusal.{ReadRefusal}
 use Rattle.mufom_read.specs.declared.refusal.ReadStop.{ReadStop}
 use Rattle.mufom_read.specs.declared.refusal.ReadStop.TheVariants as read_stop
 use Rattle.mufom_read.specs.declared.state.State.{State}
-use Rattle.mufom_read.specs.Judging.{IsJudged, IsModule, IsRefusedAt, refusal}
+use Rattle.mufom_read.specs.Judging.{IsJudged, IsRefusedAt, refusal}
 use Rattle.mufom_read.specs.Reader.{HasRead, Knows, answer_of, options_of, reader_stop}
 use Rattle.mufom_read.proofs.feeding.Feed.{the_refusal}
-use Rattle.mufom_members.specs.Reading.{HasTaken, IsMoved, IsOpen, IsSmall}
+use Rattle.mufom_members.specs.Reading.{IsReadModule, HasTaken, IsMoved, IsOpen, IsSmall}
 use Rattle.mufom_members.proofs.Inside.{judged_inside}
 
 pub on_ok : {P Q : Type 0} (r : Result (Unit {0}) NoMemory) → OnOk r P → (P → Q) → OnOk r Q
@@ -114,7 +114,7 @@ module _ (options : ReadOptions) (e : Entry) (member : is_member e.label ≡ tru
     wrong : is_member e.label ≡ false → ⊥
     wrong other = cc
 
-  pub taken_module : (m : Parts) → r ≡ None → reader ≡ None → complete ≡ true → new ≡ old ++ m ∷ [] → IsModule options contents m
+  pub taken_module : (m : Parts) → r ≡ None → reader ≡ None → complete ≡ true → new ≡ old ++ m ∷ [] → IsReadModule options contents m
       → HasTaken options e contents complete old new reader r
   taken_module m none closed whole added is = rw (none, whole) (closed, ((λ is_one. (m, added, is)), (λ other. absurd (wrong other)))) where
     wrong : is_member e.label ≡ false → ⊥

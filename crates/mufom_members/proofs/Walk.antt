@@ -137,8 +137,8 @@ module _ (options : ReadOptions) (bytes names : List ℕ) (size : ℕ) where
           let grown : (es : List Entry) → members_of names (e ∷ es) ≡ the_member named.0 e ∷ members_of names es
           = λ es. members_some names e es (the_member named.0 e) named.2 in
           on_entry (m ∷ ms) ms sound
-          (λ rest. subst (λ l. AreModulesOf options bytes l (m ∷ ms)) (sym (grown before)) (is.1, rest))
-          (λ es more rest. (m ∷ more, subst (λ l. AreModulesOf options bytes l (m ∷ more)) (sym (grown es)) (is.1, rest)))
+          (λ rest. subst (λ l. AreModulesOf options bytes l (m ∷ ms)) (sym (grown before)) (is.1.0, rest))
+          (λ es more rest. (m ∷ more, subst (λ l. AreModulesOf options bytes l (m ∷ more)) (sym (grown es)) (is.1.0, rest)))
           (further ms is.2)
       by_case false sound false other ms is further =
           let same : (es : List Entry) → members_of names (e ∷ es) ≡ members_of names es

@@ -1,10 +1,12 @@
 -- What it means that the members of an archive were read up to some byte of it.
-use Rattle.std.specs.Prelude.{◌≡◌, ◌⊎◌, ℕ, ◌+◌, ◌<◌, ◌≤◌, true, false, List, [], ◌∷◌, ◌++◌, length, filter, Bool, nat_lt, if◌then◌else◌, Option, Some, None}
+use Rattle.std.specs.Prelude.{◌≡◌, ◌⊎◌, ℕ, ◌+◌, ◌*◌, ◌<◌, ◌≤◌, Bool, true, false, nat_lt, if◌then◌else◌, List, [], ◌∷◌, ◌++◌, length, filter}
+use Rattle.std.specs.Prelude.{Option, Some, None}
 use Rattle.std.specs.List.{AllByRecursion}
 use Rattle.mufom_archive.specs.declared.entry.Entry.{Entry}
 use Rattle.mufom_archive.specs.declared.listing.BadArchive.{BadArchive}
 use Rattle.mufom_archive.specs.Reading.{HasRead as HasReadArchive, entries_of}
 use Rattle.mufom_module.specs.Grammar.{file_limit}
+use Rattle.mufom_module.specs.Written.{weight}
 use Rattle.mufom_read.specs.declared.refusal.ReadStop.{ReadStop}
 use Rattle.mufom_read.specs.declared.refusal.ReadStop.TheVariants as read_stop
 use Rattle.mufom_members.specs.declared.archive.Gatherer.{Gatherer}
@@ -25,10 +27,15 @@ use Rattle.mufom_read.specs.Judging.{refusal, IsModule, IsJudged, IsRefusedAt}
 abbrev pub is_member_entry : Entry → Bool
 is_member_entry e = is_member e.label
 
+-- the contents are the file of this module, which weighs at most ten times their length
+abbrev pub IsReadModule : ReadOptions → List ℕ → Parts → Type 0
+IsReadModule options contents m = IsModule options contents m × (weight m ≤ 10 * length contents)
+
 -- The contents of these entries are complete, and are files of these modules, each of the module at its position.
 abbrev pub AreRead : ReadOptions → List ℕ → List Entry → List Parts → Type 0
 AreRead options bytes [] [] = Unit {0}
-AreRead options bytes (e ∷ entries) (m ∷ modules) = (e.end ≤ length bytes) × IsModule options (contents_of bytes e) m × AreRead options bytes entries modules
+AreRead options bytes (e ∷ entries) (m ∷ modules) = (e.end ≤ length bytes) × IsReadModule options (contents_of bytes e) m
+    × AreRead options bytes entries modules
 AreRead options bytes [] (_ ∷ _) = ⊥
 AreRead options bytes (_ ∷ _) [] = ⊥
 
@@ -66,7 +73,8 @@ ArePending options bytes (e ∷ later) reader None = (length bytes < e.end) × I
 ArePending options bytes (e ∷ later) reader (Some r) = HasError options e (contents_of bytes e) (e.end ≤ length bytes) r
 
 -- The entries of an archive are read up to some byte: those before have their modules, those after are pending.
-pub record AreReadUpTo (options : ReadOptions) (bytes : List ℕ) (entries : List Entry) (done : ℕ) (modules : List Parts) (reader : Option State) (r : Option ReadRefusal) : Type 0 where
+pub record AreReadUpTo (options : ReadOptions) (bytes : List ℕ) (entries : List Entry) (done : ℕ) (modules : List Parts)
+    (reader : Option State) (r : Option ReadRefusal) : Type 0 where
   pub before : List Entry
   pub later : List Entry
   pub split : entries ≡ before ++ later
@@ -76,7 +84,7 @@ pub record AreReadUpTo (options : ReadOptions) (bytes : List ℕ) (entries : Lis
 
 -- the contents of a member are a file of a module, which is added at the end; nothing is added for a table
 abbrev pub AddsModule : ReadOptions → Entry → List ℕ → List Parts → List Parts → Type 0
-AddsModule options e contents old new = (is_member e.label ≡ true → (m : Parts) × (new ≡ old ++ m ∷ []) × IsModule options contents m)
+AddsModule options e contents old new = (is_member e.label ≡ true → (m : Parts) × (new ≡ old ++ m ∷ []) × IsReadModule options contents m)
     × (is_member e.label ≡ false → new ≡ old)
 
 -- The result of reading the contents of an entry, complete or not: they have an error; or they are complete, and their module is
@@ -103,7 +111,8 @@ ArePartly options bytes [] reader = reader ≡ None
 ArePartly options bytes (e ∷ later) reader = IsOpenAt options reader e (contents_of bytes e) × StartAfter (length bytes) later
 
 -- The entries before some of them were read with the bytes and the chunk that follows them, those after with the bytes alone.
-pub record IsBetween (options : ReadOptions) (bytes chunk : List ℕ) (entries : List Entry) (done : ℕ) (modules : List Parts) (reader : Option State) : Type 0 where
+pub record IsBetween (options : ReadOptions) (bytes chunk : List ℕ) (entries : List Entry) (done : ℕ) (modules : List Parts)
+    (reader : Option State) : Type 0 where
   pub before : List Entry
   pub later : List Entry
   pub split : entries ≡ before ++ later

@@ -1,7 +1,9 @@
 //! Reads the modules of an archive from a stream that arrives in chunks.
 
-ghost use Rattle.std.specs.Prelude.{◌≡◌, ◌≢◌, ◌+◌, ◌<◌, ◌≤◌, ℕ, List, [], ◌++◌, length, filter, true, IfOk, OnOk, Err};
+ghost use Rattle.std.specs.Prelude.{◌≡◌, ◌≢◌, ◌+◌, ◌*◌, ◌<◌, ◌≤◌, ℕ, List, [], ◌++◌, length, filter, true, IfOk, OnOk, Err};
 ghost use Rattle.mufom_records.specs.declared.options.ReadOptions.{ReadOptions};
+ghost use Rattle.std.specs.List.{sum_by};
+ghost use Rattle.mufom_module.specs.Written.{weight};
 ghost use Rattle.mufom_archive.specs.Reading.{entries_of, length_of};
 ghost use Rattle.mufom_members.specs.Results.{HasModules};
 ghost use Rattle.mufom_members.specs.Files.{IsArchiveVerdict};
@@ -84,7 +86,8 @@ impl Gatherer {
         requires begun { (stream : List ℕ) × HasBegun self.old stream chunk.now start }
         ensures stepped { IfOk result (λ more. (stream : List ℕ) → HasBegun self.old stream chunk.now start
             → HasStepped self.new stream chunk.now start more) }
-        ensures counts { IfOk result (λ more. more ≡ true → (self.new.done ≡ self.old.done + 1) × (self.old.done < length (entries_of self.old.archive))) }
+        ensures counts { IfOk result (λ more. more ≡ true → (self.new.done ≡ self.old.done + 1)
+            × (self.old.done < length (entries_of self.old.archive))) }
         ensures archive { self.new.archive ≡ self.old.archive }
         ensures options { self.new.gathered.options ≡ self.old.gathered.options }
     {
@@ -135,6 +138,8 @@ impl Gatherer {
     /// The modules of the archive whose bytes were read, all of them, or why it has none. `size` is their number.
     pub(crate) fn finish(self, alloc: Global, size: u64) -> Result<Members, MembersStop>
         ensures modules { (stream : List ℕ) → HasGathered self stream → HasModules (IsArchiveVerdict self.gathered.options stream) result }
+        ensures weighs { (stream : List ℕ) → HasGathered self stream
+            → IfOk result (λ members. sum_by weight members.modules ≤ 10 * length stream) }
         ensures size { IfOk result (λ members. members.length ≡ size) }
         ensures fault { result ≢ Err MembersStop.Fault }
     {

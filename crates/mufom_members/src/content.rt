@@ -1,7 +1,9 @@
 //! Reads a file as an archive or as one module.
 
-ghost use Rattle.std.specs.Prelude.{◌≡◌, ◌≢◌, ◌+◌, ◌≤◌, ℕ, Bool, List, [], ◌++◌, length, IfOk, Err};
+ghost use Rattle.std.specs.Prelude.{◌≡◌, ◌≢◌, ◌+◌, ◌*◌, ◌≤◌, ℕ, Bool, List, [], ◌++◌, length, IfOk, Err};
+ghost use Rattle.std.specs.List.{sum_by};
 ghost use Rattle.mufom_module.specs.Grammar.{file_limit};
+ghost use Rattle.mufom_module.specs.Written.{weight};
 ghost use Rattle.mufom_read.specs.Reader.{options_of, reader_stop, HasRead};
 ghost use Rattle.mufom_members.specs.Contents.{HasBegunWith, HasFed, HasReadOf, IsVerdictAs, archive_of, kind_of, plain_of};
 ghost use Rattle.mufom_members.specs.Results.{HasModules};
@@ -69,6 +71,8 @@ fn feed_archive(gatherer: &mut Gatherer, chunk: &[u8], room: u64) -> Result<(), 
 fn finish_plain(reader: Reader, alloc: Global, size: u64) -> Result<Members, MembersStop>
     ensures modules { (limit : ℕ) (stream : List ℕ) → HasReadOf (plain_of reader) stream → length stream ≤ limit
         → HasModules (IsVerdictAs (kind_of (plain_of reader)) limit stream) result }
+    ensures weighs { (stream : List ℕ) → HasReadOf (plain_of reader) stream
+        → IfOk result (λ members. sum_by weight members.modules ≤ 10 * length stream) }
     ensures size { IfOk result (λ members. members.length ≡ size) }
     ensures fault { result ≢ Err MembersStop.Fault }
 {
@@ -122,6 +126,7 @@ impl Content {
     pub(crate) fn finish(self, alloc: Global, size: u64) -> Result<Members, MembersStop>
         ensures modules { (limit : ℕ) (stream : List ℕ) → HasReadOf self stream → length stream ≤ limit
             → HasModules (IsVerdictAs (kind_of self) limit stream) result }
+        ensures weighs { (stream : List ℕ) → HasReadOf self stream → IfOk result (λ members. sum_by weight members.modules ≤ 10 * length stream) }
         ensures size { IfOk result (λ members. members.length ≡ size) }
         ensures fault { result ≢ Err MembersStop.Fault }
     {

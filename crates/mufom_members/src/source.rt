@@ -1,8 +1,10 @@
 //! Reads the modules of a file from a source, such as an open file.
 
-ghost use Rattle.std.specs.Prelude.{◌≡◌, ◌+◌, ◌<◌, ◌≤◌, ◌++◌, ℕ, List, [], length, take, Option, Err, IfErr, IfOk, IfSome, OnOk};
+ghost use Rattle.std.specs.Prelude.{◌≡◌, ◌+◌, ◌*◌, ◌<◌, ◌≤◌, ◌++◌, ℕ, List, [], length, take, Option, Err, IfErr, IfOk, IfSome, OnOk};
 ghost use Rattle.mufom_host.specs.World.{OnlyReads, ReadsOff, Rose};
+ghost use Rattle.std.specs.List.{sum_by};
 ghost use Rattle.mufom_module.specs.Grammar.{file_limit};
+ghost use Rattle.mufom_module.specs.Written.{weight};
 ghost use Rattle.mufom_members.specs.Results.{SaysNothing};
 ghost use Rattle.mufom_members.specs.Contents.{
   HasBegunWith,
@@ -30,7 +32,8 @@ const SIGNATURE: usize = 8;
 // Reads once from the source, and returns the number of bytes that were read.
 fn read_some<S: Source>(source: &mut S, buffer: &mut [u8]) -> Result<usize, MembersStop>
     requires { 0 < length buffer.old }
-    ensures bytes { IfOk result (λ n. (n ≤ length buffer.new) × ReadsOff (S.meaning source.old).left (S.meaning source.new).left (take n buffer.new)) }
+    ensures bytes { IfOk result (λ n. (n ≤ length buffer.new)
+        × ReadsOff (S.meaning source.old).left (S.meaning source.new).left (take n buffer.new)) }
     ensures none { IfOk result (λ n. n ≡ 0 → IfSome (S.meaning source.old).left (λ left. left ≡ [])) }
     ensures failed { IfErr result (λ s. s ≡ MembersStop.Fault) }
     ensures same { length buffer.new ≡ length buffer.old }
@@ -142,7 +145,7 @@ fn read_after<S: Source>(
     requires small { limit ≤ file_limit }
     ensures reads { (before : Option (List ℕ)) → ReadsOff before (S.meaning source.old).left head.now
         → (length head.now < 8 → IfSome before (λ left. left ≡ head.now)) → ReadsMembers options limit before (S.meaning source.new).left result }
-    ensures size { IfOk result (λ members. members.length ≤ limit) }
+    ensures weighs { IfOk result (λ members. (sum_by weight members.modules ≤ 10 * members.length) × (members.length ≤ limit)) }
     ensures fault { result ≡ Err MembersStop.Fault → Rose (S.faults source.old).reads (S.faults source.new).reads }
     ensures only { OnlyReads (S.meaning source.old) (S.meaning source.new) (S.faults source.old) (S.faults source.new) }
 {
@@ -178,7 +181,7 @@ pub fn read_members<S: Source>(
     // Every result except a failed read and out of memory is the verdict on the bytes that were left.
     ensures reads { ReadsMembers options limit (S.meaning source.old).left (S.meaning source.new).left result }
     // This holds even if the source does not reveal what it has left.
-    ensures size { IfOk result (λ members. members.length ≤ limit) }
+    ensures weighs { IfOk result (λ members. (sum_by weight members.modules ≤ 10 * members.length) × (members.length ≤ limit)) }
     ensures fault { result ≡ Err MembersStop.Fault → Rose (S.faults source.old).reads (S.faults source.new).reads }
     ensures only { OnlyReads (S.meaning source.old) (S.meaning source.new) (S.faults source.old) (S.faults source.new) }
 {

@@ -1,9 +1,12 @@
-use Rattle.std.proofs.Common.{◌∙◌, sym, ap, refl, map, List, Some, subst}
+use Rattle.std.proofs.Common.{◌*◌, ◌≤◌, length, ◌∙◌, sym, ap, refl, map, List, Some, subst}
+use Rattle.std.specs.List.{sum_by}
 use Rattle.mufom_module.specs.declared.module.Parts.{Parts}
+use Rattle.mufom_module.specs.Written.{weight}
 use Rattle.mufom_archive.specs.Reading.{members_in}
 use Rattle.mufom_members.specs.Files.{IsArchiveVerdict, accepted}
 use Rattle.mufom_members.specs.Reading.{first_stop}
 use Rattle.mufom_members.proofs.Finishing.{gathered_modules, gathered_stop, listing_names, no_fault}
+use Rattle.mufom_members.proofs.Weights.{gathered_weigh}
 use Rattle.mufom_members.proofs.archive.Gatherer.finish.Goals as goal
 
 pub returns-in-Some-clause-modules : goal.returns-in-Some-clause-modules
@@ -24,3 +27,7 @@ returns-in-Ok-clause-modules c = λ stream has. (
   listing_names c.finish-listing.result
       (record { entries = c.in-Ok.entries; error = c.finish-listing.result.error; names = c.finish-listing.result.names }) c.in-Ok.ensures refl,
 )
+
+pub returns-in-Ok-clause-weighs : goal.returns-in-Ok-clause-weighs
+returns-in-Ok-clause-weighs c = λ stream has.
+    subst (λ (l : List Parts). sum_by weight l ≤ 10 * length stream) (sym c.into_parts-modules.ensures.modules) (gathered_weigh c.args.self stream has)

@@ -45,9 +45,11 @@ returns-in_ok-push-in-Ok-finish-clause-taken c = λ contents is.
     let m = c.in-Ok-finish.module in
     taken_module c.args.self.now.options c.args.entry.now member (contents ++ c.args.part.now) c.args.complete c.args.self.now.modules c.push.new.self _ _ m
     (c.in_ok-reader.ensures.refusal ∙ c.requires.sound) c.in_ok-reader.ensures.reader c.if-not-complete.false
-    (c.in_ok-push-in-Ok-finish.ensures.ok ∙ ap (λ l. l ++ m ∷ []) c.in_ok-reader.ensures.modules)
-    (subst (λ (d : ReadOptions). IsModule d (contents ++ c.args.part.now) m) (c.in-Ok.ensures.options ∙ begun.1)
-    (c.in-Ok-finish.ensures.ok (contents ++ c.args.part.now) (c.in-Ok.ensures.read contents begun.0)))
+    (c.in_ok-push-in-Ok-finish.ensures.ok ∙ ap (λ l. l ++ m ∷ []) c.in_ok-reader.ensures.modules) (
+      subst (λ (d : ReadOptions). IsModule d (contents ++ c.args.part.now) m) (c.in-Ok.ensures.options ∙ begun.1)
+          (c.in-Ok-finish.ensures.ok (contents ++ c.args.part.now) (c.in-Ok.ensures.read contents begun.0)),
+      c.in-Ok-finish.ensures.weighs (contents ++ c.args.part.now) (c.in-Ok.ensures.read contents begun.0),
+    )
 
 pub returns-in-Err-finish-clause-taken : goal.returns-in-Err-finish-clause-taken
 returns-in-Err-finish-clause-taken c = on_ok c.refuse-in-Err-finish.result c.refuse-in-Err-finish.ensures.refusal (λ moved contents is.
