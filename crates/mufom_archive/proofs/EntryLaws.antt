@@ -23,7 +23,8 @@ pub record IsEntryOf (at : ℕ) (header : List ℕ) (e : Entry) : Type 0 where
   pub order : e.start ≤ e.end
 
 entry_made : (at : ℕ) (header : List ℕ) (e : Entry) (long ends : Bool) → (length header == 60) ≡ long → (size : Option ℕ)
-    → (if (long && ends) then option_map {U = Entry} (λ n. record { offset = at; start = at + 60; end = at + 60 + n; label = take 16 header }) size else None) ≡ Some e
+    → (if (long && ends) then option_map {U = Entry}
+    (λ n. record { offset = at; start = at + 60; end = at + 60 + n; label = take 16 header }) size else None) ≡ Some e
     → IsEntryOf at header e
 entry_made at header e true true whole (Some n) is =
     let made : record { offset = at; start = at + 60; end = at + 60 + n; label = take 16 header } ≡ e = cc in
@@ -48,12 +49,14 @@ entry_parts at header e is = entry_made at header e (length header == 60) (ends_
 
 -- fewer bytes than a header has are none
 short_made : (at : ℕ) (header : List ℕ) (long ends : Bool) → (length header == 60) ≡ long → (size : Option ℕ) → length header < 60
-    → (if (long && ends) then option_map {U = Entry} (λ n. record { offset = at; start = at + 60; end = at + 60 + n; label = take 16 header }) size else None) ≡ None
+    → (if (long && ends) then option_map {U = Entry}
+    (λ n. record { offset = at; start = at + 60; end = at + 60 + n; label = take 16 header }) size else None) ≡ None
 short_made at header true ends whole size short = absurd (omega (arith, eqb-true (length header) 60 whole))
 short_made at header false ends whole size short = refl
 
 pub entry_short : (at : ℕ) (header : List ℕ) → length header < 60 → entry_of at header ≡ None
-entry_short at header short = short_made at header (length header == 60) (ends_with nat_eq header (96 ∷ 10 ∷ [])) refl (size_in (take 10 (drop 48 header))) short
+entry_short at header short = short_made at header (length header == 60) (ends_with nat_eq header (96 ∷ 10 ∷ [])) refl
+    (size_in (take 10 (drop 48 header))) short
 
 -- a header that is in the bytes stays when more follow
 pub header_stays : (bytes more : List ℕ) (at : ℕ) → at + 60 ≤ length bytes → take 60 (drop at (bytes ++ more)) ≡ take 60 (drop at bytes)

@@ -54,7 +54,8 @@ field_made field size n false blank within decimal some rest is = absurd (cc)
 field_parts : (field : List ℕ) (size : ℕ) → size_in field ≡ Some size → IsField field size
 field_parts field size is =
     let n = prefix_len is_ascii_digit field in
-    field_made field size n (nat_lt 0 n) (list_all is_blank (drop n field)) (prefix_len-le-length is_ascii_digit field) (front_passes is_ascii_digit field) refl refl is
+    field_made field size n (nat_lt 0 n) (list_all is_blank (drop n field)) (prefix_len-le-length is_ascii_digit field)
+    (front_passes is_ascii_digit field) refl refl is
 
 -- the bytes of a header, in its parts
 header_split : (header : List ℕ) (n : ℕ) → drop 58 header ≡ 96 ∷ 10 ∷ []

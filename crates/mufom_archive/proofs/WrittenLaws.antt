@@ -42,7 +42,8 @@ digits_first (d ∷ digits) blanks decimal blank = by_case (is_ascii_digit d) re
 size_read : (digits blanks : List ℕ) → 0 < length digits → list_all is_ascii_digit digits ≡ true → list_all is_blank blanks ≡ true
     → size_in (digits ++ blanks) ≡ Some (digits_value 10 digits)
 size_read digits blanks some decimal blank =
-    let of : ℕ → Option ℕ = λ n. if nat_lt 0 n && list_all is_blank (drop n (digits ++ blanks)) then Some (digits_value 10 (take n (digits ++ blanks))) else None in
+    let of : ℕ → Option ℕ
+    = λ n. if nat_lt 0 n && list_all is_blank (drop n (digits ++ blanks)) then Some (digits_value 10 (take n (digits ++ blanks))) else None in
     let parts : Bool → Bool → List ℕ → Option ℕ = λ a b ds. if a && b then Some (digits_value 10 ds) else None in
     let positive : nat_lt 0 (length digits) ≡ true = grind (arith, nat_tests) in
     let blanks_are : list_all is_blank (drop (length digits) (digits ++ blanks)) ≡ true

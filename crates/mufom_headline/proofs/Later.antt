@@ -135,7 +135,8 @@ module _ (link : Parts) (list : List Parts) (name : List ℕ) (valid : IsValid l
         there : AreFlatRuns others other plan its.0 leaves
         there = staged-runs-are-flat others other plan leaves leaves its.0 its_bytes its_accepts its.1 (came leaves (unlinked leaves))
 
-        links-same : (name : Option (List ℕ)) (out : List ℕ) → IsSameWork (work_of (task.Link inputs name out) files) (work_of (task.Link other name out) others)
+        links-same : (name : Option (List ℕ)) (out : List ℕ)
+            → IsSameWork (work_of (task.Link inputs name out) files) (work_of (task.Link other name out) others)
         links-same name out =
             same-trans (work_of (task.Link inputs name out) files) (link_of_list name out leaves) (work_of (task.Link other name out) others)
             (here.linked name out) (same-sym (work_of (task.Link other name out) others) (link_of_list name out leaves) (there.linked name out))
@@ -154,8 +155,10 @@ module _ (link : Parts) (list : List Parts) (name : List ℕ) (valid : IsValid l
 pub linked-files-replace-lists : LinkedFilesReplaceLists
 linked-files-replace-lists words files call result c inputs name out plan list is calm named asks accepts done =
     let bytes : HoldBytes files = of-files call files calm.known HoldBytes calm.revealed.bytes in
-    let came = done-comes files call (task.Link inputs name out) result (plain-answers words c named (task.Link inputs name out) asks call result is) calm done in
-    let (linkable, (link, joined, (held, put))) = accepted-gives files inputs plan list bytes accepts (λ ms plan flat. linked_file name out flat) came.output came.comes in
+    let came = done-comes files call (task.Link inputs name out) result
+    (plain-answers words c named (task.Link inputs name out) asks call result is) calm done in
+    let (linkable, (link, joined, (held, put))) = accepted-gives files inputs plan list bytes accepts
+    (λ ms plan flat. linked_file name out flat) came.output came.comes in
     record {
       link = link;
       put_out = file-made out call link came.output (held, put) came.puts_out;

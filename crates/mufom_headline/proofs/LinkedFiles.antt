@@ -72,7 +72,8 @@ links-are-put-out words files call result c inputs name out plan flat is calm na
   linked = has-linked flat refl (λ f stands. stands) (same-work (linked_file name out flat)) (flat-valid files inputs plan flat accepts);
   staged = λ leaves stages. has-linked leaves (means-same flat leaves stages).same_link
       (λ f stands. ((means-same flat leaves stages).same_link_facts f).0 stands)
-      ((put_out-alike plan (plan-sound files inputs.plan plan accepts.planned).symbols flat leaves (lists-same flat leaves stages)).linked name out) stages.valid;
+      ((put_out-alike plan (plan-sound files inputs.plan plan accepts.planned).symbols flat leaves
+      (lists-same flat leaves stages)).linked name out) stages.valid;
 } where
   bytes : HoldBytes files
   bytes = of-files call files calm.known HoldBytes calm.revealed.bytes

@@ -77,8 +77,11 @@ module _ (text : List ℕ) (maus : ℕ) (runs : List Run) (low : 1 ≤ maus) (hi
 
   module _ (files : List NamedFile) (c : Inputs) (name out : List ℕ) (alone : c.files ≡ name ∷ []) (there : file_named name files ≡ Some text) where
     module-file : work_of (task.FromTxt c maus out) files (gives (made out bytes))
-    module-file =
-        (text, text-read files c name text short alone there, (text_parts maus runs, (runs, text-rows maus text runs is, refl), (text-held maus runs low high has-module has-text, refl)))
+    module-file = (
+      text,
+      text-read files c name text short alone there,
+      (text_parts maus runs, (runs, text-rows maus text runs is, refl), (text-held maus runs low high has-module has-text, refl)),
+    )
 
   -- ---- `txt`
 

@@ -45,10 +45,10 @@ use Rattle.mufom_headline.specs.Linking.{IsRefusedLink}
 use Rattle.mufom_headline.specs.ReadBack.{IsPutInFile}
 
 -- The output of a run is this location of what is kept, and nothing else. `locate` writes the file of the location's absolute module, from which a
--- later run reads that module; `bin` writes the file of its raw image, or of the bytes of a region, and `txt` the file of its TI-TXT text. `dump` prints the text of its image;
--- `addr` prints the lines of the function and the source line at the address in its arguments; `map` prints the sections and symbols with their
--- addresses, the modules from which they come and the names of their files, or the lines of one address. `names` are the names of all files; `origins` are
--- the names of these modules, their files, and the numbers of their entries.
+-- later run reads that module; `bin` writes the file of its raw image, or of the bytes of a region, and `txt` the file of its TI-TXT text. `dump`
+-- prints the text of its image; `addr` prints the lines of the function and the source line at the address in its arguments; `map` prints the sections
+-- and symbols with their addresses, the modules from which they come and the names of their files, or the lines of one address. `names` are the names
+-- of all files; `origins` are the names of these modules, their files, and the numbers of their entries.
 abbrev pub PutsOutLocation : Product → FileNames → List Origin → Plan → Kept → LocatedParts → Call → Type 0
 PutsOutLocation (product.Absolute out) names origins plan kept r call = IsPutInFile out (absolute_of r) call
 PutsOutLocation (product.Raw fill out) names origins plan kept r call = MakesFile out (raw_image fill r.runs) call

@@ -9,7 +9,8 @@ use Rattle.mufom_records.specs.declared.options.ReadOptions.{ReadOptions}
 use Rattle.mufom_read.specs.declared.refusal.ReadRefusal.{ReadRefusal}
 use Rattle.mufom_read.specs.declared.state.State.{State}
 use Rattle.mufom_read.specs.Judging.{IsJudged, refusal}
-use Rattle.mufom_members.specs.Reading.{ArePartly, ArePending, IsBetween, StartAfter, AreRead, AreReadUpTo, IsReadModule, HasError, IsRefusedEarly, is_member_entry}
+use Rattle.mufom_members.specs.Reading.{ArePartly, ArePending, IsBetween, StartAfter, AreRead}
+use Rattle.mufom_members.specs.Reading.{AreReadUpTo, IsReadModule, HasError, IsRefusedEarly, is_member_entry}
 use Rattle.mufom_members.proofs.EntryOrder.{contents_grow, contents_stay, entries_more, no_contents, part_of, start_after, start_before}
 use Rattle.mufom_members.proofs.EntryOrder.{start_later}
 
@@ -97,7 +98,8 @@ between_begins options bytes more es fs next end done ms reader found last after
           (subst (λ l. AreEntries (bytes ++ more) 8 l end) (grown.1 ∙ ap (λ l. l ++ grown.0) up.split ∙ append_assoc up.before up.later grown.0) after));
     }
   where
-    later_all : (at : ℕ) (before later : List Entry) → AreEntries (bytes ++ more) at (before ++ later) end → (from : ℕ) × AreEntries (bytes ++ more) from later end
+    later_all : (at : ℕ) (before later : List Entry) → AreEntries (bytes ++ more) at (before ++ later) end
+        → (from : ℕ) × AreEntries (bytes ++ more) from later end
     later_all at [] later all = (at, all)
     later_all at (e ∷ before) later all = later_all (next_offset e) before later all.1
 

@@ -38,7 +38,8 @@ part_of e size more = drop (e.start - size) (take (e.end - size) more)
 
 pub contents_grow : (bytes more : List ℕ) (e : Entry) → contents_of (bytes ++ more) e ≡ contents_of bytes e ++ part_of e (length bytes) more
 contents_grow bytes more e =
-    between e.start e.end (bytes ++ more) ∙ ap (drop e.start) (take_both e.end bytes more) ∙ drop_both e.start (take e.end bytes) (take (e.end - length bytes) more)
+    between e.start e.end (bytes ++ more) ∙ ap (drop e.start) (take_both e.end bytes more)
+    ∙ drop_both e.start (take e.end bytes) (take (e.end - length bytes) more)
     ∙ (λ i. sym (between e.start e.end bytes) i ++ by_size (le_either e.end (length bytes)) i)
   where
     by_size : (e.end ≤ length bytes) ⊎ (length bytes ≤ e.end)

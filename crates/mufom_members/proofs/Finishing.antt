@@ -35,7 +35,8 @@ module _ (g : Gatherer) (stream : List ℕ) (has : HasGathered g stream) where
   pub gathered_stop : (members : List Member) (error : Option BadArchive) → IsListing stream members error → (s : MembersStop)
       → first_stop g.gathered.refusal error ≡ Some s → StopsBy (IsArchiveVerdict g.gathered.options stream) s
   gathered_stop members error l s is = by_both g.gathered.refusal error up.pending l is where
-    at_refusal : (r : ReadRefusal) (e : Option BadArchive) → ArePending g.gathered.options stream up.later g.gathered.reader (Some r) → IsListing stream members e
+    at_refusal : (r : ReadRefusal) (e : Option BadArchive) → ArePending g.gathered.options stream up.later g.gathered.reader (Some r)
+        → IsListing stream members e
         → IfSome e (λ bad. r.offset ≤ bad.offset) → IsArchiveVerdict g.gathered.options stream (refused r.offset r.reason)
     at_refusal r e pending l first = (
       members,
@@ -45,7 +46,8 @@ module _ (g : Gatherer) (stream : List ℕ) (has : HasGathered g stream) where
           g.gathered.modules up.read g.gathered.reader r pending members e (its_listing members e l) first,
     )
 
-    at_error : (r : Option ReadRefusal) (bad : BadArchive) → ArePending g.gathered.options stream up.later g.gathered.reader r → IsListing stream members (Some bad)
+    at_error : (r : Option ReadRefusal) (bad : BadArchive) → ArePending g.gathered.options stream up.later g.gathered.reader r
+        → IsListing stream members (Some bad)
         → IfSome r (λ f. bad.offset < f.offset) → IsArchiveVerdict g.gathered.options stream (bad_archive bad.offset)
     at_error r bad pending l first =
         let it = error_first g.gathered.options stream up.before up.later g.archive.next its_entries g.gathered.modules up.read g.gathered.reader r pending

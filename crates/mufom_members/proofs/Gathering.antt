@@ -1,5 +1,6 @@
 -- The steps of reading the members of an archive.
-use Rattle.std.proofs.Common.{◌≡◌, ℕ, ◌+◌, ◌-◌, ◌<◌, ◌≤◌, ◌∙◌, ◌↔◌, ◌⊎◌, inl, inr, zero, suc, sym, ap, refl, Bool, true, false, nat_lt, is_some, List, [], ◌∷◌, ◌++◌, length, take, drop, slice_get}
+use Rattle.std.proofs.Common.{◌≡◌, ℕ, ◌+◌, ◌-◌, ◌<◌, ◌≤◌, ◌∙◌, ◌↔◌, ◌⊎◌, inl, inr, zero, suc, sym}
+use Rattle.std.proofs.Common.{ap, refl, Bool, true, false, nat_lt, is_some, List, [], ◌∷◌, ◌++◌, length, take, drop, slice_get}
 use Rattle.std.proofs.Common.{Option, Some, None, subst, length-append, arith}
 use Rattle.std.proofs.lemmas.Bool.Decides.{nat_tests}
 use Rattle.mufom_records.specs.declared.options.ReadOptions.{ReadOptions}
@@ -74,7 +75,8 @@ module _ (old : Gatherer) (g : Gathered) (stream chunk part : List ℕ) (start :
   its_part : part ≡ part_of e (length stream) chunk
   its_part = here ∙ ap (λ n. drop (e.start - n) (take (e.end - n) chunk)) begun.counted
 
-  its_taken : HasTaken old.gathered.options e (contents_of stream e ++ part_of e (length stream) chunk) complete old.gathered.modules g.modules g.reader g.refusal
+  its_taken : HasTaken old.gathered.options e (contents_of stream e ++ part_of e (length stream) chunk)
+      complete old.gathered.modules g.modules g.reader g.refusal
   its_taken = subst (λ l. HasTaken old.gathered.options e (contents_of stream e ++ l) complete old.gathered.modules g.modules g.reader g.refusal) its_part
       (taken (contents_of stream e)
       (first_open old.gathered.options stream chunk (entries_of old.archive) old.done old.gathered.modules old.gathered.reader e begun.between next))

@@ -18,7 +18,8 @@ use Rattle.mufom_records.specs.Reading.{record_within}
 use Rattle.mufom_module.specs.SpelledRecords.{SpelledRecord}
 use Rattle.mufom_module.specs.RecordParts.{Part, section_part, external_part, debug_part}
 use Rattle.mufom_module.specs.Grammar.{file_limit}
-use Rattle.mufom_read.specs.Prefixes.{Step, raw, read, step_bytes, prefix_bytes, size_of, records_of, OffsetRecord, offset_record, offset_records_of, Extent, Location}
+use Rattle.mufom_read.specs.Prefixes.{Step, raw, read, step_bytes, prefix_bytes, size_of}
+use Rattle.mufom_read.specs.Prefixes.{records_of, OffsetRecord, offset_record, offset_records_of, Extent, Location}
 use Rattle.mufom_read.specs.Prefixes.{in_header, in_part, at_end, as_step, body_mode, bytes_to_debug, header_mode, is_raw, location_after, next_step, part_at}
 use Rattle.mufom_read.specs.Prefixes.{offsets_of, raw_step, step_at}
 use Rattle.mufom_read.specs.Faults.{Fault, OpenBlock, ended_fault, ended_part_fault, external_fault, fault_after, fault_for, fault_if, first_fault}

@@ -150,7 +150,8 @@ verdict_as false options limit head left is known v verdict =
 
 module _ (archive : Bool) (options : ReadOptions) (limit : ℕ) (head : List ℕ) (is : (archive ≡ true) ↔ BeginsArchive head) (kind : Kind)
     (same : kind ≡ (archive, options)) where
-  as_kind : (left : List ℕ) → ((8 ≤ length head) ⊎ (left ≡ [])) → (v : Verdict) → IsVerdictAs kind limit (head ++ left) v → IsVerdict options limit (head ++ left) v
+  as_kind : (left : List ℕ) → ((8 ≤ length head) ⊎ (left ≡ [])) → (v : Verdict) → IsVerdictAs kind limit (head ++ left) v
+      → IsVerdict options limit (head ++ left) v
   as_kind left known v verdict =
       verdict_as archive options limit head left is known v (subst (λ (k : Kind). IsVerdictAs k limit (head ++ left) v) same verdict)
 
@@ -187,7 +188,8 @@ module _ (archive : Bool) (options : ReadOptions) (limit : ℕ) (head : List ℕ
 
   -- a stop after the first bytes
   pub after_stop : (before mid after : Option (List ℕ)) (new : Content) (s : MembersStop) → ReadsOff before mid head
-      → (length head < 8 → IfSome before (λ left. left ≡ head)) → HasReadRest kind limit mid after head new (Err s) → ReadsMembers options limit before after (Err s)
+      → (length head < 8 → IfSome before (λ left. left ≡ head)) → HasReadRest kind limit mid after head new (Err s)
+      → ReadsMembers options limit before after (Err s)
   after_stop None mid after new s off short stops = tt
   after_stop (Some left) mid after new s off short stops =
       let its = subst (λ (o : Option (List ℕ)). IfSome o (λ l. StopsBy (IsVerdictAs kind limit (head ++ l)) s)) off.2 stops in (

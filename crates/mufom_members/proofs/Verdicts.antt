@@ -1,5 +1,6 @@
 -- The verdict on an archive, by the entries that were read and by its listing.
-use Rattle.std.proofs.Common.{◌≡◌, ℕ, ◌+◌, ◌<◌, ◌≤◌, ◌∙◌, inl, inr, ◌⊎◌, sym, ap, refl, Bool, true, false, ◌||◌, ◌&&◌, nat_lt, if◌then◌else◌, List, [], ◌∷◌, ◌++◌}
+use Rattle.std.proofs.Common.{◌≡◌, ℕ, ◌+◌, ◌<◌, ◌≤◌, ◌∙◌, inl, inr, ◌⊎◌, sym, ap}
+use Rattle.std.proofs.Common.{refl, Bool, true, false, ◌||◌, ◌&&◌, nat_lt, if◌then◌else◌, List, [], ◌∷◌, ◌++◌}
 use Rattle.std.proofs.Common.{length, take, drop, filter, Option, Some, None, IfSome, subst, append-nil, arith}
 use Rattle.std.specs.List.{before_first, find}
 use Rattle.std.specs.Option.{is_none}
@@ -161,7 +162,8 @@ error_first options bytes before later next found modules read reader r pending 
     Accepted : Type 0
     Accepted = (ms : List Parts) × AreModulesOf options bytes members ms
 
-    by_walk : Walk options bytes (long_names bytes (before ++ later)) (length bytes) before later modules → (ms : List Parts) × AreModulesOf options bytes members ms
+    by_walk : Walk options bytes (long_names bytes (before ++ later)) (length bytes) before later modules
+        → (ms : List Parts) × AreModulesOf options bytes members ms
     by_walk (inr bad_one) =
         (bad_one.modules, accepted_bad options bytes before later next found modules read members (Some bad) l bad_one)
     by_walk (inl sound) =

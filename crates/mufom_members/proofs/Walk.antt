@@ -44,7 +44,8 @@ member_named names size e sound member = by_name (name_of names e.label) refl wh
   wrong true is = cc
   wrong false is = cc
 
-  by_name : (o : Option (List ℕ)) → name_of names e.label ≡ o → (name : List ℕ) × (name_of names e.label ≡ Some name) × (member_of names e ≡ Some (the_member name e))
+  by_name : (o : Option (List ℕ)) → name_of names e.label ≡ o
+      → (name : List ℕ) × (name_of names e.label ≡ Some name) × (member_of names e ≡ Some (the_member name e))
   by_name (Some name) is = (name, is, λ i. if member i then option_map (λ n. the_member n e) (is i) else None)
   by_name None is = absurd (wrong (nat_lt size e.end) ((λ i. nat_lt size e.end || (sym member i && is_none (sym is i))) ∙ sound))
 
@@ -54,7 +55,8 @@ not_member names e is = ap (λ b. if b then option_map (λ n. the_member n e) (n
 pub members_none : (names : List ℕ) (e : Entry) (es : List Entry) → member_of names e ≡ None → members_of names (e ∷ es) ≡ members_of names es
 members_none names e es is = ap (λ o. cons_option o (members_of names es)) is
 
-pub members_some : (names : List ℕ) (e : Entry) (es : List Entry) (m : Member) → member_of names e ≡ Some m → members_of names (e ∷ es) ≡ m ∷ members_of names es
+pub members_some : (names : List ℕ) (e : Entry) (es : List Entry) (m : Member) → member_of names e ≡ Some m
+    → members_of names (e ∷ es) ≡ m ∷ members_of names es
 members_some names e es m is = ap (λ o. cons_option o (members_of names es)) is
 
 -- an entry that is not refused ends inside

@@ -209,7 +209,8 @@ module _ (files : List NamedFile) (c : Inputs) (plan : Plan) (flat leaves : List
         let here : Work Stop Output = locating_kept (producing p c.files (tree_of c.marks) leads.modules plan) roots plan flat in
         let there : Work Stop Output = locating_kept (product_with p c.files (origins_of own) plan) roots plan flat in
         same-trans (work_of (task.Locate c keep p) files) here (locating_kept (product_with p c.files (origins_of own) plan) roots plan leaves)
-        (linking-known (λ ms plan flat. locating_kept (producing p c.files (tree_of c.marks) ms plan) (roots_by keep plan) plan flat) files c plan flat bytes leads)
+        (linking-known (λ ms plan flat. locating_kept (producing p c.files (tree_of c.marks) ms plan)
+        (roots_by keep plan) plan flat) files c plan flat bytes leads)
         (same-trans here there (locating_kept (product_with p c.files (origins_of own) plan) roots plan leaves)
         (locating-each roots plan flat (producing p c.files (tree_of c.marks) leads.modules plan) (product_with p c.files (origins_of own) plan) own-product)
         (alike.located roots p c.files (origins_of own)))

@@ -1,5 +1,6 @@
 -- Files that exist have a result when they are read in order: each stream has a judgment.
-use Rattle.std.proofs.Common.{◌≡◌, ℕ, ◌<◌, ◌≤◌, inl, inr, Bool, true, false, nat_lt, List, [], ◌∷◌, ◌++◌, length, take, Option, Some, None, IsSome, refl, sym, subst}
+use Rattle.std.proofs.Common.{◌≡◌, ℕ, ◌<◌, ◌≤◌, inl, inr, Bool, true, false, nat_lt, List}
+use Rattle.std.proofs.Common.{[], ◌∷◌, ◌++◌, length, take, Option, Some, None, IsSome, refl, sym, subst}
 use Rattle.std.proofs.Common.{append-nil, append_assoc, ltb-true, ltb-false, true≢false}
 use Rattle.std.specs.List.{AllByRecursion}
 use Rattle.mufom_numbers.specs.declared.reason.Reason.{Reason}
@@ -63,7 +64,8 @@ module _ (options : ReadOptions) (files : List NamedFile) where
   one-more : (before after : List (List ℕ)) (name : List ℕ) (contents : List (List ℕ)) (ms : List Parts) (bytes : List ℕ)
       → AreAccepted options files before contents ms
       → file_named name files ≡ Some bytes → FileEnd options (room_after contents) bytes
-      → ((contents : List (List ℕ)) (ms : List Parts) → AreAccepted options files (before ++ name ∷ []) contents ms → HaveVerdict ((before ++ name ∷ []) ++ after))
+      → ((contents : List (List ℕ)) (ms : List Parts) → AreAccepted options files (before ++ name ∷ []) contents ms
+      → HaveVerdict ((before ++ name ∷ []) ++ after))
       → HaveVerdict (before ++ name ∷ after)
   one-more before after name contents ms bytes are there (whole m is fits) later =
       subst HaveVerdict (append_assoc before (name ∷ []) after)
