@@ -1,8 +1,9 @@
 -- The entries of an archive: a header of 60 bytes, the contents, and a byte of padding if their size is odd.
-use Rattle.std.specs.Prelude.{◌≡◌, ℕ, ◌+◌, ◌-◌, ◌%◌, Bool, ◌&&◌, List, [], ◌∷◌, length, take, drop, nat_eq, nat_lt, ◌==◌, if◌then◌else◌, Option, Some}
-use Rattle.std.specs.Prelude.{None, option_map}
+use Rattle.std.specs.Prelude.{◌≡◌, ℕ, zero, suc, ◌+◌, ◌-◌, ◌%◌, Bool, ◌&&◌, List, [], ◌∷◌, length, take, drop, nat_eq, nat_lt, ◌==◌, if◌then◌else◌, Option}
+use Rattle.std.specs.Prelude.{Some, None, option_map}
 use Rattle.std.specs.Char.{is_ascii_digit}
 use Rattle.std.specs.List.{ends_with, find, list_all, prefix_len}
+use Rattle.std.specs.Str.{bytes_eq}
 use Rattle.std.specs.Str.Parse.{digits_value}
 use Rattle.mufom_archive.specs.declared.entry.Entry.{Entry}
 use Rattle.mufom_archive.specs.Names.{is_blank, is_long_names}
@@ -14,6 +15,9 @@ signature = 33 ∷ 60 ∷ 97 ∷ 114 ∷ 99 ∷ 104 ∷ 62 ∷ 10 ∷ []
 -- the bytes are those of an archive
 abbrev pub BeginsArchive : List ℕ → Type 0
 BeginsArchive bytes = take 8 bytes ≡ signature
+
+abbrev pub begins_archive : List ℕ → Bool
+begins_archive bytes = bytes_eq (take 8 bytes) signature
 
 -- the size that a field states: decimal digits, at least one, and then blanks
 abbrev pub size_in : List ℕ → Option ℕ
@@ -45,6 +49,17 @@ next_offset e = e.end + (e.end - e.start) % 2
 abbrev pub AreEntries : List ℕ → ℕ → List Entry → ℕ → Type 0
 AreEntries bytes at [] next = at ≡ next
 AreEntries bytes at (e ∷ es) next = (entry_at bytes at ≡ Some e) × AreEntries bytes (next_offset e) es next
+
+-- an entry, if there is one, and the others after it
+abbrev pub entry_then : Option Entry → (Entry → List Entry) → List Entry
+entry_then None others = []
+entry_then (Some e) others = e ∷ others e
+
+-- The entries whose headers the bytes have from an offset on, one after the other, at most `count` of them. If `count` is the number
+-- of bytes, they are all.
+abbrev pub entries_from : ℕ → List ℕ → ℕ → List Entry
+entries_from zero bytes at = []
+entries_from (suc count) bytes at = entry_then (entry_at bytes at) (λ e. entries_from count bytes (next_offset e))
 
 -- the contents of an entry
 abbrev pub contents_of : List ℕ → Entry → List ℕ

@@ -56,10 +56,12 @@ use Rattle.mufom_help.specs.declared.structure.TheConstants.{
   DEPTH,
   AFTER_END,
   FILE_LIMIT,
+  BAD_ARCHIVE,
 }
 use Rattle.mufom_help.specs.declared.inputs.TheConstants.{
   INPUT_LIMIT,
   TOO_MANY_FILES,
+  TOO_MANY_MODULES,
   TOO_DEEP,
   SYNTAX,
   SHAPE,
@@ -167,6 +169,7 @@ structure =
     (codes "Depth", DEPTH.now) ∷
     (codes "AfterEnd", AFTER_END.now) ∷
     (codes "FileLimit", FILE_LIMIT.now) ∷
+    (codes "BadArchive", BAD_ARCHIVE.now) ∷
     []
 
 -- errors in the list of input files, and in the memory plan
@@ -174,6 +177,7 @@ abbrev pub inputs : List Topic
 inputs =
     (codes "InputLimit", INPUT_LIMIT.now) ∷
     (codes "TooManyFiles", TOO_MANY_FILES.now) ∷
+    (codes "TooManyModules", TOO_MANY_MODULES.now) ∷
     (codes "TooDeep", TOO_DEEP.now) ∷
     (codes "Syntax", SYNTAX.now) ∷
     (codes "Shape", SHAPE.now) ∷

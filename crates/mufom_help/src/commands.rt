@@ -31,8 +31,8 @@ To learn why a command is refused, or for help:
   help [COMMAND or NAME]
   version
 
-FILES are files and groups, then perhaps a + and members:
-  a.695 [ b.695 c.695 ] + library.695
+FILES are files and groups, then perhaps a + and members or archives:
+  a.695 [ b.695 c.695 ] + library.695 libc.a
 A group is linked into one module first. A member is linked only if another
 module needs it.
 
@@ -104,8 +104,8 @@ reference to a name that one of the modules defines becomes that public
 symbol; the other references stay. Nothing is located. OUT is created only
 after all of its bytes are known.
 
-FILES are files and groups, then perhaps a + and members:
-  a.695 [ b.695 c.695 ] + library.695
+FILES are files and groups, then perhaps a + and members or archives:
+  a.695 [ b.695 c.695 ] + library.695 libc.a
 A group is linked into one module first. A member is linked only if there is a
 strong reference to a name that no file before the + defines and that this
 member is the first member to define.
@@ -138,8 +138,8 @@ the absolute module to OUT: every section has its base address and every
 expression is its value. OUT is created only after all of its bytes are known.
 Without --plan, every section needs a base address of its own.
 
-FILES are files and groups, then perhaps a + and members:
-  a.695 [ b.695 c.695 ] + library.695
+FILES are files and groups, then perhaps a + and members or archives:
+  a.695 [ b.695 c.695 ] + library.695 libc.a
 A group is linked into one module first. A member is linked only if another
 module needs it.
 
@@ -177,8 +177,8 @@ Links and locates FILES as `locate` does, and prints the loaded bytes by
 address, then the start address, the public symbols and the debug addresses.
 Addresses and bytes are hexadecimal. No file is written.
 
-FILES are files and groups, then perhaps a + and members:
-  a.695 [ b.695 c.695 ] + library.695
+FILES are files and groups, then perhaps a + and members or archives:
+  a.695 [ b.695 c.695 ] + library.695 libc.a
 A group is linked into one module first. A member is linked only if another
 module needs it.
 
@@ -221,8 +221,8 @@ Links and locates FILES as `locate` does, and prints these lines:
   sections N bytes T loaded L  totals
 Addresses are hexadecimal, other numbers decimal. No file is written.
 
-FILES are files and groups, then perhaps a + and members:
-  a.695 [ b.695 c.695 ] + library.695
+FILES are files and groups, then perhaps a + and members or archives:
+  a.695 [ b.695 c.695 ] + library.695 libc.a
 
 Options:
   --gnu         accept the forms in which GNU binutils writes modules
@@ -255,8 +255,8 @@ OUT gets the bytes of that region alone, one for each of its addresses. An image
 that would be longer than 67,108,864 bytes is refused as TooLong, and OUT is
 not created.
 
-FILES are files and groups, then perhaps a + and members:
-  a.695 [ b.695 c.695 ] + library.695
+FILES are files and groups, then perhaps a + and members or archives:
+  a.695 [ b.695 c.695 ] + library.695 libc.a
 
 Options:
   --gnu           accept the forms in which GNU binutils writes modules
@@ -294,8 +294,8 @@ address, the public symbols and the debug items are not in it.
 S-records and Intel HEX (-intel) are made of it with the program `srec_cat`:
   srec_cat OUT -ti-txt -execution-start-address 0x100 -output NEW -motorola
 
-FILES are files and groups, then perhaps a + and members:
-  a.695 [ b.695 c.695 ] + library.695
+FILES are files and groups, then perhaps a + and members or archives:
+  a.695 [ b.695 c.695 ] + library.695 libc.a
 
 Options:
   --gnu         accept the forms in which GNU binutils writes modules
@@ -385,8 +385,8 @@ KIND is 4 for a global function and 6 for a local one. What is not known is
 `none`. If the modules have no debug records, use `map --at`: it names the
 section and the nearest public symbol.
 
-FILES are files and groups, then perhaps a + and members:
-  a.695 [ b.695 c.695 ] + library.695
+FILES are files and groups, then perhaps a + and members or archives:
+  a.695 [ b.695 c.695 ] + library.695 libc.a
 
 Options:
   --gnu          accept the forms in which GNU binutils writes modules

@@ -10,7 +10,7 @@ pub const INPUT_LIMIT: &str = "InputLimit: the input files together have more th
 
 File N, counted from 0, is the file in which the total passes 67,108,864 bytes
 (64 MiB). A file that is named twice counts twice, and members count whether
-they are needed or not.
+they are needed or not. An archive counts as a whole.
 
 Usual causes:
   - The files contain large debug parts.
@@ -29,16 +29,35 @@ pub const TOO_MANY_FILES: &str = "TooManyFiles: more than 1,024 files are named
 
   refused: TooManyFiles N
 
-N is the number of files that are named, members after the + included. At most
-1,024 are read in one run.
+N is the number of files that are named, those after the + included. At most
+1,024 are read in one run. An archive is one file.
 
 Usual causes:
   - A pattern such as *.695 matches more files than were meant.
 
 What to do:
+  - Put the members into an archive, and name that: ar rcD lib.a *.695.
   - Link in stages: `mufom link -o part.695 ..` over at most 1,024 files, then
     name part.695 in their place.
   - Name only the members that the program may need.
+";
+
+/// The text of `help TooManyModules`.
+pub const TOO_MANY_MODULES: &str = "TooManyModules: the files have more than 65,536 modules
+
+  refused: TooManyModules N
+
+N is the number of modules of all files, the members of archives included,
+whether they are needed or not. One run takes at most 65,536.
+
+Usual causes:
+  - An archive is named more than once.
+  - Archives are named that the program does not need.
+
+What to do:
+  - Name each archive once, after the +. A member is found wherever it is.
+  - Link in stages: `mufom link -o part.695 .. + FILES` over some of the
+    archives, then name part.695 in the place of the files.
 ";
 
 /// The text of `help TooDeep`.
@@ -142,6 +161,7 @@ pub(crate) fn input_topic(word: &str) -> Option<&'static str>
     match word {
         "InputLimit" => Some(INPUT_LIMIT),
         "TooManyFiles" => Some(TOO_MANY_FILES),
+        "TooManyModules" => Some(TOO_MANY_MODULES),
         "TooDeep" => Some(TOO_DEEP),
         "Syntax" => Some(SYNTAX),
         "Shape" => Some(SHAPE),

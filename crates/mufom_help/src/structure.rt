@@ -33,13 +33,16 @@ of the module (E0), the address descriptor (EC), and the offsets of the parts
 
 Usual causes:
   - OFFSET is 0: the file is not an object module of this format. It may be an
-    ELF or COFF file, a library, a text, or a plan without --plan before it.
+    ELF or COFF file, a text, or a plan without --plan before it; or an archive
+    of `ar` that is not named after a +, or a thin one.
+  - OFFSET is that of a member of an archive, which is of another format.
   - The writer of the file leaves out offsets, or writes them in another order.
 
 What to do:
   - Check the name of file N. Brackets and + are not counted.
   - Look at how it begins: xxd -l 96 FILE.
-  - If it is a library, take its modules out, and name them after a +.
+  - If it is an archive, name it after the +. A thin one does not hold its
+    members: make it again with `ar rcD`.
   - If it is an object of gcc, GNU binutils 2.16.1 can write it as a module:
       objcopy -O ieee a.o a.695
 ";
@@ -343,6 +346,27 @@ program stop at the same length, with this line:
 See `mufom help InputLimit` for causes and what to do.
 ";
 
+/// The text of `help BadArchive`.
+pub const BAD_ARCHIVE: &str = "BadArchive: an entry of an archive is invalid
+
+  refused: file N at OFFSET: BadArchive
+
+File N, counted from 0, is named after the + and begins as an archive of `ar`
+does. The entry that begins at OFFSET, with a header of 60 bytes, is invalid.
+
+Usual causes:
+  - The archive was cut off: the contents of its last entry are incomplete, or
+    the header is.
+  - It was edited or copied as text, which moves the bytes that follow.
+  - It is no longer an archive of this form at OFFSET, as after a conversion.
+  - The name of the entry is one of the long names, and begins past their end.
+
+What to do:
+  - See how the entry begins: xxd -s OFFSET -l 60 FILE. A header is a name, a
+    date, two numbers, a mode, a size in decimal digits, and the bytes 60 0A.
+  - List the archive with `ar tv FILE`, and make it again: ar rcD NEW.a *.695.
+";
+
 /// The text of an error in a module as a whole, by its name.
 pub(crate) fn structure_topic(word: &str) -> Option<&'static str>
     ensures { option_map (λ text. text.now) result ≡ topic_in structure word.now }
@@ -366,6 +390,7 @@ pub(crate) fn structure_topic(word: &str) -> Option<&'static str>
         "Depth" => Some(DEPTH),
         "AfterEnd" => Some(AFTER_END),
         "FileLimit" => Some(FILE_LIMIT),
+        "BadArchive" => Some(BAD_ARCHIVE),
         _ => None,
     }
 }

@@ -1,7 +1,8 @@
 -- What a file has: one module, or those of an archive; or why it is refused.
-use Rattle.std.specs.Prelude.{◌≡◌, ◌⊎◌, ℕ, ◌+◌, ◌-◌, ◌<◌, ◌≤◌, List, [], ◌∷◌, ◌++◌, length, map, take, drop, Option, Some, None}
+use Rattle.std.specs.Prelude.{◌≡◌, ◌⊎◌, ℕ, ◌+◌, ◌-◌, ◌<◌, ◌≤◌, nat_le, ◌&&◌, List, [], ◌∷◌, ◌++◌, length, map, take, drop, Option, Some, None}
+use Rattle.std.specs.Prelude.{is_none, if◌then◌else◌}
 use Rattle.mufom_archive.specs.declared.listing.BadArchive.{BadArchive}
-use Rattle.mufom_archive.specs.Entries.{BeginsArchive}
+use Rattle.mufom_archive.specs.Entries.{BeginsArchive, entry_at}
 use Rattle.mufom_archive.specs.Listings.{IsListing, Member}
 use Rattle.mufom_numbers.specs.declared.reason.Reason.{Reason}
 use Rattle.mufom_module.specs.declared.module.Parts.{Parts}
@@ -59,11 +60,22 @@ IsArchiveVerdict options bytes (bad_archive offset) = (members : List Member) ×
     × IsListing bytes members (Some (record { offset = offset })) × AreModulesOf options bytes members modules
 IsArchiveVerdict options bytes _ = ⊥
 
--- The verdict on an archive that may have at most `limit` bytes. The table of long names may be anywhere in an archive, so only a
--- whole archive has a first error: one that is too long is not searched for errors.
+-- The verdict on an archive of which these bytes are only the first, given their verdict as an archive of their own. An error of a
+-- member stays one, and so does a header that is complete and is none. No other verdict is one on what follows: the archive is too
+-- long, and is not searched further. For example, contents that end after these bytes may be complete, and the table of long names
+-- may be behind them.
+abbrev pub verdict_on_prefix : List ℕ → Verdict → Verdict
+verdict_on_prefix bytes (accepted names modules) = past_limit
+verdict_on_prefix bytes (refused offset reason) = refused offset reason
+verdict_on_prefix bytes (bad_archive offset) = if nat_le (offset + 60) (length bytes) && is_none (entry_at bytes offset) then bad_archive offset else past_limit
+verdict_on_prefix bytes past_limit = past_limit
+
+-- The verdict on an archive that may have at most `limit` bytes: if it has more, its first `limit` bytes may have an error that what
+-- follows cannot mend.
 abbrev pub IsVerdictWithin : ReadOptions → ℕ → List ℕ → Verdict → Type 0
 IsVerdictWithin options limit bytes verdict = ((length bytes ≤ limit) × IsArchiveVerdict options bytes verdict)
-    ⊎ ((limit < length bytes) × (verdict ≡ past_limit))
+    ⊎ ((limit < length bytes) × ((first : Verdict) × IsArchiveVerdict options (take limit bytes) first
+    × (verdict ≡ verdict_on_prefix (take limit bytes) first)))
 
 -- The verdict on a file that may have at most `limit` bytes.
 abbrev pub IsVerdict : ReadOptions → ℕ → List ℕ → Verdict → Type 0

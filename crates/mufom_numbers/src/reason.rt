@@ -107,4 +107,7 @@ pub enum Reason {
     /// The file is longer than 67,108,864 bytes.
     #[error("the file is longer than 67,108,864 bytes")]
     FileLimit,
+    /// A file begins as an archive, and an entry of it is invalid.
+    #[error("invalid archive")]
+    BadArchive,
 }

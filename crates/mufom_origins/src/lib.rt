@@ -17,4 +17,4 @@ pub use laws::{
     the_start_comes_from_a_module,
 };
 pub use origins::{Origin, Origins, Place};
-pub use words::{file_name, module_text};
+pub use words::{ModuleFile, file_name, module_text};

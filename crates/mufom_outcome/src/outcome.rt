@@ -37,6 +37,8 @@ pub enum Refusal {
     Read(u32, ReadRefusal),
     /// The total length of the files exceeds the limit in the file with this number.
     InputLimit(u32),
+    /// The files have this many modules, which is too many.
+    TooManyModules(u64),
     /// The arguments name this many files, which is too many.
     TooManyFiles(u32),
     /// This many groups are open at once, which is more than a run may have.

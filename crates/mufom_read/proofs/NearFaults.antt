@@ -66,6 +66,7 @@ token_near tokens terms bytes offset why.BlockNesting is = absurd is
 token_near tokens terms bytes offset why.Depth is = absurd is
 token_near tokens terms bytes offset why.AfterEnd is = absurd is
 token_near tokens terms bytes offset why.FileLimit is = absurd is
+token_near tokens terms bytes offset why.BadArchive is = absurd is
 
 expression_near : (at : ℕ) (bytes : List ℕ) (fault_offset : ℕ) (reason : Reason) → ExpressionFault at bytes fault_offset reason
     → fault_offset ≤ at + length bytes

@@ -25,49 +25,49 @@ EndsHere optional_number rest = Unit {0}
 EndsHere (numbers most) rest = Unit {0}
 EndsHere expression rest = Unit {0}
 EndsHere optional_expression rest = Unit {0}
-EndsHere sized_expression rest = (x : ValueOf sized_expression) (row : Record) (at : ℕ) (next : Option ℕ) → SpellsRecord (rest x) row at [] next → ⊥
+EndsHere sized_expression rest = (x : ValueOf sized_expression) (entry : Record) (at : ℕ) (next : Option ℕ) → SpellsRecord (rest x) entry at [] next → ⊥
 
 abbrev Ends : Layout → Type 0
-Ends (whole row) = Unit {0}
+Ends (whole entry) = Unit {0}
 Ends (refused back reason) = Unit {0}
 Ends (field f rest) = EndsHere f rest × ((x : ValueOf f) → Ends (rest x))
 
-field_ends : (f : Field) (rest : ValueOf f → Layout) (x : ValueOf f) (at : ℕ) (bytes : List ℕ) (next : Option ℕ) (row : Record) (after : ℕ)
-    → EndsHere f rest → SpellsField f x at bytes next → SpellsRecord (rest x) row after [] next → SpellsField f x at bytes (Some 0xE1)
-field_ends byte rest x at bytes next row after ends is none = is
-field_ends (number fits fault_offset fault) rest x at bytes next row after ends is none = is
-field_ends string rest x at bytes next row after ends is none = is
-field_ends (run n) rest x at bytes next row after ends is none = is
-field_ends (letter known) rest None at bytes next row after ends is none = (is.0, ends)
-field_ends (letter known) rest (Some b) at bytes next row after ends is none = is
-field_ends optional_number rest None at bytes next row after ends is none = (is.0, refl)
-field_ends optional_number rest (Some n) at bytes next row after ends is none = is
-field_ends (numbers most) rest x at bytes next row after ends is none = (is.0, is.1, λ few. refl)
-field_ends expression rest x at bytes next row after ends is none = (is.0, is.1, refl)
-field_ends optional_expression rest None at bytes next row after ends is none = (is.0, refl)
-field_ends optional_expression rest (Some x) at bytes next row after ends is none = (is.0, is.1, refl)
-field_ends sized_expression rest x at bytes next row after ends is none = absurd (ends x row after next none)
+field_ends : (f : Field) (rest : ValueOf f → Layout) (x : ValueOf f) (at : ℕ) (bytes : List ℕ) (next : Option ℕ) (entry : Record) (after : ℕ)
+    → EndsHere f rest → SpellsField f x at bytes next → SpellsRecord (rest x) entry after [] next → SpellsField f x at bytes (Some 0xE1)
+field_ends byte rest x at bytes next entry after ends is none = is
+field_ends (number fits fault_offset fault) rest x at bytes next entry after ends is none = is
+field_ends string rest x at bytes next entry after ends is none = is
+field_ends (run n) rest x at bytes next entry after ends is none = is
+field_ends (letter known) rest None at bytes next entry after ends is none = (is.0, ends)
+field_ends (letter known) rest (Some b) at bytes next entry after ends is none = is
+field_ends optional_number rest None at bytes next entry after ends is none = (is.0, refl)
+field_ends optional_number rest (Some n) at bytes next entry after ends is none = is
+field_ends (numbers most) rest x at bytes next entry after ends is none = (is.0, is.1, λ few. refl)
+field_ends expression rest x at bytes next entry after ends is none = (is.0, is.1, refl)
+field_ends optional_expression rest None at bytes next entry after ends is none = (is.0, refl)
+field_ends optional_expression rest (Some x) at bytes next entry after ends is none = (is.0, is.1, refl)
+field_ends sized_expression rest x at bytes next entry after ends is none = absurd (ends x entry after next none)
 
-record_ends : (l : Layout) (row : Record) (at : ℕ) (bytes : List ℕ) (next : Option ℕ) → Ends l → SpellsRecord l row at bytes next
-    → SpellsRecord l row at bytes (Some 0xE1)
-record_ends (whole made) row at bytes next ends is = is
-record_ends (refused back reason) row at bytes next ends is = is
-record_ends (field f rest) row at bytes next ends (x, prefix, [], spelled, spells, parts) = (
+record_ends : (l : Layout) (entry : Record) (at : ℕ) (bytes : List ℕ) (next : Option ℕ) → Ends l → SpellsRecord l entry at bytes next
+    → SpellsRecord l entry at bytes (Some 0xE1)
+record_ends (whole made) entry at bytes next ends is = is
+record_ends (refused back reason) entry at bytes next ends is = is
+record_ends (field f rest) entry at bytes next ends (x, prefix, [], spelled, spells, parts) = (
   x,
   prefix,
   [],
-  field_ends f rest x at prefix next row (at + length prefix) ends.0 spelled spells,
-  record_ends (rest x) row (at + length prefix) [] next (ends.1 x) spells,
+  field_ends f rest x at prefix next entry (at + length prefix) ends.0 spelled spells,
+  record_ends (rest x) entry (at + length prefix) [] next (ends.1 x) spells,
   parts,
 )
-record_ends (field f rest) row at bytes next ends (x, prefix, b ∷ back, spelled, spells, parts) =
-    (x, prefix, b ∷ back, spelled, record_ends (rest x) row (at + length prefix) (b ∷ back) next (ends.1 x) spells, parts)
+record_ends (field f rest) entry at bytes next ends (x, prefix, b ∷ back, spelled, spells, parts) =
+    (x, prefix, b ∷ back, spelled, record_ends (rest x) entry (at + length prefix) (b ∷ back) next (ends.1 x) spells, parts)
 
 choose : (c : Bool) (a b : Layout) → Ends a → Ends b → Ends (cond c a b)
 choose true a b first second = first
 choose false a b first second = second
 
--- ---- the table, row by row
+-- ---- the table, entry by entry
 
 module_begin_ends : Ends rows.module_begin
 module_begin_ends = (tt, λ processor. (tt, λ name. tt))
@@ -97,17 +97,17 @@ section_type_ends = (
 alignment_ends : Ends rows.alignment
 alignment_ends = (tt, λ i. (tt, λ n. (tt, λ other. tt)))
 
-index_and_number_ends : (row : ℕ → ℕ → Record) → Ends (rows.index_and_number row)
-index_and_number_ends row = (tt, λ i. (tt, λ n. tt))
+index_and_number_ends : (entry : ℕ → ℕ → Record) → Ends (rows.index_and_number entry)
+index_and_number_ends entry = (tt, λ i. (tt, λ n. tt))
 
-index_and_string_ends : (row : ℕ → Span → Record) → Ends (rows.index_and_string row)
-index_and_string_ends row = (tt, λ i. (tt, λ name. tt))
+index_and_string_ends : (entry : ℕ → Span → Record) → Ends (rows.index_and_string entry)
+index_and_string_ends entry = (tt, λ i. (tt, λ name. tt))
 
-index_and_expression_ends : (row : ℕ → Span → Record) → Ends (rows.index_and_expression row)
-index_and_expression_ends row = (tt, λ i. (tt, λ value. tt))
+index_and_expression_ends : (entry : ℕ → Span → Record) → Ends (rows.index_and_expression entry)
+index_and_expression_ends entry = (tt, λ i. (tt, λ value. tt))
 
-note_ends : (row : ℕ → ℕ → ℕ → ArrayVec ℕ → Record) → Ends (rows.note row)
-note_ends row = (tt, λ i. (tt, λ type_index. (tt, λ attribute. (tt, λ ns. tt))))
+note_ends : (entry : ℕ → ℕ → ℕ → ArrayVec ℕ → Record) → Ends (rows.note entry)
+note_ends entry = (tt, λ i. (tt, λ type_index. (tt, λ attribute. (tt, λ ns. tt))))
 
 debug_note_ends : Ends rows.debug_note
 debug_note_ends = (tt, λ i. (tt, λ type_index. (tt, λ attribute. (tt, λ ns. tt))))
@@ -128,8 +128,8 @@ block_end_ends = (tt, λ value. tt)
 set_section_ends : Ends rows.set_section
 set_section_ends = (tt, λ i. tt)
 
-constant_ends : (row : Span → Record) → Ends (rows.constant row)
-constant_ends row = (tt, λ count. (tt, λ bytes. tt))
+constant_ends : (entry : Span → Record) → Ends (rows.constant entry)
+constant_ends entry = (tt, λ count. (tt, λ bytes. tt))
 
 repeat_ends : Ends rows.repeat
 repeat_ends = (tt, λ times. (tt, λ b. choose (b == 0xED) _ _ (constant_ends (r.RepeatConstant times)) (choose (b == 0xE4) _ _ tt tt)))
@@ -164,32 +164,32 @@ empty_prefix : (xs ys : List ℕ) → [] ≡ xs ++ ys → xs ≡ []
 empty_prefix [] ys e = refl
 empty_prefix (x ∷ xs) ys e = absurd cc
 
-no_closed : (bracket : ℕ) (rest : Layout) (row : Record) (at : ℕ) (next : Option ℕ) → SpellsRecord (rows.closed_by bracket rest) row at [] next → ⊥
-no_closed bracket rest row at next (b, prefix, back, spelled, spells, parts) =
+no_closed : (bracket : ℕ) (rest : Layout) (entry : Record) (at : ℕ) (next : Option ℕ) → SpellsRecord (rows.closed_by bracket rest) entry at [] next → ⊥
+no_closed bracket rest entry at next (b, prefix, back, spelled, spells, parts) =
     let none : b ∷ [] ≡ [] = sym spelled ∙ empty_prefix prefix back parts in absurd cc
 
 no_number : (n : ℕ) (bytes : List ℕ) → SpellsNumber n bytes → bytes ≡ [] → ⊥
 no_number n [] spells none = spells
 no_number n (b ∷ bytes) spells none = cc
 
-no_comma : (bracket : ℕ) (value : Span) (found : Option ℕ) (row : Record) (at : ℕ) (next : Option ℕ)
-    → SpellsRecord (rows.item_by_comma bracket value found) row at [] next → ⊥
-no_comma bracket value None row at next is = no_closed bracket _ row at next is
-no_comma bracket value (Some comma_) row at next (n, prefix, back, spelled, spells, parts) = no_number n prefix spelled.0 (empty_prefix prefix back parts)
+no_comma : (bracket : ℕ) (value : Span) (found : Option ℕ) (entry : Record) (at : ℕ) (next : Option ℕ)
+    → SpellsRecord (rows.item_by_comma bracket value found) entry at [] next → ⊥
+no_comma bracket value None entry at next is = no_closed bracket _ entry at next is
+no_comma bracket value (Some comma_) entry at next (n, prefix, back, spelled, spells, parts) = no_number n prefix spelled.0 (empty_prefix prefix back parts)
 
-no_size : (bracket : ℕ) (value : Span) (found : Option PlainSize) (row : Record) (at : ℕ) (next : Option ℕ)
-    → SpellsRecord (rows.item_by_size bracket value found) row at [] next → ⊥
-no_size bracket value (Some last) row at next is = no_closed bracket _ row at next is
-no_size bracket value None row at next (None, prefix, back, spelled, spells, parts) =
-    no_comma bracket value None row (at + length prefix) next
-    (subst (λ (l : List ℕ). SpellsRecord (rows.item_by_comma bracket value None) row (at + length prefix) l next)
+no_size : (bracket : ℕ) (value : Span) (found : Option PlainSize) (entry : Record) (at : ℕ) (next : Option ℕ)
+    → SpellsRecord (rows.item_by_size bracket value found) entry at [] next → ⊥
+no_size bracket value (Some last) entry at next is = no_closed bracket _ entry at next is
+no_size bracket value None entry at next (None, prefix, back, spelled, spells, parts) =
+    no_comma bracket value None entry (at + length prefix) next
+    (subst (λ (l : List ℕ). SpellsRecord (rows.item_by_comma bracket value None) entry (at + length prefix) l next)
     (sym (parts ∙ ap (λ (l : List ℕ). l ++ back) spelled.0)) spells)
-no_size bracket value None row at next (Some b, prefix, back, spelled, spells, parts) =
+no_size bracket value None entry at next (Some b, prefix, back, spelled, spells, parts) =
     let none : b ∷ [] ≡ [] = sym spelled.0 ∙ empty_prefix prefix back parts in absurd cc
 
 gnu_item_by_bracket_ends : (bracket : Option ℕ) → Ends (rows.gnu_item_by_bracket bracket)
 gnu_item_by_bracket_ends None = constant_ends r.ConstantItem
-gnu_item_by_bracket_ends (Some bracket) = (λ x row at next is. no_size bracket x.0 x.1 row at next is, λ e. item_by_size_ends bracket e.0 e.1)
+gnu_item_by_bracket_ends (Some bracket) = (λ x entry at next is. no_size bracket x.0 x.1 entry at next is, λ e. item_by_size_ends bracket e.0 e.1)
 
 gnu_item_ends : Ends rows.gnu_item
 gnu_item_ends = (refl, λ bracket. gnu_item_by_bracket_ends bracket)
@@ -222,11 +222,11 @@ records_end mode.Items = item_ends
 records_end mode.GnuItems = gnu_item_ends
 
 -- a complete record may as well be followed by the code of the module's end
-pub ends-anywhere : (m : Mode) (row : Record) (bytes : List ℕ) (next : Option ℕ) → IsWholeRecord m row bytes next → IsWholeRecord m row bytes (Some 0xE1)
-ends-anywhere m row bytes next is = record_ends (layout_of m) row 0 bytes next (records_end m) is
+pub ends-anywhere : (m : Mode) (entry : Record) (bytes : List ℕ) (next : Option ℕ) → IsWholeRecord m entry bytes next → IsWholeRecord m entry bytes (Some 0xE1)
+ends-anywhere m entry bytes next is = record_ends (layout_of m) entry 0 bytes next (records_end m) is
 
 -- an item is the same item if the comma before a size is optional
-pub item-gnu : (row : Record) (bytes : List ℕ) (next : Option ℕ) → IsWholeRecord mode.Items row bytes next → IsWholeRecord mode.GnuItems row bytes next
-item-gnu row bytes next (None, prefix, back, spelled, spells, parts) = (None, prefix, back, spelled, spells, parts)
-item-gnu row bytes next (Some bracket, prefix, back, spelled, (value, text, more, is, spells, split), parts) =
+pub item-gnu : (entry : Record) (bytes : List ℕ) (next : Option ℕ) → IsWholeRecord mode.Items entry bytes next → IsWholeRecord mode.GnuItems entry bytes next
+item-gnu entry bytes next (None, prefix, back, spelled, spells, parts) = (None, prefix, back, spelled, spells, parts)
+item-gnu entry bytes next (Some bracket, prefix, back, spelled, (value, text, more, is, spells, split), parts) =
     (Some bracket, prefix, back, spelled, ((value, None), text, more, is, spells, split), parts)

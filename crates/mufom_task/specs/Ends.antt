@@ -15,10 +15,10 @@ use Rattle.mufom_outcome.specs.declared.outcome.Outcome.TheVariants as outcome
 use Rattle.mufom_outcome.specs.declared.outcome.Refusal.TheVariants as refusal
 use Rattle.mufom_outcome.specs.LocateRefusals.{locate_refusal}
 use Rattle.mufom_outcome.specs.Outcomes.{stop_answer}
-use Rattle.mufom_outcome.specs.Stop.{Stop, words_refused, plan_refused, file_refused, past_limit, link_fact, keep_unknown, name_shared, locate_fact, bytes_refused}
+use Rattle.mufom_outcome.specs.Stop.{Stop, words_refused, plan_refused, file_refused, past_limit, too_many_modules, link_fact, keep_unknown, name_shared, locate_fact, bytes_refused}
 use Rattle.mufom_outcome.specs.Stop.{text_refused, listing_refused}
 use Rattle.mufom_task.specs.declared.task.Inputs.{Inputs}
-use Rattle.mufom_task.specs.Inputs.{ComeTo, accepted}
+use Rattle.mufom_task.specs.Inputs.{ComeTo, accepted, root_count}
 use Rattle.mufom_task.specs.Reading.{plan_in}
 
 -- the outcome of a run that an error ends
@@ -27,6 +27,7 @@ stop_outcome (words_refused s) = stop_answer s
 stop_outcome (plan_refused r) = outcome.Refused (refusal.Plan r)
 stop_outcome (file_refused n r) = outcome.Refused (refusal.Read n r)
 stop_outcome (past_limit n) = outcome.Refused (refusal.InputLimit n)
+stop_outcome (too_many_modules n) = outcome.Refused (refusal.TooManyModules n)
 stop_outcome (link_fact f) = outcome.Refused (refusal.Link (link_refusal f))
 stop_outcome (keep_unknown name) = outcome.Refused (refusal.Keep name)
 stop_outcome (name_shared name) = outcome.Refused (refusal.SharedName name)
@@ -59,4 +60,4 @@ abbrev pub IsInputReached : Option (List NamedFile) → Inputs → Input → Typ
 IsInputReached files inputs input.Plan = IsSome inputs.plan
 IsInputReached files inputs (input.File n) = (n < length inputs.files)
     × IfSome files (λ fs. ((plan : Plan) × plan_in fs inputs.plan (gives plan))
-    × ((ms : List Parts) × ComeTo inputs.options fs (take n inputs.files) (accepted ms)))
+    × ((ms : List Parts) × ComeTo inputs.options (root_count inputs) fs (take n inputs.files) (accepted ms)))
