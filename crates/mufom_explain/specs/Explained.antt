@@ -13,7 +13,7 @@ use Rattle.mufom_explain.specs.declared.details.LocateKind.{LocateKind}
 use Rattle.mufom_explain.specs.declared.details.LocateKind.TheVariants as locate
 use Rattle.mufom_explain.specs.declared.details.NameDetails.{NameDetails}
 use Rattle.mufom_explain.specs.declared.details.SharedDetails.{SharedDetails}
-use Rattle.mufom_explain.specs.Lines.{FileNames, module_line}
+use Rattle.mufom_explain.specs.Lines.{ModuleFiles, module_line}
 use Rattle.mufom_explain.specs.Details.{Explained, entry_lines, has_start, lines_among, mismatch_lines, start_lines, symbol_lines}
 use Rattle.mufom_explain.specs.Flat.{flat_of, wanted_names}
 use Rattle.mufom_explain.specs.Mentions.{mention_text}
@@ -30,10 +30,10 @@ abbrev pub left_after : ℕ → ℕ × FileModule → ℕ
 left_after left p = if is_told left p then left - 1 else left
 
 -- the line of the module, if a line is left and it has a start
-abbrev pub start_line : FileNames → ℕ → ℕ × FileModule → Text
+abbrev pub start_line : ModuleFiles → ℕ → ℕ × FileModule → Text
 start_line names left p = if is_told left p then module_line names p.0 p.1 else []
 
-abbrev pub link_lines : FileNames → List FileModule → LinkKind → Text
+abbrev pub link_lines : ModuleFiles → List FileModule → LinkKind → Text
 link_lines names flat link.Mismatch = mismatch_lines names flat
 link_lines names flat (link.Mentions mentions) = mention_text names (flat_of mentions.flat.now) (wanted_names mentions.wanted)
 link_lines names flat link.Starts = start_lines names flat

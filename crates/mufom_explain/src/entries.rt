@@ -12,8 +12,7 @@ ghost use Rattle.mufom_explain.specs.Lines.{copy_line, place_text, section_line}
 use crate::modules::{FlatModule, module_line};
 use mufom_module::Parts;
 use mufom_names::Reference;
-use mufom_numbers::Text;
-use mufom_origins::{Origin, Origins, Place, module_text};
+use mufom_origins::{ModuleFile, Origin, Origins, Place, module_text};
 use mufom_place::RegionCopy;
 use mufom_sections::Section;
 use mufom_text::{Output, counted, hex, quoted};
@@ -39,7 +38,7 @@ fn base_text<K: Output>(out: &mut K, maus: u8, base: Option<u64>)
 }
 
 // The module with a position, after a comma.
-fn origin_text<K: Output>(out: &mut K, names: &[Text], position: usize, origin: &Origin)
+fn origin_text<K: Output>(out: &mut K, names: &[ModuleFile], position: usize, origin: &Origin)
     ensures { K.takes out.old out.new (origin_text names.now position (Some origin.now)) }
 {
     out.put(b", ");
@@ -47,7 +46,7 @@ fn origin_text<K: Output>(out: &mut K, names: &[Text], position: usize, origin: 
 }
 
 // The module with a position, if there is one.
-fn origin_at<K: Output>(out: &mut K, names: &[Text], origins: &[Origin], position: usize)
+fn origin_at<K: Output>(out: &mut K, names: &[ModuleFile], origins: &[Origin], position: usize)
     ensures { K.takes out.old out.new (origin_text names.now position (slice_get origins.now position)) }
 {
     match origins.get(position) {
@@ -57,7 +56,7 @@ fn origin_at<K: Output>(out: &mut K, names: &[Text], origins: &[Origin], positio
 }
 
 // The module of a place, if there is a place.
-fn place_text<K: Output>(out: &mut K, names: &[Text], origins: &Origins, place: Option<Place>)
+fn place_text<K: Output>(out: &mut K, names: &[ModuleFile], origins: &Origins, place: Option<Place>)
     ensures { K.takes out.old out.new (place_text names.now origins.now (option_map (λ p. p.«module») place)) }
 {
     match place {
@@ -82,7 +81,7 @@ fn described<K: Output>(out: &mut K, word: &[u8], number: u32, section: &Section
 pub(crate) fn section_line<K: Output>(
     out: &mut K,
     maus: u8,
-    names: &[Text],
+    names: &[ModuleFile],
     origins: &Origins,
     number: u32,
     section: &Section,
@@ -124,7 +123,12 @@ fn asks_for(name: &[u8], parts: &Parts) -> bool
 }
 
 // The line of a module that requests space.
-fn indented_line<K: Output>(out: &mut K, names: &[Text], position: usize, module: &FlatModule<'_>)
+fn indented_line<K: Output>(
+    out: &mut K,
+    names: &[ModuleFile],
+    position: usize,
+    module: &FlatModule<'_>,
+)
     ensures { K.takes out.old out.new (codes "  " ++ module_line names.now position (file_module «module».now)) }
 {
     out.put(b"  ");
@@ -134,7 +138,7 @@ fn indented_line<K: Output>(out: &mut K, names: &[Text], position: usize, module
 // The line of a module, if it requests space for the name.
 fn asking_line<K: Output>(
     out: &mut K,
-    names: &[Text],
+    names: &[ModuleFile],
     name: &[u8],
     position: usize,
     module: &FlatModule<'_>,
@@ -148,7 +152,7 @@ fn asking_line<K: Output>(
 }
 
 // The lines of the modules that request space for the name.
-fn asking_lines<K: Output>(out: &mut K, names: &[Text], flat: &[FlatModule<'_>], name: &[u8])
+fn asking_lines<K: Output>(out: &mut K, names: &[ModuleFile], flat: &[FlatModule<'_>], name: &[u8])
     ensures { K.takes out.old out.new (each (asking_line names.now name.now) (flat_of flat.now)) }
 {
     for position in 0..flat.len() {
@@ -159,7 +163,7 @@ fn asking_lines<K: Output>(out: &mut K, names: &[Text], flat: &[FlatModule<'_>],
 /// Puts the line of a common with its number, and those of the modules that request space for its name.
 pub(crate) fn common_lines<K: Output>(
     out: &mut K,
-    names: &[Text],
+    names: &[ModuleFile],
     flat: &[FlatModule<'_>],
     number: u32,
     section: &Section,

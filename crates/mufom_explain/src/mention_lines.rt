@@ -13,7 +13,7 @@ use crate::modules::{FlatModule, module_line};
 use crate::wanted::Wanted;
 use mufom_module::Parts;
 use mufom_names::{Public, Reference};
-use mufom_numbers::Text;
+use mufom_origins::ModuleFile;
 use mufom_text::{Output, counted, quoted};
 
 // The text about a mention, after the name.
@@ -78,7 +78,7 @@ fn has_reference(wanted: &Wanted<'_>, references: &[Reference]) -> bool
 // The line of a module, if it mentions one of the names.
 fn named_line<K: Output>(
     out: &mut K,
-    names: &[Text],
+    names: &[ModuleFile],
     wanted: &Wanted<'_>,
     position: usize,
     module: &FlatModule<'_>,
@@ -103,7 +103,7 @@ impl<'a> Mentions<'a> {
     }
 
     // The lines of the modules that mention one of the names.
-    fn module_lines<K: Output>(&self, out: &mut K, names: &[Text])
+    fn module_lines<K: Output>(&self, out: &mut K, names: &[ModuleFile])
         ensures { K.takes out.old out.new (each (named_line names.now (wanted_names self.now.wanted)) (flat_of self.now.flat.now)) }
     {
         for position in 0..self.flat.len() {
@@ -112,7 +112,7 @@ impl<'a> Mentions<'a> {
     }
 
     /// Puts the lines of the mentions, and those of the modules that contain them.
-    pub(crate) fn put<K: Output>(&self, out: &mut K, names: &[Text])
+    pub(crate) fn put<K: Output>(&self, out: &mut K, names: &[ModuleFile])
         ensures { K.takes out.old out.new (mention_text names.now (flat_of self.now.flat.now) (wanted_names self.now.wanted)) }
     {
         self.all_lines(out);

@@ -5,8 +5,7 @@ ghost use Rattle.mufom_explain.specs.Flat.{file_module};
 ghost use Rattle.mufom_explain.specs.Lines.{module_line};
 
 use mufom_module::Parts;
-use mufom_numbers::Text;
-use mufom_origins::module_text;
+use mufom_origins::{ModuleFile, module_text};
 use mufom_text::Output;
 
 /// A module of a flat list, with the number of the file that it was read from.
@@ -19,7 +18,7 @@ pub struct FlatModule<'a> {
 /// The line of a module.
 pub(crate) fn module_line<K: Output>(
     out: &mut K,
-    names: &[Text],
+    names: &[ModuleFile],
     position: usize,
     module: &FlatModule<'_>,
 )

@@ -9,7 +9,8 @@ use crate::details::NameDetails;
 use crate::finding::find_mentions;
 use crate::modules::FlatModule;
 use crate::naming::one_name;
-use mufom_numbers::{NoMemory, Text};
+use mufom_numbers::NoMemory;
+use mufom_origins::ModuleFile;
 use mufom_text::{Lines, Output};
 use std::alloc::Global;
 
@@ -24,12 +25,12 @@ impl<'a> Lines for NameDetails<'a> {
 }
 
 /// Returns the lines that follow the error line of a name that should be kept and that no module of the flat
-/// list defines: the modules that refer to it. `names` are the names of the files, as they were given. The
+/// list defines: the modules that refer to it. `names` are the files of all modules that were read. The
 /// time is proportional to the number of names in the modules, and the memory to the number of mentions. The
 /// only error is out of memory.
 pub fn explain_name<'a>(
     alloc: Global,
-    names: &'a [Text],
+    names: &'a [ModuleFile],
     flat: &'a [FlatModule<'a>],
     name: &'a [u8],
 ) -> Result<NameDetails<'a>, NoMemory>

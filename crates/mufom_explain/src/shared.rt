@@ -9,7 +9,8 @@ ghost use Rattle.mufom_explain.specs.Flat.{flat_of};
 use crate::details::SharedDetails;
 use crate::modules::FlatModule;
 use crate::named::explain_name;
-use mufom_numbers::{NoMemory, Text};
+use mufom_numbers::NoMemory;
+use mufom_origins::ModuleFile;
 use mufom_plan::{Plan, PlanSymbol};
 use mufom_text::{Lines, Output, counted, quoted};
 use std::alloc::Global;
@@ -61,11 +62,11 @@ fn symbol_named(symbols: &[PlanSymbol], name: &[u8]) -> Option<usize>
 
 /// Returns the lines that follow the error line of a name that a symbol of the plan shares with a public of the
 /// modules that are located: the symbol, and the modules of the flat list that mention the name. `names` are the
-/// names of the files, as they were given. The time is proportional to the number of names in the modules and in
+/// files of all modules that were read. The time is proportional to the number of names in the modules and in
 /// the plan, and the memory to the number of mentions. The only error is out of memory.
 pub fn explain_shared<'a>(
     alloc: Global,
-    names: &'a [Text],
+    names: &'a [ModuleFile],
     flat: &'a [FlatModule<'a>],
     plan: &Plan,
     name: &'a [u8],

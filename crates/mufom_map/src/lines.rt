@@ -11,22 +11,21 @@ ghost use Rattle.mufom_map.specs.Shown.{base_of};
 
 use crate::room::base_of;
 use mufom_meaning::PublicValue;
-use mufom_numbers::Text;
-use mufom_origins::{Origin, module_text};
+use mufom_origins::{ModuleFile, Origin, module_text};
 use mufom_sections::Section;
 use mufom_text::{Output, counted, hex, quoted};
 
 // ---- modules
 
-fn module_line<K: Output>(out: &mut K, names: &[Text], position: usize, origin: &Origin)
+fn module_line<K: Output>(out: &mut K, names: &[ModuleFile], position: usize, origin: &Origin)
     ensures { K.takes out.old out.new (module_line names.now position origin.now) }
 {
     module_text(out, names, position, origin.file, &origin.name);
     out.put(b"\n");
 }
 
-/// The lines of modules. `names` are the names of all files.
-pub(crate) fn module_lines<K: Output>(out: &mut K, names: &[Text], origins: &[Origin])
+/// The lines of modules. `names` are the files of all modules that were read.
+pub(crate) fn module_lines<K: Output>(out: &mut K, names: &[ModuleFile], origins: &[Origin])
     ensures { K.takes out.old out.new (each (module_line names.now) origins.now) }
 {
     for position in 0..origins.len() {

@@ -18,8 +18,7 @@ use mufom_host::Host;
 use mufom_located::Located;
 use mufom_meaning::Run;
 use mufom_module::Module;
-use mufom_numbers::Text;
-use mufom_origins::Origins;
+use mufom_origins::{ModuleFile, Origins};
 use mufom_place::RegionCopy;
 use mufom_plan::Plan;
 use mufom_sections::Section;
@@ -84,10 +83,10 @@ impl<'a> Map<'a> {
     }
 }
 
-/// A map of which the whole text is printed, with the names of all files.
+/// A map of which the whole text is printed, with the files of all modules that were read.
 #[derive(Drop)]
 struct WholeMap<'a> {
-    names: &'a [Text],
+    names: &'a [ModuleFile],
     map: Map<'a>,
 }
 
@@ -112,7 +111,7 @@ impl<'a> Lines for WholeMap<'a> {
 
 /// Prints the map of the location of a module by a plan, in chunks of about 65,536 bytes, the last of which
 /// may be shorter. The module is the link of those that the origins list, or what is kept of it. `names` are
-/// the names of all files, as they were given, and `copies` the copies of regions that the plan places.
+/// the files of all modules that were read, and `copies` the copies of regions that the plan places.
 ///
 /// No section name occurs twice in the plan, and it has fewer than 2^32 regions, as
 /// [`read_plan`](mufom_plan::read_plan) returns it. `NoMemory` is returned before anything is printed.
@@ -121,7 +120,7 @@ impl<'a> Lines for WholeMap<'a> {
 pub fn print_map<H: Host>(
     alloc: Global,
     host: &mut H,
-    names: &[Text],
+    names: &[ModuleFile],
     origins: &Origins,
     object: &Module,
     plan: &Plan,
