@@ -26,7 +26,7 @@ ready_output (ready.Raw out fill r) = made out.now (raw_image fill r.runs)
 ready_output (ready.Range out fill from count r) = made out.now (range_image fill from count r.runs)
 ready_output (ready.TiTxt out r) = made out.now (txt_text r.runs)
 ready_output (ready.Image r) = printed (image_text r)
-ready_output (ready.Map names at m) = printed (view_text names.now at (shown_of m))
+ready_output (ready.Map names at m) = printed (view_text names at (shown_of m))
 
 -- there is one module whose text is printed, and a map is of a module that is located
 abbrev pub IsReady : Ready → Type 0

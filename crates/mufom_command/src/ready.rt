@@ -30,6 +30,7 @@ use mufom_map::{print_address, print_map};
 use mufom_module::{Module, a_module_is_valid};
 use mufom_numbers::limits::MOST_FILE_BYTES;
 use mufom_numbers::{Bytes, List, NoMemory, Text};
+use mufom_origins::ModuleFile;
 use mufom_outcome::{BinRefusal, Outcome, Refusal};
 use mufom_plan::Region;
 use mufom_task::Product;
@@ -76,9 +77,10 @@ pub(crate) enum Ready<'a> {
     },
     /// The text of an image.
     Image(Located),
-    /// The text of a map, or the lines of one address of it. `names` are the names of all files.
+    /// The text of a map, or the lines of one address of it. `names` are the files of all modules that were
+    /// read.
     Map {
-        names: &'a [Text],
+        names: List<ModuleFile>,
         at: Option<u64>,
         location: Location,
     },
@@ -176,18 +178,18 @@ fn region_file<'a>(
 
 /// What is made of a location, complete up to the calls that print or write it; or the outcome of the run, if
 /// there is no region with the name that is given, if there are too many bytes, or if memory runs out. `names`
-/// are the names of all files.
+/// are the files of all modules that were read; only a map shows them.
 pub(crate) fn ready_of<'a>(
     alloc: Global,
     product: &'a Product,
-    names: &'a [Text],
+    names: List<ModuleFile>,
     location: Location,
 ) -> Result<Ready<'a>, Outcome>
     requires located { AreLocated location }
     requires light { weight (absolute_of location.located) < 2 ^ 32 }
-    ensures ok { IfOk result (λ ready. product_of product.now names.now (shown_of location) location.located (gives (ready_output ready))) }
+    ensures ok { IfOk result (λ ready. product_of product.now names (shown_of location) location.located (gives (ready_output ready))) }
     ensures ready { IfOk result IsReady }
-    ensures stops { IfErr result (EndsAt (product_of product.now names.now (shown_of location) location.located)) }
+    ensures stops { IfErr result (EndsAt (product_of product.now names (shown_of location) location.located)) }
 {
     match product {
         Product::Absolute { out } => absolute_file(alloc, out, location.located),
@@ -252,7 +254,7 @@ fn print_located<H: Host>(alloc: Global, located: &Located, host: &mut H) -> Out
 // Prints the whole map of a location.
 fn print_whole_map<H: Host>(
     alloc: Global,
-    names: &[Text],
+    names: &[ModuleFile],
     location: &Location,
     host: &mut H,
 ) -> Outcome
@@ -319,7 +321,7 @@ fn print_spot<H: Host>(alloc: Global, address: u64, location: &Location, host: &
 // Prints the map of a location, or the lines of one address of it.
 fn print_mapped<H: Host>(
     alloc: Global,
-    names: &[Text],
+    names: &[ModuleFile],
     at: Option<u64>,
     location: &Location,
     host: &mut H,
@@ -389,6 +391,6 @@ pub(crate) fn put_out<H: Host>(alloc: Global, ready: &Ready<'_>, host: &mut H) -
             names,
             at,
             location,
-        } => print_mapped(alloc, names, *at, location, host),
+        } => print_mapped(alloc, names.as_slice(), *at, location, host),
     }
 }
