@@ -16,8 +16,8 @@ pub struct Members {
     pub modules: List<Module>,
     /// The length of the file in bytes.
     pub length: u64,
-    // The listing of an archive, with the entries of the modules alone. None if the file is not an archive.
-    pub(crate) listing: Option<Listing>,
+    /// The listing of an archive, with the entries of the modules alone. None if the file is not an archive.
+    pub listing: Option<Listing>,
 }
 
 impl Members {
