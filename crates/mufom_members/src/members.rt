@@ -20,15 +20,23 @@ pub struct Members {
     pub listing: Option<Listing>,
 }
 
+/// The name of the module at this position of a file, without the path of the file, given the listing of the
+/// file's modules. `None` if the file is not an archive, or if it has no such module. Does not allocate.
+pub fn name_at(listing: &Option<Listing>, position: usize) -> Option<&[u8]>
+    ensures { option_map (λ name. name.now) result ≡ name_at listing.now position }
+{
+    let listing = listing.as_ref()?;
+    let entry = listing.entries.get(position)?;
+    listing.name(entry)
+}
+
 impl Members {
     /// The name of the module at this position in the archive, without its path. `None` if the file is not an
     /// archive, or if it has no such module. Does not allocate.
     pub fn name(&self, position: usize) -> Option<&[u8]>
         ensures { option_map (λ name. name.now) result ≡ name_at self.now.listing position }
     {
-        let listing = self.listing.as_ref()?;
-        let entry = listing.entries.get(position)?;
-        listing.name(entry)
+        name_at(&self.listing, position)
     }
 }
 
