@@ -46,13 +46,14 @@ never-prefix bytes names ms (bad_archive offset) same =
 members-within : (options : ReadOptions) (limit other : ℕ) (bytes : List ℕ) (names : Option (List (List ℕ))) (ms : List Parts)
     → IsVerdict options limit bytes (accepted names ms) → length bytes ≤ other → IsVerdict options other bytes (accepted names ms)
 members-within options limit other bytes names ms (inl (begins, inl is)) fits = inl (begins, inl (fits, is.1))
-members-within options limit other bytes names ms (inl (begins, inr is)) fits = absurd (never-prefix (take limit bytes) names ms is.1.0 is.1.1.1)
+members-within options limit other bytes names ms (inl (begins, inr (many, first, whole, same))) fits =
+    absurd (never-prefix (take limit bytes) names ms first same)
 members-within options limit other bytes names ms (inr is) fits = inr (is.0, plain-within options limit other bytes names ms is.1 fits)
 
 members-fits : (options : ReadOptions) (limit : ℕ) (bytes : List ℕ) (names : Option (List (List ℕ))) (ms : List Parts)
     → IsVerdict options limit bytes (accepted names ms) → length bytes ≤ limit
 members-fits options limit bytes names ms (inl (begins, inl is)) = is.0
-members-fits options limit bytes names ms (inl (begins, inr is)) = absurd (never-prefix (take limit bytes) names ms is.1.0 is.1.1.1)
+members-fits options limit bytes names ms (inl (begins, inr (many, first, whole, same))) = absurd (never-prefix (take limit bytes) names ms first same)
 members-fits options limit bytes names ms (inr is) = plain-fits options limit bytes names ms is.1
 
 pub verdict-within : (options : ReadOptions) (root : Bool) (limit other : ℕ) (bytes : List ℕ) (names : Option (List (List ℕ))) (ms : List Parts)

@@ -84,21 +84,21 @@ have-length files names contents have = sym (length-map (λ name. file_named nam
     ∙ ap (λ (l : List (Option (List ℕ))). length l) have ∙ length-map (λ bytes. Some bytes) contents
 
 -- the files of the modules of one file among others
-abbrev pub own_files : List NamedFile → (roots number : ℕ) → List ℕ → List ModuleFile
-own_files files roots number name = files_of_one number name (members_if (nat_lt number roots) (unwrap_or (file_named name files) []))
+abbrev pub file_own : List NamedFile → (roots number : ℕ) → List ℕ → List ModuleFile
+file_own files roots number name = files_of_one number name (members_if (nat_lt number roots) (unwrap_or (file_named name files) []))
 
 pub files-more : (files : List NamedFile) (roots number : ℕ) (names : List (List ℕ)) (name : List ℕ)
-    → files_from files roots number (names ++ name ∷ []) ≡ files_from files roots number names ++ own_files files roots (number + length names) name
+    → files_from files roots number (names ++ name ∷ []) ≡ files_from files roots number names ++ file_own files roots (number + length names) name
 files-more files roots number [] name =
-    append-nil (own_files files roots number name)
-    ∙ ap (λ (n : ℕ). own_files files roots n name) (let same : number ≡ number + 0 = omega arith in same)
+    append-nil (file_own files roots number name)
+    ∙ ap (λ (n : ℕ). file_own files roots n name) (let same : number ≡ number + 0 = omega arith in same)
 files-more files roots number (first ∷ names) name =
     let next : suc number + length names ≡ number + suc (length names) = omega arith in
-    ap (λ (l : List ModuleFile). own_files files roots number first ++ l)
+    ap (λ (l : List ModuleFile). file_own files roots number first ++ l)
     (files-more files roots (suc number) names name
-    ∙ ap (λ (n : ℕ). files_from files roots (suc number) names ++ own_files files roots n name) next)
-    ∙ sym (append_assoc (own_files files roots number first) (files_from files roots (suc number) names)
-    (own_files files roots (number + suc (length names)) name))
+    ∙ ap (λ (n : ℕ). files_from files roots (suc number) names ++ file_own files roots n name) next)
+    ∙ sym (append_assoc (file_own files roots number first) (files_from files roots (suc number) names)
+    (file_own files roots (number + suc (length names)) name))
 
 module _ (options : ReadOptions) (roots : ℕ) where
   sum-more : (contents : List (List ℕ)) (bytes : List ℕ) → sum_by length (contents ++ bytes ∷ []) ≡ sum_by length contents + length bytes
@@ -187,7 +187,7 @@ module _ (options : ReadOptions) (roots : ℕ) where
 
   own-files : (fs : List NamedFile) (name bytes : List ℕ) (number : ℕ) (read : Members) (own : List ModuleFile) (names : Option (List (List ℕ)))
       → AreFilesOf number name read own → file_named name fs ≡ Some bytes → AreNames read.listing names
-      → IsFileVerdict options (nat_lt number roots) (length bytes) bytes (verdict_accepted names read.modules) → own ≡ own_files fs roots number name
+      → IsFileVerdict options (nat_lt number roots) (length bytes) bytes (verdict_accepted names read.modules) → own ≡ file_own fs roots number name
   own-files fs name bytes number read own names are there named is =
       are names named (are-as-many options (nat_lt number roots) (length bytes) bytes names read.modules is)
       ∙ ap (λ (o : Option (List (List ℕ))). files_of_one number name o)
@@ -210,7 +210,7 @@ module _ (options : ReadOptions) (roots : ℕ) where
             (subst (λ (n : ℕ). length bytes ≤ n) so_far.left fits));
         left = (let left = so_far.left in (λ i. left i - size i)) ∙ sym (room-more options roots contents bytes);
         files = (let before = so_far.files in let its = own-files fs name bytes number read own names are there named has in (λ i. before i ++ its i))
-            ∙ ap (λ (n : ℕ). files_from fs roots 0 prefix ++ own_files fs roots n name) (let same : number ≡ 0 + length prefix = omega (arith, place) in same)
+            ∙ ap (λ (n : ℕ). files_from fs roots 0 prefix ++ file_own fs roots n name) (let same : number ≡ 0 + length prefix = omega (arith, place) in same)
             ∙ sym (files-more fs roots 0 prefix name) ∙ ap (λ (l : List (List ℕ)). files_from fs roots 0 l) (sym is);
       }
 

@@ -224,7 +224,7 @@ module _ (c : Inputs) (old mid : Meaning) (before between : Faults) (only : Only
         → IfSome files (λ fs. modules_in fs c (stops (too_many_modules n)))
     too-many n many files them =
         known-map (λ fs. (ms : List Parts) × ComeTo c.options (root_count c) fs c.files (accepted ms) × (n ≡ length ms))
-        (λ fs. modules_in fs c (stops (too_many_modules n))) files (λ fs is. (is.0, is.1.0, is.1.1, many)) them
+        (λ fs. modules_in fs c (stops (too_many_modules n))) files (λ fs is. (is.0, is.1, is.2, many)) them
 
     pub files-stops : (stop : Outcome) → FilesStop c.options (root_count c) c.files (call_between mid new between now) stop
         → OpensFiles c.files (call_between mid new between now) stop

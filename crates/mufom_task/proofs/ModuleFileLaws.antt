@@ -1,11 +1,9 @@
--- One file that was read: its modules, the files of these, and why there are none.
-use Rattle.std.proofs.Common.{◌≡◌, ℕ, zero, suc, ◌+◌, ◌<◌, ◌≤◌, true, false, List, [], ◌∷◌, ◌++◌, length, take, slice_get}
-use Rattle.std.proofs.Common.{Option, Some, None, IfSome, Ok, Err, refl, sym, ap, subst, ◌∙◌, inl, inr, arith}
-use Rattle.std.proofs.lemmas.List.{length-map, take_all}
+-- One file that was read: its modules, or why there are none.
+use Rattle.std.proofs.Common.{◌≡◌, ℕ, ◌≤◌, true, false, List, [], ◌∷◌, length}
+use Rattle.std.proofs.Common.{Option, Some, None, IfSome, Ok, Err, refl, sym, subst, inl, inr, arith}
 use Rattle.mufom_records.specs.declared.options.ReadOptions.{ReadOptions}
 use Rattle.mufom_host.specs.World.{Faults, NamedFile, Rose, file_named}
 use Rattle.mufom_module.specs.declared.module.Parts.{Parts}
-use Rattle.mufom_archive.specs.declared.listing.Listing.{Listing}
 use Rattle.mufom_numbers.specs.declared.reason.Reason.TheVariants as why
 use Rattle.mufom_read.specs.declared.source.SourceStop.{SourceStop}
 use Rattle.mufom_read.specs.declared.source.SourceStop.TheVariants as source
@@ -15,8 +13,6 @@ use Rattle.mufom_members.specs.declared.members.Members.{Members}
 use Rattle.mufom_members.specs.declared.members.MembersStop.{MembersStop}
 use Rattle.mufom_members.specs.declared.members.MembersStop.TheVariants as members_stop
 use Rattle.mufom_members.specs.Contents.{ReadsFile, ReadsMembers}
-use Rattle.mufom_members.specs.Files.{IsVerdict, accepted}
-use Rattle.mufom_members.specs.Names.{AreNames, name_at}
 use Rattle.mufom_task.specs.Inputs.{IsFilePast, IsFileRefused}
 use Rattle.mufom_task.specs.FilesRead.{FileHas, FileStops, HasFile, outcome_of_members_stop, outcome_of_source_stop}
 use Rattle.mufom_task.proofs.FileLaws.{verdict-fits, verdict-within}
@@ -42,7 +38,7 @@ module _ (options : ReadOptions) (name : List ℕ) (number limit : ℕ) (files :
       (file-left name (λ bytes. IsModule options bytes m × (count ≡ length bytes) × (length bytes ≤ limit) × (after ≡ Some []))
       (HasFile options true limit (record { modules = m ∷ []; length = count; listing = None })) files left opened reads (λ bytes h. (
         None,
-        ((h.0, (let own : length bytes ≤ length bytes = omega arith in own)), ((λ position. refl), (h.1.0, h.1.1.0))),
+        ((h.0, (let own : length bytes ≤ length bytes = omega arith in own)), (refl, (h.1, h.2))),
       )))
 
   pub root-stops : (before between now : Faults) (s : SourceStop) → ReadsModule options limit left after (Err s)
@@ -68,8 +64,8 @@ module _ (options : ReadOptions) (name : List ℕ) (number limit : ℕ) (files :
       (λ bytes h. (
         h.0.0,
         (
-          verdict-within options false limit (length bytes) bytes h.0.0 read.modules h.0.1.0 (let own : length bytes ≤ length bytes = omega arith in own),
-          (h.0.1.1, (h.1.0, verdict-fits options false limit bytes h.0.0 read.modules h.0.1.0)),
+          verdict-within options false limit (length bytes) bytes h.0.0 read.modules h.0.1 (let own : length bytes ≤ length bytes = omega arith in own),
+          (h.0.2, (h.1.0, verdict-fits options false limit bytes h.0.0 read.modules h.0.1)),
         ),
       ))
 

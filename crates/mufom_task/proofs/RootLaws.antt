@@ -19,8 +19,7 @@ use Rattle.mufom_task.specs.declared.task.Inputs.{Inputs}
 use Rattle.mufom_task.specs.Inputs.{AreModules, ComeTo, HasModules, HaveBytes, accepted, files_from, files_of_one, members_if, module_files}
 use Rattle.mufom_task.specs.Inputs.{root_count}
 use Rattle.mufom_task.proofs.InputLaws.{lt-same}
-use Rattle.mufom_task.proofs.NameLaws.{are-as-many, names-are}
-use Rattle.mufom_task.proofs.ModuleFileLaws.{files-many}
+use Rattle.mufom_task.proofs.NameLaws.{are-as-many, files-many, names-are}
 
 -- each of these contents is the file of the module at its position
 abbrev pub AreEach : ReadOptions → List (List ℕ) → List Parts → Type 0
@@ -76,9 +75,9 @@ roots-only options roots [] ms few are = subst (λ (l : List Parts). AreEach opt
 roots-only options roots (bytes ∷ contents) ms few (own, later, same, is, rest) =
     let root : nat_lt 0 roots ≡ true = lt-ltb 0 roots (omega (arith, few)) in
     let one = root-module options bytes own (subst (λ (b : Bool). HasModules options b bytes own) root is) in
-    let all : ms ≡ one.0 ∷ later = same ∙ ap (λ (l : List Parts). l ++ later) one.1.0 in
+    let all : ms ≡ one.0 ∷ later = same ∙ ap (λ (l : List Parts). l ++ later) one.1 in
     subst (λ (l : List Parts). AreEach options (bytes ∷ contents) l) (sym all)
-    (one.1.1, roots-only options (roots - 1) contents later (omega (arith, few)) rest)
+    (one.2, roots-only options (roots - 1) contents later (omega (arith, few)) rest)
 
 pub each-modules : (options : ReadOptions) (roots : ℕ) (contents : List (List ℕ)) (ms : List Parts) → AreEach options contents ms
     → AreModules options roots contents ms

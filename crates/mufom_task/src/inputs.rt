@@ -8,9 +8,9 @@ ghost use Rattle.mufom_locating.specs.Plans.{IsReadPlan};
 ghost use Rattle.mufom_groups.specs.Groups.{most_weight};
 ghost use Rattle.mufom_groups.specs.Work.{gives};
 ghost use Rattle.mufom_words.specs.Sound.{HasTree};
-ghost use Rattle.mufom_origins.specs.Words.{all_files, files_of};
+ghost use Rattle.mufom_origins.specs.Words.{all_files, own_files};
 ghost use Rattle.mufom_task.specs.FilesRead.{FilesStop, HaveCounts, OpensFiles};
-ghost use Rattle.mufom_task.specs.Inputs.{ComeTo, HaveRoots, accepted, files_from, module_files};
+ghost use Rattle.mufom_task.specs.Inputs.{ComeTo, HaveRoots, accepted, files_from, module_files, root_count};
 ghost use Rattle.mufom_task.specs.InputsRead.{inputs_in, InputsStop, KeepsPlan, NamesPlan};
 ghost use Rattle.mufom_task.specs.Calls.{call_of, OpensInputs};
 ghost use Rattle.mufom_task.specs.Tasks.{input_names};
@@ -48,6 +48,7 @@ fn add_modules(all: &mut List<Module>, own: List<Module>) -> Result<(), NoMemory
 
 // Moves the modules of a file to the end of a list, and adds their file.
 fn add_file(
+    alloc: Global,
     modules: &mut List<Module>,
     files: &mut ModuleFiles,
     number: u32,
@@ -55,10 +56,11 @@ fn add_file(
     read: Members,
 ) -> Result<(), NoMemory>
     ensures modules { OnOk result (modules.new ≡ modules.old ++ read.modules) }
-    ensures files { OnOk result (all_files files.new ≡ all_files files.old ++ files_of number name.now read.listing (length read.modules)) }
+    ensures files { OnOk result (all_files files.new ≡ all_files files.old
+        ++ own_files (record { number = number; name = name.now; listing = read.listing; modules = length read.modules })) }
     ensures valid { OnOk result (AreValid read.modules) }
 {
-    files.add(number, name, read.listing, read.modules.len())?;
+    files.add(alloc, number, name, read.listing, read.modules.len())?;
     add_modules(modules, read.modules)
 }
 
@@ -94,7 +96,7 @@ fn read_files<H: Host>(
             Err(stop) => return Err(stop),
         };
         room = room.saturating_sub(read.length);
-        match add_file(&mut modules, &mut files, number as u32, name, read) {
+        match add_file(alloc, &mut modules, &mut files, number as u32, name, read) {
             Ok(()) => {}
             Err(NoMemory) => return Err(Outcome::NoMemory),
         }
@@ -102,36 +104,46 @@ fn read_files<H: Host>(
     Ok((modules, files))
 }
 
-// Reads the modules of files, as `read_files` does, and refuses more of them than a run may have.
+// The number of roots among the files of a task.
+fn roots_of(inputs: &Inputs) -> usize
+    requires tree { HasTree inputs.now.marks (length inputs.now.files) }
+    ensures { result ≡ root_count inputs.now }
+{
+    file_count(inputs.marks.as_slice())
+}
+
+// Reads the modules of the files of a task, and refuses more of them than a run may have.
 fn read_few<H: Host>(
     alloc: Global,
-    names: &[Text],
-    roots: usize,
-    options: ReadOptions,
+    inputs: &Inputs,
     host: &mut H,
 ) -> Result<(List<Module>, ModuleFiles), Outcome>
-    requires few { length names.now < 2 ^ 32 }
+    requires few { length inputs.now.files < 2 ^ 32 }
+    requires tree { HasTree inputs.now.marks (length inputs.now.files) }
     ensures read { IfOk result (λ read. IfSome (H.meaning host.old).files
-        (λ files. ComeTo options roots files names.now (accepted read.0))) }
-    ensures files { IfOk result (λ read. IfSome (H.meaning host.old).files (λ files. all_files read.1 ≡ files_from files roots 0 names.now)) }
-    ensures count { IfOk result (λ read. HaveCounts roots (length names.now) (length read.0)) }
+        (λ files. ComeTo inputs.now.options (root_count inputs.now) files inputs.now.files (accepted read.0))) }
+    ensures files { IfOk result (λ read. IfSome (H.meaning host.old).files (λ files. all_files read.1 ≡ module_files files inputs.now)) }
+    ensures count { IfOk result (λ read. HaveRoots inputs.now read.0) }
     ensures few { IfOk result (λ read. length read.0 ≤ MOST_MODULES) }
-    ensures all { IfOk result (λ read. GrowsBy (H.meaning host.old).opened (H.meaning host.new).opened names.now) }
+    ensures all { IfOk result (λ read. GrowsBy (H.meaning host.old).opened (H.meaning host.new).opened inputs.now.files) }
     ensures valid { IfOk result (λ read. AreValid read.0) }
     ensures light { IfOk result (λ read. total_weight read.0 ≤ most_weight) }
-    ensures stops { IfErr result (λ stop. FilesStop options roots names.now (call_of H.meaning H.faults host.old host.new) stop) }
-    ensures opened { IfErr result (λ stop. OpensFiles names.now (call_of H.meaning H.faults host.old host.new) stop) }
+    ensures stops { IfErr result (λ stop. FilesStop inputs.now.options (root_count inputs.now) inputs.now.files
+        (call_of H.meaning H.faults host.old host.new) stop) }
+    ensures opened { IfErr result (λ stop. OpensFiles inputs.now.files (call_of H.meaning H.faults host.old host.new) stop) }
     ensures only { OnlyOpens (H.meaning host.old) (H.meaning host.new) (H.faults host.old) (H.faults host.new) }
 {
-    let read = match read_files(alloc, names, roots, options, host) {
+    let roots = roots_of(inputs);
+    let names = inputs.files.as_slice();
+    let (modules, files) = match read_files(alloc, names, roots, inputs.options, host) {
         Ok(read) => read,
         Err(stop) => return Err(stop),
     };
-    let count = read.0.len() as u64;
+    let count = modules.len() as u64;
     if count > MOST_MODULES as u64 {
         return Err(Outcome::Refused(Refusal::TooManyModules(count)));
     }
-    Ok(read)
+    Ok((modules, files))
 }
 
 /// What was read of the inputs of a task.
@@ -174,8 +186,7 @@ pub fn read_or_unread<H: Host>(
         Ok(plan) => plan,
         Err(unread) => return Err(unread),
     };
-    let roots = file_count(inputs.marks.as_slice());
-    match read_few(alloc, inputs.files.as_slice(), roots, inputs.options, host) {
+    match read_few(alloc, inputs, host) {
         Ok((modules, files)) => Ok(Loaded {
             plan,
             modules,
