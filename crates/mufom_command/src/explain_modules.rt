@@ -13,6 +13,7 @@ ghost use Rattle.mufom_names.specs.Names.{names_of, AreDistinct};
 ghost use Rattle.mufom_module.specs.Written.{weight};
 ghost use Rattle.mufom_plan.specs.declared.plan.Plan.{Plan as Planned};
 ghost use Rattle.mufom_origins.specs.declared.origins.Origin.{Origin};
+ghost use Rattle.mufom_origins.specs.Words.{all_files};
 ghost use Rattle.mufom_meaning.specs.Absolute.{absolute_of};
 ghost use Rattle.mufom_meaning.specs.Facts.{LinkFact};
 ghost use Rattle.mufom_explain.specs.Flat.{flat_of};
@@ -51,7 +52,7 @@ use mufom_link::LinkRefusal;
 use mufom_locating::{PlannedRefusal, with_plan_symbols};
 use mufom_module::Module;
 use mufom_numbers::{Bytes, List, NoMemory, Text};
-use mufom_origins::ModuleFile;
+use mufom_origins::ModuleFiles;
 use mufom_outcome::{Cause, Outcome};
 use mufom_plan::Plan;
 use mufom_prune::PruneRefusal;
@@ -80,7 +81,7 @@ fn explain_refused<H: Host>(
     alloc: Global,
     words: &[String],
     inputs: &Inputs,
-    names: &[ModuleFile],
+    names: &ModuleFiles,
     modules: &[Module],
     refusal: &LinkRefusal,
     host: &mut H,
@@ -88,7 +89,7 @@ fn explain_refused<H: Host>(
     requires linkable { AreLinkable inputs.now modules.now }
     requires memory { refusal.now ≢ LinkRefusal.NoMemory }
     ensures { (files : option (list NamedFile)) (plan : Planned) (task : Tasks) (name : option (list ℕ))
-        → AreReadFrom files inputs.now names.now plan modules.now → LinksLists task inputs.now name
+        → AreReadFrom files inputs.now (all_files names.now) plan modules.now → LinksLists task inputs.now name
         → StopsWork (linked_module (tree_of inputs.now.marks) name modules.now) refusal.now
         → Tells (map (λ word. string_bytes word) words.now) task files (call_of H.meaning H.faults host.old host.new) result }
 {
@@ -112,14 +113,14 @@ fn explain_unlinked<H: Host>(
     alloc: Global,
     words: &[String],
     inputs: &Inputs,
-    names: &[ModuleFile],
+    names: &ModuleFiles,
     modules: &[Module],
     refusal: &LinkRefusal,
     host: &mut H,
 ) -> Outcome
     requires linkable { AreLinkable inputs.now modules.now }
     ensures { (files : option (list NamedFile)) (plan : Planned) (task : Tasks) (name : option (list ℕ))
-        → AreReadFrom files inputs.now names.now plan modules.now → LinksLists task inputs.now name
+        → AreReadFrom files inputs.now (all_files names.now) plan modules.now → LinksLists task inputs.now name
         → StopsWork (linked_module (tree_of inputs.now.marks) name modules.now) refusal.now
         → Tells (map (λ word. string_bytes word) words.now) task files (call_of H.meaning H.faults host.old host.new) result }
 {
@@ -151,14 +152,14 @@ fn flat_list<'a>(
 fn explain_unknown<H: Host>(
     alloc: Global,
     words: &[String],
-    names: &[ModuleFile],
+    names: &ModuleFiles,
     flat: &[FlatModule<'_>],
     name: &Bytes,
     host: &mut H,
 ) -> Outcome
     requires few { length flat.now < 2 ^ 32 }
     ensures { (files : option (list NamedFile)) (inputs : Reads) (plan : Planned) (ms : list Parts) (keep : list (list ℕ)) (made : Made)
-        → AreUnkept files inputs names.now keep plan ms (flat_of flat.now) name.now
+        → AreUnkept files inputs (all_files names.now) keep plan ms (flat_of flat.now) name.now
         → Tells (map (λ word. string_bytes word) words.now) (task_variants.Locate inputs keep made) files
         (call_of H.meaning H.faults host.old host.new) result }
 {
@@ -178,14 +179,14 @@ fn explain_unknown<H: Host>(
 fn explain_unkept<H: Host>(
     alloc: Global,
     words: &[String],
-    names: &[ModuleFile],
+    names: &ModuleFiles,
     flat: &[FlatModule<'_>],
     refusal: &PruneRefusal,
     host: &mut H,
 ) -> Outcome
     requires few { length flat.now < 2 ^ 32 }
     ensures { (files : option (list NamedFile)) (inputs : Reads) (plan : Planned) (ms : list Parts) (keep : list (list ℕ)) (made : Made)
-        → AreRefusedKept files inputs names.now keep plan ms (flat_of flat.now) refusal.now
+        → AreRefusedKept files inputs (all_files names.now) keep plan ms (flat_of flat.now) refusal.now
         → Tells (map (λ word. string_bytes word) words.now) (task_variants.Locate inputs keep made) files
         (call_of H.meaning H.faults host.old host.new) result }
 {
@@ -202,7 +203,7 @@ fn explain_shared_name<H: Host>(
     alloc: Global,
     words: &[String],
     inputs: &Inputs,
-    names: &[ModuleFile],
+    names: &ModuleFiles,
     flat: &[FlatModule<'_>],
     plan: &Plan,
     name: &Bytes,
@@ -211,7 +212,7 @@ fn explain_shared_name<H: Host>(
     requires few { length flat.now < 2 ^ 32 }
     requires plan { IsReadPlan plan.now }
     ensures { (files : option (list NamedFile)) (ms : list Parts) (keep : list (list ℕ)) (made : Made) (part : Parts) (origins : list Origin)
-        → AreUnlocated files inputs.now names.now keep plan.now ms (flat_of flat.now) part origins
+        → AreUnlocated files inputs.now (all_files names.now) keep plan.now ms (flat_of flat.now) part origins
         → planned_answer (part ∷ []) plan.now ≡ Some (shared_name name.now)
         → Tells (map (λ word. string_bytes word) words.now) (task_variants.Locate inputs.now keep made) files
         (call_of H.meaning H.faults host.old host.new) result }
@@ -235,7 +236,7 @@ fn explain_shared_name<H: Host>(
 fn explain_fact<H: Host>(
     alloc: Global,
     words: &[String],
-    names: &[ModuleFile],
+    names: &ModuleFiles,
     flat: &[FlatModule<'_>],
     part: &TracedModule,
     object: &Module,
@@ -249,7 +250,7 @@ fn explain_fact<H: Host>(
     requires met { IsMet (copied_answer (object.now ∷ []) plan.now) refusal.now }
     requires memory { refusal.now ≢ LocateRefusal.NoMemory }
     ensures { (files : option (list NamedFile)) (inputs : Reads) (ms : list Parts) (keep : list (list ℕ)) (made : Made)
-        → AreUnlocated files inputs names.now keep plan.now ms (flat_of flat.now) part.now.object part.now.origins
+        → AreUnlocated files inputs (all_files names.now) keep plan.now ms (flat_of flat.now) part.now.object part.now.origins
         → IsLocatedAs part.now.object plan.now object.now
         → IsMetBy (planned_answer (part.now.object ∷ []) plan.now) (PlannedRefusal.Locate refusal.now)
         → Tells (map (λ word. string_bytes word) words.now) (task_variants.Locate inputs keep made) files
@@ -280,7 +281,7 @@ fn explain_fact<H: Host>(
 fn explain_with_symbols<H: Host>(
     alloc: Global,
     words: &[String],
-    names: &[ModuleFile],
+    names: &ModuleFiles,
     flat: &[FlatModule<'_>],
     part: &TracedModule,
     plan: &Plan,
@@ -295,7 +296,7 @@ fn explain_with_symbols<H: Host>(
     requires met { IsMetBy (planned_answer (part.now.object ∷ []) plan.now) (PlannedRefusal.Locate refusal.now) }
     requires memory { refusal.now ≢ LocateRefusal.NoMemory }
     ensures { (files : option (list NamedFile)) (inputs : Reads) (ms : list Parts) (keep : list (list ℕ)) (made : Made)
-        → AreUnlocated files inputs names.now keep plan.now ms (flat_of flat.now) part.now.object part.now.origins
+        → AreUnlocated files inputs (all_files names.now) keep plan.now ms (flat_of flat.now) part.now.object part.now.origins
         → Tells (map (λ word. string_bytes word) words.now) (task_variants.Locate inputs keep made) files
         (call_of H.meaning H.faults host.old host.new) result }
 {
@@ -311,7 +312,7 @@ fn explain_with_symbols<H: Host>(
 fn explain_planned<H: Host>(
     alloc: Global,
     words: &[String],
-    names: &[ModuleFile],
+    names: &ModuleFiles,
     flat: &[FlatModule<'_>],
     part: &TracedModule,
     plan: &Plan,
@@ -325,7 +326,7 @@ fn explain_planned<H: Host>(
     requires met { IsMetBy (planned_answer (part.now.object ∷ []) plan.now) (PlannedRefusal.Locate refusal.now) }
     requires memory { refusal.now ≢ LocateRefusal.NoMemory }
     ensures { (files : option (list NamedFile)) (inputs : Reads) (ms : list Parts) (keep : list (list ℕ)) (made : Made)
-        → AreUnlocated files inputs names.now keep plan.now ms (flat_of flat.now) part.now.object part.now.origins
+        → AreUnlocated files inputs (all_files names.now) keep plan.now ms (flat_of flat.now) part.now.object part.now.origins
         → Tells (map (λ word. string_bytes word) words.now) (task_variants.Locate inputs keep made) files
         (call_of H.meaning H.faults host.old host.new) result }
 {
@@ -343,7 +344,7 @@ fn explain_unlocated<H: Host>(
     alloc: Global,
     words: &[String],
     inputs: &Inputs,
-    names: &[ModuleFile],
+    names: &ModuleFiles,
     flat: &[FlatModule<'_>],
     part: &TracedModule,
     plan: &Plan,
@@ -356,7 +357,7 @@ fn explain_unlocated<H: Host>(
     requires plan { IsReadPlan plan.now }
     requires met { IsMetBy (planned_answer (part.now.object ∷ []) plan.now) refusal.now }
     ensures { (files : option (list NamedFile)) (ms : list Parts) (keep : list (list ℕ)) (made : Made)
-        → AreUnlocated files inputs.now names.now keep plan.now ms (flat_of flat.now) part.now.object part.now.origins
+        → AreUnlocated files inputs.now (all_files names.now) keep plan.now ms (flat_of flat.now) part.now.object part.now.origins
         → Tells (map (λ word. string_bytes word) words.now) (task_variants.Locate inputs.now keep made) files
         (call_of H.meaning H.faults host.old host.new) result }
 {
@@ -377,14 +378,14 @@ fn explain_obstacle<H: Host>(
     words: &[String],
     inputs: &Inputs,
     keep: &List<Bytes>,
-    names: &[ModuleFile],
+    names: &ModuleFiles,
     modules: &[Module],
     obstacle: &Obstacle,
     host: &mut H,
 ) -> Outcome
     requires linkable { AreLinkable inputs.now modules.now }
     requires obstacle { IsObstacle (tree_of inputs.now.marks) keep.now modules.now obstacle.now }
-    ensures { (files : option (list NamedFile)) (plan : Planned) (made : Made) → AreReadFrom files inputs.now names.now plan modules.now
+    ensures { (files : option (list NamedFile)) (plan : Planned) (made : Made) → AreReadFrom files inputs.now (all_files names.now) plan modules.now
         → HasPlan plan obstacle.now
         → Tells (map (λ word. string_bytes word) words.now) (task_variants.Locate inputs.now keep.now made) files
         (call_of H.meaning H.faults host.old host.new) result }
@@ -422,14 +423,14 @@ fn explain_product<H: Host>(
     alloc: Global,
     words: &[String],
     product: &Product,
-    names: List<ModuleFile>,
+    names: ModuleFiles,
     location: Location,
     host: &mut H,
 ) -> Outcome
     requires located { AreLocated location }
     requires light { weight (absolute_of location.located) < 2 ^ 32 }
     ensures { (files : option (list NamedFile)) (inputs : Reads) (keep : list (list ℕ)) (plan : Planned) (ms : list Parts)
-        → AreReadFrom files inputs names plan ms → AreMapped (tree_of inputs.marks) (roots_by keep plan) plan ms location
+        → AreReadFrom files inputs (all_files names) plan ms → AreMapped (tree_of inputs.marks) (roots_by keep plan) plan ms location
         → Tells (map (λ word. string_bytes word) words.now) (task_variants.Locate inputs keep product.now) files
         (call_of H.meaning H.faults host.old host.new) result }
 {
@@ -459,7 +460,7 @@ fn explain_loaded<H: Host>(
 ) -> Outcome
     requires linkable { AreLinkable inputs.now loaded.modules }
     requires plan { IsReadPlan loaded.plan }
-    ensures { (files : option (list NamedFile)) → AreReadFrom files inputs.now loaded.files loaded.plan loaded.modules
+    ensures { (files : option (list NamedFile)) → AreReadFrom files inputs.now (all_files loaded.files) loaded.plan loaded.modules
         → Tells (map (λ word. string_bytes word) words.now) (task_variants.Locate inputs.now keep.now product.now) files
         (call_of H.meaning H.faults host.old host.new) result }
 {
@@ -474,9 +475,8 @@ fn explain_loaded<H: Host>(
     match locate_modules(alloc, inputs, keep, plan, spare) {
         Ok(location) => explain_product(alloc, words, product, files, location, host),
         Err(obstacle) => {
-            let names = files.as_slice();
             let modules = modules.as_slice();
-            explain_obstacle(alloc, words, inputs, keep, names, modules, &obstacle, host)
+            explain_obstacle(alloc, words, inputs, keep, &files, modules, &obstacle, host)
         }
     }
 }
@@ -523,7 +523,7 @@ fn explain_linked<H: Host>(
 ) -> Outcome
     requires linkable { AreLinkable inputs.now loaded.now.modules }
     requires short { IfSome name.now (λ given. length given < 2 ^ 16) }
-    ensures { (files : option (list NamedFile)) → AreReadFrom files inputs.now loaded.now.files loaded.now.plan loaded.now.modules
+    ensures { (files : option (list NamedFile)) → AreReadFrom files inputs.now (all_files loaded.now.files) loaded.now.plan loaded.now.modules
         → Tells (map (λ word. string_bytes word) words.now) (task_variants.Link inputs.now name.now out.now) files
         (call_of H.meaning H.faults host.old host.new) result }
 {
@@ -534,7 +534,7 @@ fn explain_linked<H: Host>(
     match link_file(alloc, inputs, name, out, spare) {
         Ok(_) => print_done(alloc, words, Some(out), host),
         Err(refusal) => {
-            let names = loaded.files.as_slice();
+            let names = &loaded.files;
             explain_unlinked(alloc, words, inputs, names, modules, &refusal, host)
         }
     }

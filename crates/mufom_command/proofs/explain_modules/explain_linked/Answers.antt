@@ -7,7 +7,7 @@ use Rattle.mufom_command.specs.RunParts.{AreReadFrom, MakesLink}
 use Rattle.mufom_groups.specs.Groups.{StopsWork}
 use Rattle.mufom_groups.specs.Linked.{linked_module}
 use Rattle.mufom_module.specs.declared.module.Parts.{Parts}
-use Rattle.mufom_origins.specs.Words.{ModuleFiles}
+use Rattle.mufom_origins.specs.Words.{all_files}
 use Rattle.mufom_words.specs.Tree.{tree_of}
 use Rattle.mufom_outcome.specs.declared.outcome.Outcome.TheVariants as outcome
 use Rattle.mufom_task.specs.declared.task.Task.TheVariants as task
@@ -22,7 +22,7 @@ returns-in-Ok-link_file g c = λ files read.
     let tree = tree_of inputs.marks in
     told-printed words (task.Link inputs name out) files old new before now c.print_done.ensures.only outcome.Done (untried_lines (Some out)) c.print_done.result
     c.print_done.ensures.answer
-    (link-over files inputs name out loaded.files loaded.plan loaded.modules read c.in-Ok-link_file.field-0
+    (link-over files inputs name out (all_files loaded.files) loaded.plan loaded.modules read c.in-Ok-link_file.field-0
     (subst (λ (l : List Parts). MakesLink tree name out l c.in-Ok-link_file.field-0) (c.in-Ok.ensures ∙ c.as_slice-modules.ensures)
     c.in-Ok-link_file.ensures.ok))
 
@@ -31,6 +31,5 @@ returns g c = λ files read.
     let inputs = c.args.inputs.now in let name = c.args.name.now in let out = c.args.out.now in let loaded = c.args.loaded.now in
     let tree = tree_of inputs.marks in
     c.explain_unlinked.ensures files loaded.plan (task.Link inputs name out) name
-    (subst (λ (l : List Parts). AreReadFrom files inputs c.as_slice-names.result.now loaded.plan l) (sym c.as_slice-modules.ensures)
-    (subst (λ (l : ModuleFiles). AreReadFrom files inputs l loaded.plan loaded.modules) (sym c.as_slice-names.ensures) read)) (refl, refl)
+    (subst (λ (l : List Parts). AreReadFrom files inputs (all_files loaded.files) loaded.plan l) (sym c.as_slice-modules.ensures) read) (refl, refl)
     (subst (λ (l : List Parts). StopsWork (linked_module tree name l) c.in-Err.refusal) c.in-Ok.ensures c.in-Err.ensures.refused)

@@ -7,6 +7,7 @@ use Rattle.mufom_command.proofs.WorkLaws.{locating-begins, read-from}
 use Rattle.mufom_command.specs.Told.{told_text}
 use Rattle.mufom_task.specs.InputsRead.{inputs_in}
 use Rattle.mufom_task.specs.declared.task.Task.TheVariants as task
+use Rattle.mufom_origins.specs.Words.{all_files}
 use Rattle.mufom_command.proofs.explain_modules.explain_location.Goals as goal
 
 pub returns-in-Ok : goal.returns-in-Ok
@@ -18,7 +19,7 @@ returns-in-Ok g c =
     let read = c.in-Ok.ensures in let inputs = c.args.inputs.now in let keep = c.args.keep.now in let p = c.args.product.now in
     told-all words (task.Locate inputs keep p) c.requires.asks old mid new before between now read.only read.all c.explain_loaded.result
     (c.explain_loaded.ensures old.files
-    (read-from old.files inputs c.in-Ok.loaded.files c.in-Ok.loaded.plan c.in-Ok.loaded.modules read.read read.files))
+    (read-from old.files inputs (all_files c.in-Ok.loaded.files) c.in-Ok.loaded.plan c.in-Ok.loaded.modules read.read read.files))
 
 pub returns-in-Ok-unread_details : goal.returns-in-Ok-unread_details
 returns-in-Ok-unread_details g c =

@@ -9,11 +9,12 @@ use Rattle.mufom_task.proofs.InputLaws.{call_between}
 use Rattle.mufom_task.specs.Tasks.{file_of}
 use Rattle.mufom_outcome.specs.declared.outcome.Outcome.TheVariants as outcome
 use Rattle.mufom_task.specs.declared.task.Task.TheVariants as task
+use Rattle.mufom_origins.specs.Words.{all_files}
 use Rattle.mufom_command.proofs.explain_modules.explain_product.Goals as goal
 
 pub returns-in-Ok : goal.returns-in-Ok
 returns-in-Ok g c = λ files inputs keep plan ms read are.
-    let names = c.args.names in
+    let names = all_files c.args.names in
     let words : List (List ℕ) = map (λ word. string_bytes word) c.args.words.now in
     let old = g.H.World.meaning c.args.host.now in let new = g.H.World.meaning c.print_done.new.host in
     let before = g.H.World.faults c.args.host.now in let now = g.H.World.faults c.print_done.new.host in
@@ -26,7 +27,7 @@ returns-in-Ok g c = λ files inputs keep plan ms read are.
 
 pub returns : goal.returns
 returns g c = λ files inputs keep plan ms read are.
-    let names = c.args.names in
+    let names = all_files c.args.names in
     let words : List (List ℕ) = map (λ word. string_bytes word) c.args.words.now in
     let old = g.H.World.meaning c.args.host.now in let new = g.H.World.meaning c.print_explanation.new.host in
     let before = g.H.World.faults c.args.host.now in let now = g.H.World.faults c.print_explanation.new.host in

@@ -8,6 +8,7 @@ use Rattle.mufom_explain.specs.Flat.{flat_of}
 use Rattle.mufom_explain.specs.declared.modules.FlatModule.{FlatModule}
 use Rattle.mufom_outcome.specs.declared.outcome.Refusal.TheVariants as refusal
 use Rattle.mufom_outcome.specs.declared.outcome.Outcome.TheVariants as outcome
+use Rattle.mufom_origins.specs.Words.{all_files}
 use Rattle.mufom_command.proofs.explain_modules.explain_refused.Goals as goal
 
 pub returns-in-Ok-link_details : goal.returns-in-Ok-link_details
@@ -15,7 +16,7 @@ returns-in-Ok-link_details g c = λ files plan task name read links why.
     let words : List (List ℕ) = map (λ word. string_bytes word) c.args.words.now in
     let old = g.H.World.meaning c.args.host.now in let new = g.H.World.meaning c.print_explanation.new.host in
     let before = g.H.World.faults c.args.host.now in let now = g.H.World.faults c.print_explanation.new.host in
-    let inputs = c.args.inputs.now in let names = c.args.names.now in let ms = c.args.modules.now in let refused = c.args.refusal.now in
+    let inputs = c.args.inputs.now in let names = all_files c.args.names.now in let ms = c.args.modules.now in let refused = c.args.refusal.now in
     let flat = flat_of c.deref.result.now in let text : List ℕ = link_text c.in-Ok-link_details.details in
     told-printed words task files old new before now c.print_explanation.ensures.only (outcome.Refused (refusal.Link refused)) text
     c.print_explanation.result c.print_explanation.ensures.answer

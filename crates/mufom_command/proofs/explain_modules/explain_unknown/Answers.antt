@@ -8,6 +8,7 @@ use Rattle.mufom_explain.specs.Flat.{flat_of}
 use Rattle.mufom_outcome.specs.declared.outcome.Refusal.TheVariants as refusal
 use Rattle.mufom_outcome.specs.declared.outcome.Outcome.TheVariants as outcome
 use Rattle.mufom_task.specs.declared.task.Task.TheVariants as task
+use Rattle.mufom_origins.specs.Words.{all_files}
 use Rattle.mufom_command.proofs.explain_modules.explain_unknown.Goals as goal
 
 pub returns-in-Ok : goal.returns-in-Ok
@@ -15,7 +16,7 @@ returns-in-Ok g c = λ files inputs plan ms keep made is.
     let words : List (List ℕ) = map (λ word. string_bytes word) c.args.words.now in
     let old = g.H.World.meaning c.args.host.now in let new = g.H.World.meaning c.print_explanation.new.host in
     let before = g.H.World.faults c.args.host.now in let now = g.H.World.faults c.print_explanation.new.host in
-    let names = c.args.names.now in let name = c.args.name.now in
+    let names = all_files c.args.names.now in let name = c.args.name.now in
     let flat = flat_of c.args.flat.now in let text : List ℕ = name_text c.in-Ok.details in
     told-printed words (task.Locate inputs keep made) files old new before now c.print_explanation.ensures.only (outcome.Refused (refusal.Keep name)) text
     c.print_explanation.result c.print_explanation.ensures.answer

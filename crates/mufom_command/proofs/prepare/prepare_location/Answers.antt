@@ -17,6 +17,7 @@ use Rattle.mufom_outcome.specs.declared.outcome.Outcome.{Outcome}
 use Rattle.mufom_task.specs.InputsRead.{inputs_in}
 use Rattle.mufom_words.specs.Tree.{tree_of}
 use Rattle.mufom_task.specs.declared.task.Task.TheVariants as task
+use Rattle.mufom_origins.specs.Words.{all_files}
 use Rattle.mufom_command.proofs.prepare.prepare_location.Goals as goal
 
 pub locate_modules-requires-clause-linkable : goal.locate_modules-requires-clause-linkable
@@ -57,7 +58,7 @@ returns-in-Ok-ready_of-clause-ok g c =
     let loaded = c.in-Ok.loaded in let m = c.in-Ok-locate_modules.location in let ready = c.in-Ok-ready_of.ready in
     let old = g.H.World.meaning c.args.host.now in let mid = g.H.World.meaning c.read_inputs.new.host in
     let before = g.H.World.faults c.args.host.now in let between = g.H.World.faults c.read_inputs.new.host in
-    let names = loaded.files in
+    let names = all_files loaded.files in
     let over : List NamedFile → Work Stop (Plan × List Parts) = λ fs reached. AreReadOver fs inputs names loaded.plan loaded.modules in
     readied (task.Locate inputs keep p) over refl old mid before between (loaded.plan, loaded.modules)
     (read-from old.files inputs names loaded.plan loaded.modules read.read read.files) read.all ready
@@ -71,7 +72,7 @@ returns-in-Err-ready_of-clause-err g c =
     let loaded = c.in-Ok.loaded in let m = c.in-Ok-locate_modules.location in
     let old = g.H.World.meaning c.args.host.now in let mid = g.H.World.meaning c.read_inputs.new.host in
     let before = g.H.World.faults c.args.host.now in let between = g.H.World.faults c.read_inputs.new.host in
-    let names = loaded.files in
+    let names = all_files loaded.files in
     let over : List NamedFile → Work Stop (Plan × List Parts) = λ fs reached. AreReadOver fs inputs names loaded.plan loaded.modules in
     ended (task.Locate inputs keep p) over refl old mid before between (loaded.plan, loaded.modules)
     (read-from old.files inputs names loaded.plan loaded.modules read.read read.files) read.all (product_of p names (shown_of m) m.located)
