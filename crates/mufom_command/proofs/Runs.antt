@@ -84,7 +84,7 @@ use Rattle.mufom_task.specs.Ends.{OverFiles, stop_outcome}
 use Rattle.mufom_outcome.specs.Outcomes.{stop_answer}
 use Rattle.mufom_origins.specs.Origins.{origins_of}
 use Rattle.mufom_map.specs.MapText.{view_text}
-use Rattle.mufom_origins.specs.Words.{FileNames}
+use Rattle.mufom_origins.specs.Words.{ModuleFiles}
 use Rattle.mufom_command.specs.FlatFiles.{AreFlatFiles}
 use Rattle.mufom_command.proofs.MapLaws.{flat-files-single}
 use Rattle.mufom_task.proofs.Verdicts.{one_verdict}
@@ -192,7 +192,7 @@ bytes-single : (o : Option BinRefusal) (name bytes : List ℕ) → IsSingle (byt
 bytes-single (Some b) name bytes = stop_at-single (bytes_refused b)
 bytes-single None name bytes = writes-single name bytes
 
-pub product-single : (p : Product) (names : FileNames) (shown : Mapped) (r : LocatedParts) → IsSingle (product_of p names shown r)
+pub product-single : (p : Product) (names : ModuleFiles) (shown : Mapped) (r : LocatedParts) → IsSingle (product_of p names shown r)
 product-single (product.Absolute out) names shown r = writes_module-single out (absolute_of r)
 product-single (product.Raw fill out) names shown r = bytes-single (length_fact (length (raw_image fill r.runs))) out (raw_image fill r.runs)
 product-single (product.Region name fill out) names shown r =
@@ -202,7 +202,7 @@ product-single product.Image names shown r = sure-single (printed (image_text r)
 product-single (product.Map at) names shown r = sure-single (printed (view_text names at shown))
 product-single (product.Hit at) names shown r = sure-single (printed (hit_text r.maus (hit_at r.debug at)))
 
-producing-single : (p : Product) (names : FileNames) (tree : Forest) (ms : List Parts) (plan : Plan) (kept : Kept) (r : LocatedParts)
+producing-single : (p : Product) (names : ModuleFiles) (tree : Forest) (ms : List Parts) (plan : Plan) (kept : Kept) (r : LocatedParts)
     → IsSingle (producing p names tree ms plan kept r)
 producing-single p names tree ms plan kept r =
     then-single (one_with (AreFlatFiles tree ms)) (λ flat. product_with p names (origins_of flat) plan kept r) (flat-files-single tree ms)

@@ -5,7 +5,7 @@ use Rattle.std.proofs.lemmas.Bool.{ltb-true}
 use Rattle.mufom_numbers.specs.declared.limits.TheConstants.{MOST_FILE_BYTES}
 use Rattle.mufom_host.specs.World.{NamedFile}
 use Rattle.mufom_map.specs.Mapped.{Mapped}
-use Rattle.mufom_origins.specs.Words.{FileNames}
+use Rattle.mufom_origins.specs.Words.{ModuleFiles}
 use Rattle.mufom_module.specs.declared.module.Parts.{Parts}
 use Rattle.mufom_module.specs.Written.{written}
 use Rattle.mufom_plan.specs.declared.plan.Plan.{Plan}
@@ -188,7 +188,7 @@ bytes-ends (Some b) name bytes s is = (b, is)
 bytes-ends None name bytes s is = absurd is
 
 -- a file has the name that is given
-pub product-place : (p : Product) (names : FileNames) (shown : Mapped) (r : LocatedParts) (o : Output) → product_of p names shown r (gives o) → file_name o ≡ file_of p
+pub product-place : (p : Product) (names : ModuleFiles) (shown : Mapped) (r : LocatedParts) (o : Output) → product_of p names shown r (gives o) → file_name o ≡ file_of p
 product-place (product.Absolute out) names shown r o (held, is) = ap file_name is
 product-place (product.Raw fill out) names shown r o is = bytes-place (length_fact (length (raw_image fill r.runs))) out (raw_image fill r.runs) o is
 product-place (product.Region name fill out) names shown r o is =
@@ -199,7 +199,7 @@ product-place (product.Map at) names shown r o is = ap file_name is
 product-place (product.Hit at) names shown r o is = ap file_name is
 
 -- Only the bytes of `bin` may be refused.
-pub product-stops : (p : Product) (names : FileNames) (shown : Mapped) (r : LocatedParts) (s : Stop) → product_of p names shown r (stops s)
+pub product-stops : (p : Product) (names : ModuleFiles) (shown : Mapped) (r : LocatedParts) (s : Stop) → product_of p names shown r (stops s)
     → (b : BinRefusal) × (s ≡ bytes_refused b)
 product-stops (product.Absolute out) names shown r s (held, never) = absurd never
 product-stops (product.Raw fill out) names shown r s is = bytes-ends (length_fact (length (raw_image fill r.runs))) out (raw_image fill r.runs) s is

@@ -23,11 +23,13 @@ use Rattle.mufom_outcome.specs.declared.outcome.Input.TheVariants as input
 use Rattle.mufom_outcome.specs.declared.outcome.Outcome.{Outcome}
 use Rattle.mufom_outcome.specs.declared.outcome.Outcome.TheVariants as outcome
 use Rattle.mufom_outcome.specs.declared.outcome.Refusal.TheVariants as refusal
-use Rattle.mufom_outcome.specs.Stop.{Stop, words_refused, plan_refused, file_refused, past_limit, link_fact, keep_unknown, name_shared, locate_fact, bytes_refused}
+use Rattle.mufom_outcome.specs.Stop.{Stop, words_refused, plan_refused, file_refused, past_limit, too_many_modules, link_fact, keep_unknown, name_shared, locate_fact, bytes_refused}
 use Rattle.mufom_outcome.specs.Stop.{text_refused, listing_refused}
 use Rattle.mufom_prune.specs.Pruned.{Remains}
 use Rattle.mufom_command.specs.Roots.{roots_by}
 use Rattle.mufom_command.specs.Works.{Kept, kept_of, kept_origins}
+use Rattle.mufom_origins.specs.Words.{ModuleFiles}
+use Rattle.mufom_task.specs.Inputs.{module_files}
 use Rattle.mufom_task.specs.Reading.{modules_in, plan_in}
 use Rattle.mufom_task.specs.declared.task.Inputs.{Inputs}
 use Rattle.mufom_task.specs.declared.task.Task.{Task}
@@ -81,11 +83,11 @@ pub record HasPlanLines (files : Option (List NamedFile)) (c : Inputs) (r : Plan
 
 -- ---- linking
 
--- the modules of these files, with the numbers of the files
+-- the modules at these places, with their places
 abbrev pub files_at : List Parts → List ℕ → List FileModule
 files_at ms files = at_positions (numbered ms) files
 
--- The modules of the list that cannot be linked because of this error, with their files. In the lines that follow, modules are counted in that list:
+-- The modules of the list that cannot be linked because of this error, with their places among all that were read. In the lines that follow, modules are counted in that list:
 -- if a group cannot be linked, in the group, not in the whole tree.
 abbrev pub IsRefusedFlat : Inputs → List Parts → LinkFact → List FileModule → Type 0
 IsRefusedFlat c ms f flat = (files : List ℕ) × IsRefusedList (tree_of c.marks) ms files f × (flat ≡ files_at ms files)
@@ -95,7 +97,7 @@ abbrev pub lines_of_link : List NamedFile → Inputs → LinkFact → Work Stop 
 lines_of_link files c f = do
   ms ← modules_in files c
   flat ← one_with (IsRefusedFlat c ms f)
-  sure (link_details c.files flat (link_refusal f))
+  sure (link_details (module_files files c) flat (link_refusal f))
 
 -- ---- what is kept
 
@@ -104,7 +106,7 @@ abbrev pub lines_of_name : List NamedFile → Inputs → List ℕ → Work Stop 
 lines_of_name files c name = do
   ms ← modules_in files c
   flat ← one_with (AreFlatFiles (tree_of c.marks) ms)
-  sure (name_details c.files flat name)
+  sure (name_details (module_files files c) flat name)
 
 -- ---- locating
 
@@ -125,10 +127,10 @@ IsObjectOf plan kept object = IsObjectWith plan.symbols plan kept object
 -- The context in which an error of locating is explained. Sections, sizes of commons and undefined names are those of what is kept of the flat list,
 -- with the plan's symbols; the modules that mention a name or request a common are looked up in the whole flat list. A field is found in `object`, the
 -- one module that is located; its expression is that of `own`, the one module for what is kept, in which a reference to a symbol of the plan is still
--- a reference. `maus` is the length of an address in units.
-abbrev pub explained_by : Inputs → Plan → List FileModule → Kept → Parts → Parts → ℕ → Explained
-explained_by c plan flat kept object own maus = record {
-  names = c.files;
+-- a reference. `names` are the files of all modules, and `maus` is the length of an address in units.
+abbrev pub explained_by : ModuleFiles → Plan → List FileModule → Kept → Parts → Parts → ℕ → Explained
+explained_by names plan flat kept object own maus = record {
+  names = names;
   flat = flat;
   origins = kept_origins kept.rest (origins_of flat);
   maus = maus;
@@ -147,7 +149,7 @@ lines_of_locate files c keep maus f = do
   kept ← kept_of (roots_by keep plan) (modules_of flat)
   own ← one_with (IsObjectBy kept.rest kept.modules)
   object ← one_with (IsObjectOf plan kept)
-  sure (locate_details (explained_by c plan flat kept object own maus) (locate_refusal f))
+  sure (locate_details (explained_by (module_files files c) plan flat kept object own maus) (locate_refusal f))
 
 -- the line of the plan, if one is named
 abbrev pub plan_lines : Option (List ℕ) → Text
@@ -160,7 +162,7 @@ lines_of_shared files c name = do
   plan ← plan_in files c.plan
   ms ← modules_in files c
   flat ← one_with (AreFlatFiles (tree_of c.marks) ms)
-  sure (shared_details c.files flat plan name ++ plan_lines c.plan)
+  sure (shared_details (module_files files c) flat plan name ++ plan_lines c.plan)
 
 -- ---- any end
 
@@ -170,6 +172,7 @@ abbrev pub HasDetails : Option (List NamedFile) → Inputs → List (List ℕ) �
 HasDetails files c keep (plan_refused r) details = HasPlanLines files c r details
 HasDetails files c keep (file_refused n r) details = HasFileLine c n details
 HasDetails files c keep (past_limit n) details = HasFileLine c n details
+HasDetails files c keep (too_many_modules n) details = details ≡ []
 HasDetails files c keep (text_refused r) details = HasFileLine c 0 details
 HasDetails files c keep (listing_refused r) details = HasFileLine c 0 details
 HasDetails files c keep (link_fact f) details = IfSome files (λ fs. lines_of_link fs c f (gives details))

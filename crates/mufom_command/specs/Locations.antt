@@ -13,7 +13,9 @@ use Rattle.mufom_locating.specs.Refusals.{IsMetBy}
 use Rattle.mufom_meaning.specs.Selection.{IsSelected}
 use Rattle.mufom_meaning.specs.Staging.{AreValid}
 use Rattle.mufom_meaning.specs.StagingLaws.{total_weight}
+use Rattle.mufom_numbers.specs.declared.limits.TheConstants.{MOST_MODULES}
 use Rattle.mufom_task.specs.declared.task.Inputs.{Inputs}
+use Rattle.mufom_task.specs.Inputs.{HaveRoots}
 use Rattle.mufom_task.specs.Sound.{IsSoundInputs}
 use Rattle.mufom_words.specs.Tree.{Forest, leaves}
 use Rattle.mufom_groups.specs.Groups.{StopsWork, most_weight}
@@ -40,7 +42,8 @@ use Rattle.mufom_command.specs.WorkEnds.{EndsAt, own_kept}
 -- what modules have that are read of the files of a task, so that they can be linked
 pub record AreLinkable (inputs : Inputs) (ms : List Parts) : Type 0 where
   pub sound : IsSoundInputs inputs
-  pub count : length ms ≡ length inputs.files
+  pub count : HaveRoots inputs ms
+  pub few : length ms ≤ MOST_MODULES
   pub valid : AreValid ms
   pub light : total_weight ms ≤ most_weight
 

@@ -39,6 +39,7 @@ use Rattle.mufom_task.specs.declared.task.Request.{Request}
 use Rattle.mufom_task.specs.declared.task.Request.TheVariants as request
 use Rattle.mufom_task.specs.declared.task.Task.{Task}
 use Rattle.mufom_task.specs.declared.task.Task.TheVariants as task
+use Rattle.mufom_task.specs.Inputs.{module_files}
 use Rattle.mufom_task.specs.Reading.{modules_in, plan_in, text_in}
 use Rattle.mufom_task.specs.Tasks.{request_of}
 use Rattle.mufom_command.specs.FlatFiles.{AreFlatFiles}
@@ -47,7 +48,7 @@ use Rattle.mufom_write.specs.Range.{range_image}
 use Rattle.mufom_write.specs.Raw.{raw_image}
 use Rattle.mufom_addr.specs.AddressHit.{hit_at}
 use Rattle.mufom_origins.specs.declared.origins.Origin.{Origin}
-use Rattle.mufom_origins.specs.Words.{FileNames}
+use Rattle.mufom_origins.specs.Words.{ModuleFiles}
 use Rattle.mufom_origins.specs.Origins.{origins_left, origins_of}
 use Rattle.mufom_map.specs.Mapped.{Mapped, mapped_by, planned_layout}
 use Rattle.mufom_map.specs.MapText.{view_text}
@@ -198,10 +199,10 @@ abbrev pub bytes_unless : Option BinRefusal → (name bytes : List ℕ) → Work
 bytes_unless None name bytes = writes name bytes
 bytes_unless (Some b) name bytes = stop_at (bytes_refused b)
 
--- What is made of a location, and of what a map of it shows, given the names of all files: the file of the absolute module, of the raw image, of the
+-- What is made of a location, and of what a map of it shows, given the files of all modules that were read: the file of the absolute module, of the raw image, of the
 -- bytes of a region or of the TI-TXT text; the text of the image or of the map; the lines of an address of the map; or the lines of the function and
 -- the source line at an address.
-abbrev pub product_of : Product → FileNames → Mapped → LocatedParts → Work Stop Output
+abbrev pub product_of : Product → ModuleFiles → Mapped → LocatedParts → Work Stop Output
 product_of (product.Absolute out) names shown r = writes_module out (absolute_of r)
 product_of (product.Raw fill out) names shown r = bytes_unless (length_fact (length (raw_image fill r.runs))) out (raw_image fill r.runs)
 product_of (product.Region name fill out) names shown r =
@@ -221,12 +222,12 @@ abbrev pub mapped_kept : List Origin → Plan → Kept → LocatedParts → Mapp
 mapped_kept origins plan kept r =
     mapped_by (kept_origins kept.rest origins) (planned_layout kept.modules plan) r
 
--- what is made of the location of what is kept of a list, whose modules have these origins, given the names of all files
-abbrev pub product_with : Product → FileNames → List Origin → Plan → Kept → LocatedParts → Work Stop Output
+-- what is made of the location of what is kept of a list, whose modules have these origins, given the files of all modules
+abbrev pub product_with : Product → ModuleFiles → List Origin → Plan → Kept → LocatedParts → Work Stop Output
 product_with p names origins plan kept r = product_of p names (mapped_kept origins plan kept r) r
 
--- The same for the flat list of a tree of files, whose modules have these files. `ms` are the modules in the order of the files.
-abbrev pub producing : Product → FileNames → Forest → List Parts → Plan → Kept → LocatedParts → Work Stop Output
+-- The same for the flat list of a tree of files. `ms` are all modules that were read, in the order of the files.
+abbrev pub producing : Product → ModuleFiles → Forest → List Parts → Plan → Kept → LocatedParts → Work Stop Output
 producing p names tree ms plan kept r = do
   flat ← one_with (AreFlatFiles tree ms)
   product_with p names (origins_of flat) plan kept r
@@ -251,7 +252,7 @@ linking output files inputs = do
 -- The same, and what is kept of the flat list for these names, and for the plan, is located.
 abbrev pub locating : List (List ℕ) → Product → List NamedFile → Inputs → Work Stop Output
 locating keep p files inputs =
-    linking (λ ms plan flat. locating_kept (producing p inputs.files (tree_of inputs.marks) ms plan) (roots_by keep plan) plan flat) files inputs
+    linking (λ ms plan flat. locating_kept (producing p (module_files files inputs) (tree_of inputs.marks) ms plan) (roots_by keep plan) plan flat) files inputs
 
 -- the runs of the bytes that a text gives to addresses, unless the text has an error
 abbrev pub runs_unless : Option TxtRefusal → List ℕ → Work Stop (List Run)

@@ -16,7 +16,7 @@ use Rattle.mufom_explain.specs.declared.modules.FlatModule.{FlatModule}
 use Rattle.mufom_explain.specs.Details.{differs_from, first_line, has_start, listed, other_line}
 use Rattle.mufom_explain.specs.Explained.{left_after, start_line}
 use Rattle.mufom_explain.specs.Flat.{file_module, flat_of}
-use Rattle.mufom_explain.specs.Lines.{FileNames, module_line}
+use Rattle.mufom_explain.specs.Lines.{ModuleFiles, module_line}
 
 abbrev pub numbered : List FlatModule → List (ℕ × FileModule)
 numbered flat = enumerate_from 0 (flat_of flat)
@@ -43,14 +43,14 @@ numbered-at flat i f inside is =
 
 -- ---- the first module, and the first with another descriptor
 
-pub first-there : (names : FileNames) (flat : List FlatModule) (f : FlatModule) → slice_get flat 0 ≡ Some f
+pub first-there : (names : ModuleFiles) (flat : List FlatModule) (f : FlatModule) → slice_get flat 0 ≡ Some f
     → first_line names (flat_of flat) ≡ module_line names 0 (file_module f)
 first-there names [] f e = absurd cc
 first-there names (g ∷ flat) f e =
     let same : g ≡ f = cc in
     append-nil (module_line names 0 (file_module g)) ∙ ap (λ (h : FlatModule). module_line names 0 (file_module h)) same
 
-pub first-nowhere : (names : FileNames) (flat : List FlatModule) → slice_get flat 0 ≡ None → first_line names (flat_of flat) ≡ []
+pub first-nowhere : (names : ModuleFiles) (flat : List FlatModule) → slice_get flat 0 ≡ None → first_line names (flat_of flat) ≡ []
 first-nowhere names [] e = refl
 first-nowhere names (g ∷ flat) e = absurd cc
 
@@ -64,7 +64,7 @@ none-more flat i f inside is fails before =
     below_more (λ j. (p : ℕ × FileModule) → slice_get (numbered flat) j ≡ Some p → differs_from (flat_of flat) p ≡ false) i before
     (λ p e. ap (differs_from (flat_of flat)) (some_same p (i, file_module f) (sym e ∙ numbered-at flat i f inside is)) ∙ fails)
 
-pub other-there : (names : FileNames) (flat : List FlatModule) (i : ℕ) (f : FlatModule) → i < length flat → f ≡ get_or flat i f
+pub other-there : (names : ModuleFiles) (flat : List FlatModule) (i : ℕ) (f : FlatModule) → i < length flat → f ≡ get_or flat i f
     → differs_from (flat_of flat) (i, file_module f) ≡ true → NoneBefore flat i → other_line names (flat_of flat) ≡ module_line names i (file_module f)
 other-there names flat i f inside is differs before =
     ap (λ o. listed names (option_to_list o))
@@ -72,7 +72,7 @@ other-there names flat i f inside is differs before =
     (λ j p less e. before j less p e))
     ∙ append-nil (module_line names i (file_module f))
 
-pub other-nowhere : (names : FileNames) (flat : List FlatModule) (i : ℕ) → length flat ≤ i → NoneBefore flat i → other_line names (flat_of flat) ≡ []
+pub other-nowhere : (names : ModuleFiles) (flat : List FlatModule) (i : ℕ) → length flat ≤ i → NoneBefore flat i → other_line names (flat_of flat) ≡ []
 other-nowhere names flat i past before =
     let long = numbered-length flat in
     ap (λ o. listed names (option_to_list o))
@@ -81,7 +81,7 @@ other-nowhere names flat i past before =
 
 -- ---- modules with a start
 
-module _ (names : FileNames) where
+module _ (names : ModuleFiles) where
   none-left : (kept : List (ℕ × FileModule)) (b : Bool) → 2 ≤ length kept → (nat_lt 0 (2 - length kept) && b) ≡ false
   none-left kept b many = let e : 2 - length kept ≡ 0 = omega (arith, many) in ap (λ n. nat_lt 0 n && b) e
 

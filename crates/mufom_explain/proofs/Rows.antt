@@ -21,7 +21,8 @@ use Rattle.mufom_meaning.specs.Steps.{counter}
 use Rattle.mufom_meaning.specs.Values.{value_within}
 use Rattle.mufom_text.specs.Words.{line}
 use Rattle.mufom_origins.specs.Origins.{FileModule, origins_of}
-use Rattle.mufom_explain.specs.Lines.{FileNames}
+use Rattle.mufom_explain.specs.Lines.{ModuleFiles}
+use Rattle.mufom_origins.specs.Words.{one_each}
 use Rattle.mufom_explain.specs.Details.{Explained, link_details, locate_details, name_details}
 
 abbrev bare : Parts
@@ -66,8 +67,8 @@ second = record first { name = codes "b"; names = record { publics = []; referen
 abbrev plan : Plan
 plan = record { regions = record { name = codes "ram"; base = 256; size = 13; sections = codes "t" ∷ []; common = true; load = None } ∷ []; symbols = []; keep = [] }
 
-abbrev files : FileNames
-files = codes "a.695" ∷ codes "b.695" ∷ []
+abbrev files : ModuleFiles
+files = one_each 0 (codes "a.695" ∷ codes "b.695" ∷ [])
 
 abbrev flat : List FileModule
 flat = (0, first) ∷ (1, second) ∷ []
@@ -93,13 +94,13 @@ doubled =
     (1, record bare { name = codes "a"; names = record { publics = public (codes "f") ∷ []; references = [] } })
     ∷ (2, record bare { name = codes "b"; names = record { publics = public (codes "f") ∷ []; references = strong (codes "f") ∷ [] } }) ∷ []
 
-duplicate_is : link_details (codes "r" ∷ codes "a" ∷ codes "b" ∷ []) doubled (Duplicate (codes "f"))
+duplicate_is : link_details (one_each 0 (codes "r" ∷ codes "a" ∷ codes "b" ∷ [])) doubled (Duplicate (codes "f"))
     ≡ line (codes "\"f\": public in module 0") ++ line (codes "\"f\": public in module 1") ++ line (codes "\"f\": reference in module 1")
     ++ line (codes "module 0 \"a\" file 1: \"a\"") ++ line (codes "module 1 \"b\" file 2: \"b\"")
 unfolding hex_on_literals digits
 duplicate_is = refl
 
--- ---- undefined names
+-- ---- undefined names, of a member of an archive among others
 
 abbrev root : Parts
 root = record bare { name = codes "r"; names = record { publics = []; references = weak (codes "y") ∷ strong (codes "f") ∷ strong (codes "z") ∷ [] } }
@@ -112,7 +113,7 @@ member = record bare {
 
 abbrev lacking : Explained
 lacking = record {
-  names = codes "r" ∷ codes "k0" ∷ codes "k1" ∷ [];
+  names = record { number = 0; name = codes "r" } ∷ record { number = 1; name = codes "l.a(k0)" } ∷ record { number = 1; name = codes "l.a(k1)" } ∷ [];
   flat = (0, root) ∷ (2, member) ∷ [];
   origins = origins_of ((0, root) ∷ (2, member) ∷ []);
   maus = 4;
@@ -124,7 +125,7 @@ lacking = record {
 
 undefined_is : locate_details lacking (Undefined (codes "z"))
     ≡ line (codes "\"z\": reference in module 0") ++ line (codes "\"z\": reference in module 1") ++ line (codes "\"y\": reference in module 0")
-    ++ line (codes "\"y\": reference in module 1") ++ line (codes "module 0 \"r\" file 0: \"r\"") ++ line (codes "module 1 \"k1\" file 2: \"k1\"")
+    ++ line (codes "\"y\": reference in module 1") ++ line (codes "module 0 \"r\" file 0: \"r\"") ++ line (codes "module 1 \"k1\" file 1: \"l.a(k1)\"")
 unfolding hex_on_literals digits
 undefined_is = refl
 
@@ -145,7 +146,7 @@ many = (0, empty) ∷ (1, small) ∷ (2, empty) ∷ (5, small) ∷ []
 
 abbrev bordered : Explained
 bordered = record {
-  names = codes "e0" ∷ codes "x1" ∷ codes "e2" ∷ codes "m3" ∷ codes "m4" ∷ codes "x5" ∷ [];
+  names = one_each 0 (codes "e0" ∷ codes "x1" ∷ codes "e2" ∷ codes "m3" ∷ codes "m4" ∷ codes "x5" ∷ []);
   flat = many;
   origins = origins_of many;
   maus = 2;
@@ -170,20 +171,20 @@ narrow = record bare { name = codes "two"; maus = 2 }
 abbrev started : Parts
 started = record bare { name = codes "s"; start = Some (number 0) }
 
-mismatch_is : link_details (codes "n" ∷ codes "two" ∷ []) ((0, bare) ∷ (0, bare) ∷ (1, narrow) ∷ (1, narrow) ∷ [])
+mismatch_is : link_details (one_each 0 (codes "n" ∷ codes "two" ∷ [])) ((0, bare) ∷ (0, bare) ∷ (1, narrow) ∷ (1, narrow) ∷ [])
     (Mismatch (record { maus = 4; order = Most }) (record { maus = 2; order = Most }))
     ≡ line (codes "module 0 \"\" file 0: \"n\"") ++ line (codes "module 2 \"two\" file 1: \"two\"")
 unfolding hex_on_literals digits
 mismatch_is = refl
 
-starts_are : link_details (codes "n" ∷ codes "s" ∷ []) ((0, bare) ∷ (1, started) ∷ (0, bare) ∷ (1, started) ∷ (1, started) ∷ []) DuplicateStart
+starts_are : link_details (one_each 0 (codes "n" ∷ codes "s" ∷ [])) ((0, bare) ∷ (1, started) ∷ (0, bare) ∷ (1, started) ∷ (1, started) ∷ []) DuplicateStart
     ≡ line (codes "module 1 \"s\" file 1: \"s\"") ++ line (codes "module 3 \"s\" file 1: \"s\"")
 unfolding hex_on_literals digits
 starts_are = refl
 
 -- ---- a name that is to be kept
 
-kept_is : name_details (codes "r" ∷ codes "k0" ∷ codes "k1" ∷ []) ((0, root) ∷ (2, member) ∷ []) (codes "y")
+kept_is : name_details (one_each 0 (codes "r" ∷ codes "k0" ∷ codes "k1" ∷ [])) ((0, root) ∷ (2, member) ∷ []) (codes "y")
     ≡ line (codes "\"y\": reference in module 0") ++ line (codes "\"y\": reference in module 1") ++ line (codes "module 0 \"r\" file 0: \"r\"")
     ++ line (codes "module 1 \"k1\" file 2: \"k1\"")
 unfolding hex_on_literals digits

@@ -28,14 +28,14 @@ use Rattle.mufom_field_values.specs.Fields.{field_of}
 use Rattle.mufom_field_values.specs.Lines.{value_lines}
 use Rattle.mufom_planned.specs.Layout.{Layout, layout}
 use Rattle.mufom_place.specs.declared.placing.RegionCopy.{RegionCopy}
-use Rattle.mufom_explain.specs.Lines.{FileNames, common_lines, copied_line, module_line, section_line}
+use Rattle.mufom_explain.specs.Lines.{ModuleFiles, common_lines, copied_line, module_line, section_line}
 use Rattle.mufom_explain.specs.Mentions.{mention_text}
 use Rattle.mufom_explain.specs.Region.{region_line, taken_in}
 
 -- ---- linking
 
 -- the lines of modules at their positions
-abbrev pub listed : FileNames → List (ℕ × FileModule) → Text
+abbrev pub listed : ModuleFiles → List (ℕ × FileModule) → Text
 listed names modules = flat_map (λ p. module_line names p.0 p.1) modules
 
 -- the module's descriptor is not that of the first
@@ -47,23 +47,23 @@ abbrev pub has_start : ℕ × FileModule → Bool
 has_start p = is_some p.1.1.start
 
 -- the first module
-abbrev pub first_line : FileNames → List FileModule → Text
+abbrev pub first_line : ModuleFiles → List FileModule → Text
 first_line names flat = listed names (take 1 (enumerate_from 0 flat))
 
 -- the first module with another descriptor
-abbrev pub other_line : FileNames → List FileModule → Text
+abbrev pub other_line : ModuleFiles → List FileModule → Text
 other_line names flat = listed names (option_to_list (find (differs_from flat) (enumerate_from 0 flat)))
 
 -- the first module, and the first with another descriptor
-abbrev pub mismatch_lines : FileNames → List FileModule → Text
+abbrev pub mismatch_lines : ModuleFiles → List FileModule → Text
 mismatch_lines names flat = first_line names flat ++ other_line names flat
 
 -- the first two modules with a start
-abbrev pub start_lines : FileNames → List FileModule → Text
+abbrev pub start_lines : ModuleFiles → List FileModule → Text
 start_lines names flat = listed names (take 2 (filter has_start (enumerate_from 0 flat)))
 
 -- The lines after the error line of a list of modules that cannot be linked.
-abbrev pub link_details : FileNames → List FileModule → LinkRefusal → Text
+abbrev pub link_details : ModuleFiles → List FileModule → LinkRefusal → Text
 link_details names flat (link.Mismatch first other) = mismatch_lines names flat
 link_details names flat (link.Duplicate name) = mention_text names flat (name ∷ [])
 link_details names flat link.DuplicateStart = start_lines names flat
@@ -72,7 +72,7 @@ link_details names flat link.NoMemory = []
 -- ---- a name that should be kept
 
 -- The lines after the error line of a name that no module defines: the modules that refer to it.
-abbrev pub name_details : FileNames → List FileModule → List ℕ → Text
+abbrev pub name_details : ModuleFiles → List FileModule → List ℕ → Text
 name_details names flat name = mention_text names flat (name ∷ [])
 
 -- ---- a name that a symbol of the plan shares with a public
@@ -87,17 +87,17 @@ symbol_lines name None = []
 symbol_lines name (Some n) = symbol_line name n
 
 -- The lines after the error line of a name that a symbol of the plan shares with a public: the symbol, and the modules that mention the name.
-abbrev pub shared_details : FileNames → List FileModule → Plan → List ℕ → Text
+abbrev pub shared_details : ModuleFiles → List FileModule → Plan → List ℕ → Text
 shared_details names flat plan name =
     symbol_lines name (position (λ symbol. bytes_eq symbol.name name) plan.symbols) ++ mention_text names flat (name ∷ [])
 
 -- ---- locating
 
--- The context in which an error of locating is explained: the names of the files, the flat list, the origins of the located entries, the length of an
+-- The context in which an error of locating is explained: the files of all modules, the flat list, the origins of the located entries, the length of an
 -- address in units, the located modules (the flat list, its link, or what is kept of the link, with the plan's symbols), the one module that is located
 -- for them, that module without the plan's symbols, which has the expressions that are shown, and the plan.
 pub record Explained : Type 0 where
-  pub names : FileNames
+  pub names : ModuleFiles
   pub flat : List FileModule
   pub origins : List Origin
   pub maus : ℕ

@@ -13,7 +13,7 @@ use Rattle.mufom_origins.specs.Origins.{FileModule}
 use Rattle.mufom_origins.specs.Places.{module_in}
 use Rattle.mufom_text.specs.Digits.{counted, hex}
 -- a module by its position in the flat list, with the number of its file and its name
-pub use Rattle.mufom_origins.specs.Words.{FileNames, file_name, module_text}
+pub use Rattle.mufom_origins.specs.Words.{FileNames, ModuleFiles, file_name, module_text}
 
 -- ---- files
 
@@ -25,7 +25,7 @@ plan_line name = line (codes "plan: " ++ quoted name)
 
 -- ---- modules
 
-abbrev pub module_line : FileNames → ℕ → FileModule → Text
+abbrev pub module_line : ModuleFiles → ℕ → FileModule → Text
 module_line names j f = line (module_text names j f.0 f.1.name)
 
 -- ---- sections
@@ -35,12 +35,12 @@ base_text maus None = []
 base_text maus (Some base) = codes " base " ++ hex maus base
 
 -- the module at this position, after a comma
-abbrev pub origin_text : FileNames → ℕ → Option Origin → Text
+abbrev pub origin_text : ModuleFiles → ℕ → Option Origin → Text
 origin_text names j None = []
 origin_text names j (Some o) = codes ", " ++ module_text names j o.file o.name
 
 -- the same, if there is a position
-abbrev pub place_text : FileNames → List Origin → Option ℕ → Text
+abbrev pub place_text : ModuleFiles → List Origin → Option ℕ → Text
 place_text names origins None = []
 place_text names origins (Some j) = origin_text names j (slice_get origins j)
 
@@ -49,7 +49,7 @@ abbrev pub described : Text → ℕ → Section → Text
 described word n s = counted word n ++ (codes ": " ++ (quoted s.name ++ (counted (codes " size ") s.size ++ counted (codes " align ") s.align)))
 
 -- the line of a section with its number; the modules have these origins
-abbrev pub section_line : ℕ → FileNames → List Origin → ℕ → Section → Text
+abbrev pub section_line : ℕ → ModuleFiles → List Origin → ℕ → Section → Text
 section_line maus names origins n s = line (described (codes "section ") n s
     ++ (base_text maus s.base ++ place_text names origins (module_in (map (λ (o : Origin). o.sections) origins) n)))
 
@@ -74,10 +74,10 @@ asks_by name r = is_common r && bytes_eq r.name name
 abbrev pub asks_for : List ℕ → Parts → Bool
 asks_for name m = list_any (asks_by name) m.names.references
 
-abbrev pub asking_line : FileNames → List ℕ → ℕ → FileModule → Text
+abbrev pub asking_line : ModuleFiles → List ℕ → ℕ → FileModule → Text
 asking_line names name j f = if asks_for name f.1 then codes "  " ++ module_line names j f else []
 
 -- a common with its number, and the modules of the flat list that request space for it
-abbrev pub common_lines : FileNames → List FileModule → ℕ → Section → Text
+abbrev pub common_lines : ModuleFiles → List FileModule → ℕ → Section → Text
 common_lines names flat n s =
     line (described (codes "common ") n s) ++ each (asking_line names s.name) flat

@@ -12,7 +12,7 @@ use Rattle.mufom_origins.specs.Origins.{FileModule}
 use Rattle.mufom_explain.specs.declared.mention.Mention.{Mention}
 use Rattle.mufom_explain.specs.declared.mention.MentionKind.{MentionKind}
 use Rattle.mufom_explain.specs.declared.mention.MentionKind.TheVariants as kinds
-use Rattle.mufom_explain.specs.Lines.{FileNames, module_line}
+use Rattle.mufom_explain.specs.Lines.{ModuleFiles, module_line}
 
 -- a public of the list has the name
 abbrev pub defines_among : List Public → List ℕ → Bool
@@ -60,9 +60,9 @@ abbrev pub mentions_any : List (List ℕ) → Parts → Bool
 mentions_any wanted m = list_any (λ (p : Public). has_name wanted p.name) m.names.publics
     || list_any (λ (r : Reference). has_name wanted r.name) m.names.references
 
-abbrev pub named_line : FileNames → List (List ℕ) → ℕ → FileModule → Text
+abbrev pub named_line : ModuleFiles → List (List ℕ) → ℕ → FileModule → Text
 named_line names wanted j f = if mentions_any wanted f.1 then module_line names j f else []
 
 -- The lines of the mentions of these names, one name after another, followed by a line for each module that mentions one of them.
-abbrev pub mention_text : FileNames → List FileModule → List (List ℕ) → Text
+abbrev pub mention_text : ModuleFiles → List FileModule → List (List ℕ) → Text
 mention_text names flat wanted = flat_map (name_lines (map (λ (f : FileModule). f.1) flat)) wanted ++ each (named_line names wanted) flat

@@ -8,8 +8,8 @@ use crate::mentions::Mentions;
 use crate::modules::FlatModule;
 use mufom_field_values::FieldValue;
 use mufom_module::Module;
-use mufom_numbers::{List, Text};
-use mufom_origins::Origins;
+use mufom_numbers::List;
+use mufom_origins::{ModuleFiles, Origins};
 use mufom_place::RegionCopy;
 use mufom_plan::Plan;
 use mufom_sections::Section;
@@ -28,7 +28,7 @@ pub(crate) enum LinkKind<'a> {
 /// The lines that follow the error line of a list of modules that cannot be linked.
 #[derive(Drop)]
 pub struct LinkDetails<'a> {
-    pub(crate) names: &'a [Text],
+    pub(crate) names: &'a ModuleFiles,
     pub(crate) flat: &'a [FlatModule<'a>],
     pub(crate) kind: LinkKind<'a>,
 }
@@ -36,7 +36,7 @@ pub struct LinkDetails<'a> {
 /// The lines about a name: the modules that mention it.
 #[derive(Drop)]
 pub struct NameDetails<'a> {
-    pub(crate) names: &'a [Text],
+    pub(crate) names: &'a ModuleFiles,
     pub(crate) mentions: Mentions<'a>,
 }
 
@@ -52,8 +52,8 @@ pub struct SharedDetails<'a> {
 /// The context in which the error of a module that cannot be located is explained.
 #[derive(Clone, Copy)]
 pub struct LocateContext<'a> {
-    /// The names of the files, as they were given.
-    pub names: &'a [Text],
+    /// The files of all modules, in the order in which they were read.
+    pub names: &'a ModuleFiles,
     /// The modules of the flat list.
     pub flat: &'a [FlatModule<'a>],
     /// The origins of the entries of the module that is located.

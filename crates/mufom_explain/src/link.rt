@@ -1,10 +1,12 @@
 //! Explains the error of a list of modules that cannot be linked.
 
-ghost use Rattle.std.specs.Prelude.{◌≡◌, ◌<◌, ◌^◌, ℕ, List as list, IfOk, length};
+ghost use Rattle.std.specs.Prelude.{◌≡◌, ◌<◌, ◌^◌, IfOk, length};
 ghost use Rattle.mufom_meaning.specs.LinkAnswer.{same_order};
 ghost use Rattle.mufom_explain.specs.Details.{differs_from, first_line, link_details, other_line, start_lines};
 ghost use Rattle.mufom_explain.specs.Explained.{left_after, link_lines, link_text, start_line};
 ghost use Rattle.mufom_explain.specs.Flat.{file_module, flat_of};
+ghost use Rattle.mufom_explain.specs.Lines.{ModuleFiles};
+ghost use Rattle.mufom_origins.specs.Words.{all_files};
 
 use crate::details::{LinkDetails, LinkKind};
 use crate::finding::find_mentions;
@@ -12,7 +14,8 @@ use crate::modules::{FlatModule, module_line};
 use crate::naming::one_name;
 use mufom_link::LinkRefusal;
 use mufom_module::{Order, Parts};
-use mufom_numbers::{NoMemory, Text};
+use mufom_numbers::NoMemory;
+use mufom_origins::ModuleFiles;
 use mufom_text::{Lines, Output};
 use std::alloc::Global;
 
@@ -40,8 +43,8 @@ fn differs_from(flat: &[FlatModule<'_>], module: &Parts) -> bool
 }
 
 // The line of the first module whose descriptor differs from that of the first module, if there is one.
-fn other_line<K: Output>(out: &mut K, names: &[Text], flat: &[FlatModule<'_>])
-    ensures { K.takes out.old out.new (other_line names.now (flat_of flat.now)) }
+fn other_line<K: Output>(out: &mut K, names: &ModuleFiles, flat: &[FlatModule<'_>])
+    ensures { K.takes out.old out.new (other_line (all_files names.now) (flat_of flat.now)) }
 {
     for position in 0..flat.len() {
         let module = &flat[position];
@@ -53,8 +56,8 @@ fn other_line<K: Output>(out: &mut K, names: &[Text], flat: &[FlatModule<'_>])
 }
 
 // The line of the first module, if there is one.
-fn first_line<K: Output>(out: &mut K, names: &[Text], flat: &[FlatModule<'_>])
-    ensures { K.takes out.old out.new (first_line names.now (flat_of flat.now)) }
+fn first_line<K: Output>(out: &mut K, names: &ModuleFiles, flat: &[FlatModule<'_>])
+    ensures { K.takes out.old out.new (first_line (all_files names.now) (flat_of flat.now)) }
 {
     if let Some(first) = flat.first() {
         module_line(out, names, 0, first);
@@ -65,13 +68,13 @@ fn first_line<K: Output>(out: &mut K, names: &[Text], flat: &[FlatModule<'_>])
 // it.
 fn start_line<K: Output>(
     out: &mut K,
-    names: &[Text],
+    names: &ModuleFiles,
     left: u32,
     position: usize,
     module: &FlatModule<'_>,
 ) -> u32
     ensures left { result ≡ left_after left (position, file_module «module».now) }
-    ensures put { K.takes out.old out.new (start_line names.now left (position, file_module «module».now)) }
+    ensures put { K.takes out.old out.new (start_line (all_files names.now) left (position, file_module «module».now)) }
 {
     match left > 0 && module.parts.start.is_some() {
         true => {
@@ -83,8 +86,8 @@ fn start_line<K: Output>(
 }
 
 // The lines of the first two modules with a start.
-fn start_lines<K: Output>(out: &mut K, names: &[Text], flat: &[FlatModule<'_>])
-    ensures { K.takes out.old out.new (start_lines names.now (flat_of flat.now)) }
+fn start_lines<K: Output>(out: &mut K, names: &ModuleFiles, flat: &[FlatModule<'_>])
+    ensures { K.takes out.old out.new (start_lines (all_files names.now) (flat_of flat.now)) }
 {
     let mut left = 2;
     for position in 0..flat.len() {
@@ -117,7 +120,7 @@ fn kind_of<'a>(
     refusal: &'a LinkRefusal,
 ) -> Result<LinkKind<'a>, NoMemory>
     requires { length flat.now < 2 ^ 32 }
-    ensures { (names : list (list ℕ)) → IfOk result
+    ensures { (names : ModuleFiles) → IfOk result
         (λ kind. link_lines names (flat_of flat.now) kind ≡ link_details names (flat_of flat.now) refusal.now) }
 {
     match refusal {
@@ -134,17 +137,17 @@ fn kind_of<'a>(
 
 /// Returns the lines that follow the error line of a flat list of modules that cannot be linked: the first
 /// module and the first with another descriptor, all modules that mention the name of a duplicate, or the
-/// first two modules with a start. `names` are the names of the files, as they were given. The time is
+/// first two modules with a start. `names` are the files of all modules that were read. The time is
 /// proportional to the number of names in the modules, and the memory to the number of mentions. The only
 /// error is out of memory.
 pub fn explain_link<'a>(
     alloc: Global,
-    names: &'a [Text],
+    names: &'a ModuleFiles,
     flat: &'a [FlatModule<'a>],
     refusal: &'a LinkRefusal,
 ) -> Result<LinkDetails<'a>, NoMemory>
     requires { length flat.now < 2 ^ 32 }
-    ensures { IfOk result (λ details. link_text details ≡ link_details names.now (flat_of flat.now) refusal.now) }
+    ensures { IfOk result (λ details. link_text details ≡ link_details (all_files names.now) (flat_of flat.now) refusal.now) }
 {
     let kind = kind_of(alloc, flat, refusal)?;
     Ok(LinkDetails { names, flat, kind })

@@ -4,12 +4,14 @@ ghost use Rattle.std.specs.Prelude.{◌≡◌, ◌<◌, ◌^◌, IfOk, length};
 ghost use Rattle.mufom_explain.specs.Details.{name_details};
 ghost use Rattle.mufom_explain.specs.Explained.{name_text};
 ghost use Rattle.mufom_explain.specs.Flat.{flat_of};
+ghost use Rattle.mufom_origins.specs.Words.{all_files};
 
 use crate::details::NameDetails;
 use crate::finding::find_mentions;
 use crate::modules::FlatModule;
 use crate::naming::one_name;
-use mufom_numbers::{NoMemory, Text};
+use mufom_numbers::NoMemory;
+use mufom_origins::ModuleFiles;
 use mufom_text::{Lines, Output};
 use std::alloc::Global;
 
@@ -24,17 +26,17 @@ impl<'a> Lines for NameDetails<'a> {
 }
 
 /// Returns the lines that follow the error line of a name that should be kept and that no module of the flat
-/// list defines: the modules that refer to it. `names` are the names of the files, as they were given. The
+/// list defines: the modules that refer to it. `names` are the files of all modules that were read. The
 /// time is proportional to the number of names in the modules, and the memory to the number of mentions. The
 /// only error is out of memory.
 pub fn explain_name<'a>(
     alloc: Global,
-    names: &'a [Text],
+    names: &'a ModuleFiles,
     flat: &'a [FlatModule<'a>],
     name: &'a [u8],
 ) -> Result<NameDetails<'a>, NoMemory>
     requires { length flat.now < 2 ^ 32 }
-    ensures { IfOk result (λ details. name_text details ≡ name_details names.now (flat_of flat.now) name.now) }
+    ensures { IfOk result (λ details. name_text details ≡ name_details (all_files names.now) (flat_of flat.now) name.now) }
 {
     let wanted = one_name(alloc, name)?;
     let mentions = find_mentions(alloc, wanted, flat)?;

@@ -20,7 +20,7 @@ use Rattle.mufom_write.specs.Raw.{raw_image}
 use Rattle.mufom_groups.specs.Work.{Reached, gives, stops, Work}
 use Rattle.mufom_groups.proofs.Works.{value-same}
 use Rattle.mufom_map.specs.Mapped.{Mapped}
-use Rattle.mufom_origins.specs.Words.{FileNames}
+use Rattle.mufom_origins.specs.Words.{ModuleFiles}
 use Rattle.mufom_origins.specs.declared.origins.Origin.{Origin}
 use Rattle.mufom_origins.specs.Origins.{FileModule, origins_of}
 use Rattle.mufom_outcome.specs.declared.outcome.Outcome.{Outcome}
@@ -68,7 +68,7 @@ bytes-made (Some b) name bytes call output never puts = absurd never
 bytes-made None name bytes call output put puts = subst (λ (x : Output). PutsOut x call) put puts
 
 -- bytes that are refused are the end
-bytes-end : (p : Product) (names : FileNames) (shown : Mapped) (r : LocatedParts) (b : BinRefusal) → bytes_fact p shown.regions r ≡ Some b
+bytes-end : (p : Product) (names : ModuleFiles) (shown : Mapped) (r : LocatedParts) (b : BinRefusal) → bytes_fact p shown.regions r ≡ Some b
     → product_of p names shown r (stops (bytes_refused b))
 bytes-end (product.Raw fill out) names shown r b some = bytes-stop (length_fact (length (raw_image fill r.runs))) b some out (raw_image fill r.runs)
 bytes-end (product.Region name fill out) names shown r b some =
@@ -80,7 +80,7 @@ bytes-end (product.Map at) names shown r b some = absurd cc
 bytes-end (product.Hit at) names shown r b some = absurd cc
 
 -- it may be put out
-product-may : (p : Product) (names : FileNames) (shown : Mapped) (r : LocatedParts) (o : Output) → product_of p names shown r (gives o)
+product-may : (p : Product) (names : ModuleFiles) (shown : Mapped) (r : LocatedParts) (o : Output) → product_of p names shown r (gives o)
     → bytes_fact p shown.regions r ≡ None
 product-may (product.Absolute out) names shown r o is = refl
 product-may (product.Raw fill out) names shown r o is = bytes-may (length_fact (length (raw_image fill r.runs))) out (raw_image fill r.runs) o is
@@ -92,7 +92,7 @@ product-may (product.Map at) names shown r o is = refl
 product-may (product.Hit at) names shown r o is = refl
 
 -- and it is the location
-product-shown : (p : Product) (names : FileNames) (origins : List Origin) (plan : Plan) (kept : Kept) (r : LocatedParts) (call : Call) (o : Output)
+product-shown : (p : Product) (names : ModuleFiles) (origins : List Origin) (plan : Plan) (kept : Kept) (r : LocatedParts) (call : Call) (o : Output)
     → product_with p names origins plan kept r (gives o) → PutsOut o call → PutsOutLocation p names origins plan kept r call
 product-shown (product.Absolute out) names origins plan kept r call o is puts = file-made out call (absolute_of r) o is puts
 product-shown (product.Raw fill out) names origins plan kept r call o is puts =
@@ -106,7 +106,7 @@ product-shown (product.Hit at) names origins plan kept r call o is puts = subst 
 
 -- ---- one list
 
-module _ (keep : Option Roots) (p : Product) (names : FileNames) (origins : List Origin) (plan : Plan) (list : List Parts) where
+module _ (keep : Option Roots) (p : Product) (names : ModuleFiles) (origins : List Origin) (plan : Plan) (list : List Parts) where
   abbrev target : Kept → LocatedParts → Work Stop Output
   target = product_with p names origins plan
 

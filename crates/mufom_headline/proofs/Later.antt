@@ -16,7 +16,7 @@ use Rattle.mufom_groups.specs.Linked.{first_name, links}
 use Rattle.mufom_groups.specs.Work.{Reached, gives, stops, Work, ◌>>=◌, with_stops}
 use Rattle.mufom_origins.specs.declared.origins.Origin.{Origin}
 use Rattle.mufom_origins.specs.Origins.{FileModule, origins_of}
-use Rattle.mufom_origins.specs.Words.{FileNames}
+use Rattle.mufom_origins.specs.Words.{ModuleFiles}
 use Rattle.mufom_outcome.specs.declared.outcome.Outcome.{Outcome}
 use Rattle.mufom_outcome.specs.declared.outcome.Outcome.TheVariants as outcome
 use Rattle.mufom_outcome.specs.Stop.{Stop, link_fact}
@@ -82,7 +82,7 @@ same-works-end-the-same files others t u words its_words c d call other result i
 
 -- ---- the names of modules and files
 
-product-names : (p : Product) → NamesNoModules p → (names its : FileNames) (origins others : List Origin) (plan : Plan) (kept : Kept) (r : LocatedParts)
+product-names : (p : Product) → NamesNoModules p → (names its : ModuleFiles) (origins others : List Origin) (plan : Plan) (kept : Kept) (r : LocatedParts)
     → IsSameWork (product_with p names origins plan kept r) (product_with p its others plan kept r)
 product-names (product.Absolute out) may names its origins others plan kept r x = ((λ h. h), (λ h. h))
 product-names (product.Raw fill out) may names its origins others plan kept r x = ((λ h. h), (λ h. h))
@@ -92,9 +92,9 @@ product-names product.Image may names its origins others plan kept r x = ((λ h.
 product-names (product.Map at) may names its origins others plan kept r x = absurd may
 product-names (product.Hit at) may names its origins others plan kept r x = ((λ h. h), (λ h. h))
 
-module _ (keep : Option Roots) (p : Product) (may : NamesNoModules p) (names its : FileNames) (origins others : List Origin) (plan : Plan)
+module _ (keep : Option Roots) (p : Product) (may : NamesNoModules p) (names its : ModuleFiles) (origins others : List Origin) (plan : Plan)
     (list : List Parts) where
-  abbrev after-kept : (names : FileNames) (origins : List Origin) → Kept → Work Stop Output
+  abbrev after-kept : (names : ModuleFiles) (origins : List Origin) → Kept → Work Stop Output
   after-kept names origins kept = located plan kept.modules >>= λ r. product_with p names origins plan kept r
 
   kept-names : IsSameWork (locating_kept (product_with p names origins plan) keep plan list) (locating_kept (product_with p its others plan) keep plan list)

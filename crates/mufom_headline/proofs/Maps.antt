@@ -7,7 +7,7 @@ use Rattle.mufom_meaning.specs.declared.located.LocatedParts.{LocatedParts}
 use Rattle.mufom_groups.specs.Linked.{IsFlatList}
 use Rattle.mufom_groups.specs.Work.{Work, ◌>>=◌, one_with}
 use Rattle.mufom_origins.specs.Origins.{FileModule, origins_of}
-use Rattle.mufom_origins.specs.Words.{FileNames}
+use Rattle.mufom_origins.specs.Words.{ModuleFiles}
 use Rattle.mufom_outcome.specs.Stop.{Stop}
 use Rattle.mufom_task.specs.declared.task.Product.{Product}
 use Rattle.mufom_command.specs.FlatFiles.{AreFlatFiles, files_with}
@@ -23,7 +23,7 @@ use Rattle.mufom_run_laws.proofs.StageLaws.{stages-alike}
 pub flat-files : (tree : Forest) (ms flat : List Parts) → IsFlatList tree ms flat → (own : List FileModule) × AreFlatFiles tree ms own
 flat-files tree ms flat (chosen, selected, same) = (files_with tree ms chosen, (chosen, selected, refl))
 
-module _ (keep : Option Roots) (p : Product) (names : FileNames) (plan : Plan) (tree : Forest) (ms : List Parts) (own : List FileModule)
+module _ (keep : Option Roots) (p : Product) (names : ModuleFiles) (plan : Plan) (tree : Forest) (ms : List Parts) (own : List FileModule)
     (are : AreFlatFiles tree ms own) where
   product-known : (kept : Kept) (r : LocatedParts) → IsSameWork (producing p names tree ms plan kept r) (product_with p names (origins_of own) plan kept r)
   product-known kept r =

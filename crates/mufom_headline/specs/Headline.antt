@@ -20,7 +20,7 @@ use Rattle.mufom_groups.specs.Work.{gives}
 use Rattle.mufom_origins.specs.declared.origins.Origin.{Origin}
 use Rattle.mufom_origins.specs.Origins.{FileModule, origins_of}
 use Rattle.mufom_map.specs.MapText.{view_text}
-use Rattle.mufom_origins.specs.Words.{FileNames}
+use Rattle.mufom_origins.specs.Words.{ModuleFiles}
 use Rattle.mufom_outcome.specs.declared.outcome.Outcome.{Outcome}
 use Rattle.mufom_outcome.specs.declared.outcome.Outcome.TheVariants as outcome
 use Rattle.mufom_outcome.specs.declared.outcome.BinRefusal.{BinRefusal}
@@ -31,6 +31,7 @@ use Rattle.mufom_task.specs.declared.task.Product.{Product}
 use Rattle.mufom_task.specs.declared.task.Product.TheVariants as product
 use Rattle.mufom_task.specs.declared.task.Request.TheVariants as request
 use Rattle.mufom_task.specs.declared.task.Task.TheVariants as task
+use Rattle.mufom_task.specs.Inputs.{module_files}
 use Rattle.mufom_task.specs.Calls.{Call}
 use Rattle.mufom_task.specs.Tasks.{request_of}
 use Rattle.mufom_command.specs.Roots.{Roots, first_unknown, roots_by}
@@ -49,7 +50,7 @@ use Rattle.mufom_headline.specs.ReadBack.{IsPutInFile}
 -- prints the text of its image; `addr` prints the lines of the function and the source line at the address in its arguments; `map` prints the sections
 -- and symbols with their addresses, the modules from which they come and the names of their files, or the lines of one address. `names` are the names
 -- of all files; `origins` are the names of these modules, their files, and the numbers of their entries.
-abbrev pub PutsOutLocation : Product → FileNames → List Origin → Plan → Kept → LocatedParts → Call → Type 0
+abbrev pub PutsOutLocation : Product → ModuleFiles → List Origin → Plan → Kept → LocatedParts → Call → Type 0
 PutsOutLocation (product.Absolute out) names origins plan kept r call = IsPutInFile out (absolute_of r) call
 PutsOutLocation (product.Raw fill out) names origins plan kept r call = MakesFile out (raw_image fill r.runs) call
 PutsOutLocation (product.Region name fill out) names origins plan kept r call =
@@ -69,7 +70,7 @@ PutsOutLocation (product.Map at) names origins plan kept r call = PrintsText (vi
 -- addresses. For a plan without symbols and load regions this is the definition `IsLocation`.
 --
 -- Located alone, by a plan without regions, the absolute module of the location gives the same location.
-pub record IsPutOut (keep : Option Roots) (p : Product) (names : FileNames) (origins : List Origin) (plan : Plan) (list : List Parts) (call : Call)
+pub record IsPutOut (keep : Option Roots) (p : Product) (names : ModuleFiles) (origins : List Origin) (plan : Plan) (list : List Parts) (call : Call)
     : Type 0 where
   pub kept : Kept
   pub keeps : kept_of keep list (gives kept)
@@ -90,7 +91,7 @@ MayBeWritten keep p plan list =
 -- linked, the first name of `--keep` that no public symbol of it has is refused; and if what is kept of it cannot be located, the run is refused with the
 -- first error of locating it. A raw image, or a region, that is too long is refused with its length in bytes; and a name that no region of the plan has,
 -- with the name.
-pub record HasLocated (keep : Option Roots) (p : Product) (names : FileNames) (origins : List Origin) (plan : Plan) (call : Call) (result : Outcome)
+pub record HasLocated (keep : Option Roots) (p : Product) (names : ModuleFiles) (origins : List Origin) (plan : Plan) (call : Call) (result : Outcome)
     (list : List Parts) : Type 0 where
   pub done : (result ≡ outcome.Done) ↔ (HasNoFact keep list plan × MayBeWritten keep p plan list)
   pub output : result ≡ outcome.Done → IsPutOut keep p names origins plan list call
@@ -107,14 +108,15 @@ pub record HasLocated (keep : Option Roots) (p : Product) (names : FileNames) (o
 -- The result of the run is that of locating the flat list of its modules. If earlier runs made these modules from another list by partial
 -- links, in any number of stages, it is also the result of locating that list.
 --
--- `modules` are those of the files, in their order. `files` are the modules of the flat list, each with the number of its file. A map names
--- these modules and files for the other list too, since a partial link does not keep the names of the modules that it was made of.
-pub record LocatesAll (inputs : Inputs) (keep : List (List ℕ)) (p : Product) (plan : Plan) (call : Call) (result : Outcome) (modules flat : List Parts)
-    : Type 0 where
+-- `named` are the files that the run can read. `modules` are those that were read, in the order of the files. `files` are the modules of the flat
+-- list, each with its place among them. A map names these modules and their files for the other list too, since a partial link does not keep the names of the modules that it was made of.
+pub record LocatesAll (named : List NamedFile) (inputs : Inputs) (keep : List (List ℕ)) (p : Product) (plan : Plan) (call : Call) (result : Outcome)
+    (modules flat : List Parts) : Type 0 where
   pub files : List FileModule
   pub are_files : AreFlatFiles (tree_of inputs.marks) modules files
-  pub located : HasLocated (roots_by keep plan) p inputs.files (origins_of files) plan call result flat
-  pub staged : (leaves : List Parts) → CameByStages flat leaves → HasLocated (roots_by keep plan) p inputs.files (origins_of files) plan call result leaves
+  pub located : HasLocated (roots_by keep plan) p (module_files named inputs) (origins_of files) plan call result flat
+  pub staged : (leaves : List Parts) → CameByStages flat leaves
+      → HasLocated (roots_by keep plan) p (module_files named inputs) (origins_of files) plan call result leaves
 
 -- For all arguments, files and plans: if no I/O call failed, the run did not run out of memory, and the plan and the files were accepted,
 -- then `locate`, `bin`, `txt`, `dump`, `addr` and `map` locate the flat list of the modules, and each list from which that was linked in
@@ -125,4 +127,4 @@ TheHeadline =
     (plan : Plan) (flat : List Parts)
     → Answers words call result → IsUndisturbed files call result
     → answer_of words ≡ Ok c → request_of c ≡ request.Run (task.Locate inputs keep p) → (accepts : Accepts files inputs plan flat)
-    → LocatesAll inputs keep p plan call result accepts.modules flat
+    → LocatesAll files inputs keep p plan call result accepts.modules flat

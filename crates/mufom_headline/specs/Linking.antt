@@ -16,7 +16,7 @@ use Rattle.mufom_groups.specs.Refusals.{link_refusal}
 use Rattle.mufom_groups.specs.Work.{Work, ◌>>=◌, with_stops}
 use Rattle.mufom_origins.specs.declared.origins.Origin.{Origin}
 use Rattle.mufom_origins.specs.Origins.{FileModule, origins_of}
-use Rattle.mufom_origins.specs.Words.{FileNames}
+use Rattle.mufom_origins.specs.Words.{ModuleFiles}
 use Rattle.mufom_outcome.specs.declared.outcome.Outcome.{Outcome}
 use Rattle.mufom_outcome.specs.declared.outcome.Outcome.TheVariants as outcome
 use Rattle.mufom_outcome.specs.declared.outcome.Refusal.TheVariants as refusal
@@ -25,6 +25,7 @@ use Rattle.mufom_task.specs.declared.task.Inputs.{Inputs}
 use Rattle.mufom_task.specs.declared.task.Product.{Product}
 use Rattle.mufom_task.specs.declared.task.Request.TheVariants as request
 use Rattle.mufom_task.specs.declared.task.Task.TheVariants as task
+use Rattle.mufom_task.specs.Inputs.{module_files}
 use Rattle.mufom_task.specs.Calls.{Call}
 use Rattle.mufom_task.specs.Tasks.{request_of}
 use Rattle.mufom_command.specs.Roots.{Roots, roots_by}
@@ -88,7 +89,7 @@ after_link ms output = do
 abbrev pub link_of_list : Option (List ℕ) → List ℕ → List Parts → Work Stop Output
 link_of_list name out ms = after_link ms (linked_file name out ms)
 
-abbrev pub location_of_list : Option Roots → Product → FileNames → List Origin → Plan → List Parts → Work Stop Output
+abbrev pub location_of_list : Option Roots → Product → ModuleFiles → List Origin → Plan → List Parts → Work Stop Output
 location_of_list keep p names origins plan ms = after_link ms (locating_kept (product_with p names origins plan) keep plan ms)
 
 -- The work of a task whose files were linked in stages is its work over the list that the stages began with, whether or not that list can be linked. A
@@ -97,7 +98,7 @@ location_of_list keep p names origins plan ms = after_link ms (locating_kept (pr
 pub record AreFlatRuns (files : List NamedFile) (inputs : Inputs) (plan : Plan) (own : List FileModule) (leaves : List Parts) : Type 0 where
   pub linked : (name : Option (List ℕ)) (out : List ℕ) → IsSameWork (work_of (task.Link inputs name out) files) (link_of_list name out leaves)
   pub located : (keep : List (List ℕ)) (p : Product)
-      → IsSameWork (work_of (task.Locate inputs keep p) files) (location_of_list (roots_by keep plan) p inputs.files (origins_of own) plan leaves)
+      → IsSameWork (work_of (task.Locate inputs keep p) files) (location_of_list (roots_by keep plan) p (module_files files inputs) (origins_of own) plan leaves)
 
 abbrev pub StagedRunsAreFlat : Type 0
 StagedRunsAreFlat =

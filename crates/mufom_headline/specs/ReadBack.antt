@@ -1,5 +1,5 @@
 -- Files of modules: what a later run reads from them, and their bytes.
-use Rattle.std.specs.Prelude.{◌≡◌, ◌↔◌, ◌≤◌, ℕ, Bool, true, List, [], ◌∷◌, length, slice_get, Some}
+use Rattle.std.specs.Prelude.{◌≡◌, ◌↔◌, ◌<◌, ◌≤◌, ℕ, Bool, true, List, [], ◌∷◌, length, slice_get, Some}
 use Rattle.mufom_numbers.specs.declared.limits.TheConstants.{MOST_FILE_BYTES}
 use Rattle.mufom_host.specs.World.{NamedFile, file_named}
 use Rattle.mufom_module.specs.declared.module.Parts.{Parts}
@@ -10,8 +10,16 @@ use Rattle.mufom_read.specs.Judging.{IsModule}
 use Rattle.mufom_groups.specs.Work.{gives}
 use Rattle.mufom_task.specs.declared.task.Inputs.{Inputs}
 use Rattle.mufom_task.specs.Calls.{Call}
+use Rattle.mufom_task.specs.Inputs.{module_files, root_count}
 use Rattle.mufom_task.specs.Reading.{modules_in}
 use Rattle.mufom_command.specs.Run.{MakesFile}
+
+-- The module is one of those that are read for a task, at the place of the file with this number and name. A root has the place of its file.
+pub record IsReadAt (files : List NamedFile) (c : Inputs) (ms : List Parts) (k : ℕ) (name : List ℕ) (m : Parts) : Type 0 where
+  pub place : ℕ
+  pub file : slice_get (module_files files c) place ≡ Some (record { number = k; name = name })
+  pub read : slice_get ms place ≡ Some m
+  pub root : k < root_count c → place ≡ k
 
 -- The written form of the module is a file of this module, with its debug part, and of no other module, whether or not the forms of GNU binutils are
 -- accepted. A task that does not skip debug parts and
@@ -20,7 +28,7 @@ pub record IsReadBack (m : Parts) : Type 0 where
   pub file : (gnu : Bool) (n : Parts) → IsModule (record { debug = true; gnu = gnu }) (written m) n ↔ (n ≡ m)
   pub place : (files : List NamedFile) (c : Inputs) (ms : List Parts) (k : ℕ) (name : List ℕ)
       → file_named name files ≡ Some (written m) → c.options.debug ≡ true → slice_get c.files k ≡ Some name → modules_in files c (gives ms)
-      → slice_get ms k ≡ Some m
+      → IsReadAt files c ms k name m
   pub alone : (files : List NamedFile) (c : Inputs) (name : List ℕ)
       → file_named name files ≡ Some (written m) → c.options.debug ≡ true → c.files ≡ name ∷ [] → modules_in files c (gives (m ∷ []))
 

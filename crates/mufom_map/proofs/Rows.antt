@@ -15,14 +15,15 @@ use Rattle.mufom_plan.specs.declared.plan.SymbolValue.TheVariants.{Load, Start}
 use Rattle.mufom_meaning.specs.declared.located.LocatedParts.{LocatedParts}
 use Rattle.mufom_origins.specs.Origins.{numbered}
 use Rattle.mufom_origins.specs.Places.{with_chosen}
+use Rattle.mufom_origins.specs.Words.{ModuleFiles, one_each}
 use Rattle.mufom_text.specs.Words.{line}
 use Rattle.mufom_map.specs.Mapped.{mapped}
 use Rattle.mufom_map.specs.MapText.{address_text, map_text}
 use Rattle.mufom_text.specs.Digits.{hex}
 use Rattle.mufom_map.specs.Room.{signs_from}
 
-abbrev files : List (List ℕ)
-files = codes "a.695" ∷ codes "b.695" ∷ codes "m1" ∷ []
+abbrev files : ModuleFiles
+files = one_each 0 (codes "a.695" ∷ codes "b.695" ∷ codes "m1" ∷ [])
 
 abbrev first : Parts
 first = record {

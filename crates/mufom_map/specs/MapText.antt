@@ -7,7 +7,7 @@ use Rattle.mufom_place.specs.declared.placing.Extent.{Extent}
 use Rattle.mufom_text.specs.Words.{Text, each, line, quoted}
 use Rattle.mufom_text.specs.Digits.{counted, hex}
 use Rattle.mufom_origins.specs.declared.origins.Origin.{Origin}
-use Rattle.mufom_origins.specs.Words.{FileNames, module_text}
+use Rattle.mufom_origins.specs.Words.{ModuleFiles, module_text}
 use Rattle.mufom_map.specs.Mapped.{Mapped, MappedPublic, MappedSection}
 use Rattle.mufom_map.specs.Room.{bar, used_in}
 use Rattle.mufom_map.specs.Spot.{public_below, section_at}
@@ -43,7 +43,7 @@ by_key key (x ∷ xs) = put_in key x (by_key key xs)
 
 -- ---- lines
 
-abbrev pub module_line : FileNames → ℕ → Origin → Text
+abbrev pub module_line : ModuleFiles → ℕ → Origin → Text
 module_line names j o = line (module_text names j o.file o.name)
 
 abbrev pub extent_of : MappedSection → Extent
@@ -93,9 +93,9 @@ total_line m = line (counted (codes "sections ") (length m.sections)
 
 -- ---- the whole
 
--- the text of a map, given the names of all files: modules, regions and entries that place no section in their order, sections, commons and copies
+-- the text of a map, given the files of all modules: modules, regions and entries that place no section in their order, sections, commons and copies
 -- by base and then by number, publics by value and then by position
-abbrev pub map_text : FileNames → Mapped → Text
+abbrev pub map_text : ModuleFiles → Mapped → Text
 map_text names m =
     each (module_line names) m.origins
     ++ (each (region_line m.maus (map extent_of m.sections)) m.regions ++ (each unused_lines m.unused
@@ -124,6 +124,6 @@ abbrev pub address_text : ℕ → Mapped → Text
 address_text address m = spot_text m.maus address m.sections m.publics
 
 -- the whole map, or the lines of an address
-abbrev pub view_text : FileNames → Option ℕ → Mapped → Text
+abbrev pub view_text : ModuleFiles → Option ℕ → Mapped → Text
 view_text names None m = map_text names m
 view_text names (Some address) m = address_text address m

@@ -12,8 +12,8 @@ use mufom_host::MemHost;
 use mufom_image::{LocateRefusal, locate};
 use mufom_module::{Module, Order, Parts, assemble};
 use mufom_names::{Reference, Weak};
-use mufom_numbers::{Bytes, List, Text};
-use mufom_origins::Origins;
+use mufom_numbers::{Bytes, List};
+use mufom_origins::{ModuleFiles, Origins};
 use mufom_plan::{Plan, read_plan};
 use mufom_sections::Section;
 use mufom_text::print_lines;
@@ -97,14 +97,15 @@ fn module(
     assemble(parts).ok().expect(rt, "a module")
 }
 
-// The names of the files of modules `a` and `b`.
-fn files(rt: &impl Abort, alloc: Global) -> Vec<Text> {
-    let mut names = Vec::new(alloc);
+// The files of modules `a` and `b`.
+fn files(rt: &impl Abort, alloc: Global) -> Vec<ModuleFile> {
+    let mut files = Vec::new(alloc);
     for name in ["a.695", "b.695"] {
-        let text = Text::from_str(alloc, name).expect(rt, "memory");
-        names.push(text).expect(rt, "memory");
+        let name = bytes(rt, alloc, name.as_bytes());
+        let number = files.len() as u32;
+        files.push(ModuleFile { number, name }).expect(rt, "memory");
     }
-    names
+    files
 }
 
 // Whether each region is loaded where it is.

@@ -2,7 +2,7 @@
 use Rattle.std.proofs.Common.{◌≡◌, ◌⊎◌, ◌≤◌, ℕ, Bool, false, true, nat_lt, List, length, Option, Some, None, refl, sym, subst, arith, inl, inr}
 use Rattle.mufom_host.specs.World.{HoldBytes, NamedFile}
 use Rattle.mufom_map.specs.Mapped.{Mapped}
-use Rattle.mufom_origins.specs.Words.{FileNames}
+use Rattle.mufom_origins.specs.Words.{ModuleFiles}
 use Rattle.mufom_origins.specs.Origins.{origins_of}
 use Rattle.mufom_module.specs.declared.module.Parts.{Parts}
 use Rattle.mufom_plan.specs.declared.plan.Plan.{Plan}
@@ -55,7 +55,7 @@ module _ (output : Kept → LocatedParts → Work Stop Output) (keep : Option Ro
 bytes-never : (o : Option BinRefusal) → o ≡ None → (name bytes : List ℕ) (s : Stop) → bytes_unless o name bytes (stops s) → ⊥
 bytes-never o none name bytes s ends = subst (λ (p : Option BinRefusal). bytes_unless p name bytes (stops s)) none ends
 
-pub product-never : (p : Product) (names : FileNames) (shown : Mapped) (r : LocatedParts) → bytes_fact p shown.regions r ≡ None → (s : Stop)
+pub product-never : (p : Product) (names : ModuleFiles) (shown : Mapped) (r : LocatedParts) → bytes_fact p shown.regions r ≡ None → (s : Stop)
     → product_of p names shown r (stops s) → ⊥
 product-never (product.Absolute out) names shown r may s (held, never) = never
 product-never (product.Raw fill out) names shown r may s ends =

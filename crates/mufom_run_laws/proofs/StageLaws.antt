@@ -27,7 +27,7 @@ use Rattle.mufom_outcome.specs.Stop.{Stop, keep_unknown, link_fact}
 use Rattle.mufom_origins.specs.declared.origins.Origin.{Origin}
 use Rattle.mufom_origins.specs.Origins.{FileModule, origins_of}
 use Rattle.mufom_map.specs.Mapped.{Mapped}
-use Rattle.mufom_origins.specs.Words.{FileNames}
+use Rattle.mufom_origins.specs.Words.{ModuleFiles}
 use Rattle.mufom_task.specs.declared.task.Inputs.{Inputs}
 use Rattle.mufom_task.specs.declared.task.Product.{Product}
 use Rattle.mufom_task.specs.declared.task.Task.TheVariants as task
@@ -140,7 +140,7 @@ module _ (plan : Plan) (symbols : HasSoundSymbols plan) (ms leaves : List Parts)
         then-same (kept_of (Some roots) ms) (kept_of (Some roots) leaves) next next (kept-same roots) (λ kept. same-work (next kept))
 
   -- whatever is made of the location of the whole list, with these origins
-  product-same : (p : Product) (names : FileNames) (origins : List Origin) (r : LocatedParts) → located plan ms (gives r)
+  product-same : (p : Product) (names : ModuleFiles) (origins : List Origin) (r : LocatedParts) → located plan ms (gives r)
       → IsSameWork (product_with p names origins plan (all_of ms) r) (product_with p names origins plan (all_of leaves) r)
   product-same p names origins r there =
       subst (λ (shown : Mapped). IsSameWork (product_with p names origins plan (all_of ms) r) (product_of p names shown r))

@@ -33,9 +33,9 @@ use Rattle.mufom_run_laws.specs.RunLaws.{Accepts, HasNoFact}
 -- Files that exist, and hold bytes, have a result when they are read in order: the modules of all, or the first error.
 abbrev pub FilesHaveAVerdict : Type 0
 FilesHaveAVerdict =
-    (options : ReadOptions) (files : List NamedFile) (names : List (List ℕ))
+    (options : ReadOptions) (roots : ℕ) (files : List NamedFile) (names : List (List ℕ))
     → HoldBytes files → AllByRecursion (λ name. IsSome (file_named name files)) names
-    → (verdict : Verdict) × ComeTo options files names verdict
+    → (verdict : Verdict) × ComeTo options roots files names verdict
 
 -- ---- selected members
 

@@ -26,7 +26,7 @@ use Rattle.mufom_outcome.specs.declared.outcome.Outcome.{Outcome}
 use Rattle.mufom_outcome.specs.declared.outcome.Outcome.TheVariants as outcome
 use Rattle.mufom_numbers.specs.declared.limits.TheConstants.{MOST_FILE_BYTES}
 use Rattle.mufom_origins.specs.declared.origins.Origin.{Origin}
-use Rattle.mufom_origins.specs.Words.{FileNames}
+use Rattle.mufom_origins.specs.Words.{ModuleFiles}
 use Rattle.mufom_origins.specs.Origins.{FileModule, origins_of}
 use Rattle.mufom_command.specs.FlatFiles.{AreFlatFiles}
 use Rattle.mufom_outcome.specs.Stop.{Stop}
@@ -37,6 +37,7 @@ use Rattle.mufom_task.specs.declared.task.Product.{Product}
 use Rattle.mufom_task.specs.declared.task.Product.TheVariants as product
 use Rattle.mufom_task.specs.declared.task.Request.TheVariants as request
 use Rattle.mufom_task.specs.declared.task.Task.TheVariants as task
+use Rattle.mufom_task.specs.Inputs.{module_files}
 use Rattle.mufom_task.specs.Reading.{plan_in, modules_in}
 use Rattle.mufom_task.specs.Tasks.{request_of}
 use Rattle.mufom_command.specs.Contract.{Answers, run_of}
@@ -109,7 +110,7 @@ IsSameWork {A = A} first second = (reached : Reached Stop A) → first reached �
 -- so it is the same for the same modules: a partial link forgets the modules that it was made of.
 pub record PutOutAlike (plan : Plan) (ms leaves : List Parts) : Type 0 where
   pub linked : (name : Option (List ℕ)) (out : List ℕ) → IsSameWork (linked_file name out ms) (linked_file name out leaves)
-  pub located : (keep : Option Roots) (p : Product) (names : FileNames) (origins : List Origin)
+  pub located : (keep : Option Roots) (p : Product) (names : ModuleFiles) (origins : List Origin)
       → IsSameWork (locating_kept (product_with p names origins plan) keep plan ms) (locating_kept (product_with p names origins plan) keep plan leaves)
 
 -- `ms` was made from `leaves` in stages of partial links; the modules of `leaves` have no defect, have one descriptor, and define no public name
@@ -137,7 +138,7 @@ pub record AreRunsOf (files : List NamedFile) (inputs : Inputs) (plan : Plan) (o
   pub linked : (name : Option (List ℕ)) (out : List ℕ) → IsSameWork (work_of (task.Link inputs name out) files) (linked_file name out list)
   pub located : (keep : List (List ℕ)) (p : Product)
       → IsSameWork (work_of (task.Locate inputs keep p) files)
-      (locating_kept (product_with p inputs.files (origins_of own) plan) (roots_by keep plan) plan list)
+      (locating_kept (product_with p (module_files files inputs) (origins_of own) plan) (roots_by keep plan) plan list)
 
 -- So a task whose files were linked in stages has the output for the list that the stages began with.
 abbrev pub RunsOfStages : Type 0
@@ -179,6 +180,6 @@ pub record IsFileOfLocation (keep : Option Roots) (out : List ℕ) (plan : Plan)
 -- read back from the file.
 abbrev pub AbsoluteFilesStand : Type 0
 AbsoluteFilesStand =
-    (keep : Option Roots) (out : List ℕ) (names : FileNames) (origins : List Origin) (plan : Plan) (flat : List Parts) (output : Output)
+    (keep : Option Roots) (out : List ℕ) (names : ModuleFiles) (origins : List Origin) (plan : Plan) (flat : List Parts) (output : Output)
     → HasSoundSymbols plan → AreValid flat → locating_kept (product_with (product.Absolute out) names origins plan) keep plan flat (gives output)
     → IsFileOfLocation keep out plan flat output
