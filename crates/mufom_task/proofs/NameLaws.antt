@@ -78,7 +78,7 @@ files-listed number name None (Some (m ∷ names)) ms are many = absurd (let wro
 pub files-many : (number : ℕ) (name : List ℕ) (names : Option (List (List ℕ))) (ms : List Parts) → AreAsMany names ms
     → length (files_of_one number name names) ≡ length ms
 files-many number name None ms many = sym many
-files-many number name (Some names) ms many = length-map (λ (m : List ℕ). record { number = number; name = member_word name m }) names ∙ many
+files-many number name (Some names) ms many = length-map names (λ (m : List ℕ). record { number = number; name = member_word name m }) ∙ many
 
 -- ---- the names of a file
 

@@ -53,7 +53,9 @@ begins-module record_ bytes next (x, prefix, back, spelled, rest, same) = by_tes
 starts-differ : (bytes more : List ℕ) → bytes ≡ MODULE_BEGIN ∷ more → BeginsArchive bytes → ⊥
 starts-differ bytes more is begins =
     let whole : take 8 (MODULE_BEGIN ∷ more) ≡ signature = ap (λ (l : List ℕ). take 8 l) (sym is) ∙ begins in
-    let first : MODULE_BEGIN ≡ 33 = cc in omega (arith, first)
+    let first : Some MODULE_BEGIN ≡ Some 33 = ap (λ (l : List ℕ). first_of l None) whole in
+    let same : MODULE_BEGIN ≡ 33 = cc in
+    let code : MODULE_BEGIN ≡ 224 = refl in omega (arith, same, code)
 
 pub not-archive : (options : ReadOptions) (bytes : List ℕ) (m : Parts) → IsModule options bytes m → ¬ BeginsArchive bytes
 not-archive options bytes m (f, is, _) begins =
