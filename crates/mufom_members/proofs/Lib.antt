@@ -5,6 +5,7 @@ pub mod Chunks
 pub mod Steps
 pub mod Inside
 pub mod NameLaws
+pub mod FileNames
 pub mod Taking
 pub mod Gathering
 pub mod Finishing
