@@ -163,6 +163,7 @@ module _ (options : ReadOptions) (roots : ℕ) where
     pub count : HaveCounts roots done (length ms)
     pub valid : AreValid ms
     pub light : total_weight ms + 10 * room ≤ most_weight
+    pub within : done ≤ length names
 
   accepted_first : (files : Option (List NamedFile)) (names : List (List ℕ)) → IfSome files (λ fs. AreRead fs (take 0 names) [] [] most_input_bytes)
   accepted_first None names = tt
@@ -179,6 +180,7 @@ module _ (options : ReadOptions) (roots : ℕ) where
     count = record { few = λ within. refl; many = λ within. within };
     valid = tt;
     light = omega arith;
+    within = omega arith;
   }
 
   -- these are the files of the modules that were read of a file with this number and name
@@ -202,7 +204,7 @@ module _ (options : ReadOptions) (roots : ℕ) where
       → FileHas name files (HasFile options (nat_lt number roots) room read)
       → IfSome files (λ fs. AreRead fs more (ms ++ read.modules) (module_files ++ own) (room - read.length))
   accepted_next None prefix more name number ms module_files own room read is place are so_far next = tt
-  accepted_next (Some fs) prefix more name number ms module_files own room read is place are so_far (bytes, there, (names, (has, (named, (size, fits))))) =
+  accepted_next (Some fs) prefix more name number ms module_files own room read is place are so_far (bytes, there, (names, has, named, size, fits)) =
       let contents = so_far.contents in record {
         contents = contents ++ bytes ∷ [];
         accepted = subst (λ (names : List (List ℕ)). AreAccepted options roots fs names (contents ++ bytes ∷ []) (ms ++ read.modules)) (sym is)
@@ -249,8 +251,8 @@ module _ (options : ReadOptions) (roots : ℕ) where
     pub have_read_more : (read : Members) (own : List ModuleFile) → AreFilesOf number name read own → AreValid read.modules → (total_weight read.modules ≤ 10 * read.length) × (read.length ≤ room)
         → (is_root ≡ true → length read.modules ≡ 1)
         → FileHas name mid.files (HasFile options is_root room read) → GrowsBy mid.opened new.opened (name ∷ [])
-        → HaveRead names (number + 1) (ms ++ read.modules) (module_files ++ own) (room - read.length) old new before now
-    have_read_more read own are valid weighs one has opened = record {
+        → number < length names → HaveRead names (number + 1) (ms ++ read.modules) (module_files ++ own) (room - read.length) old new before now
+    have_read_more read own are valid weighs one has opened inside = record {
       files = accepted_next old.files (take number names) (take (number + 1) names) name number ms module_files own room read next place are
           so_far.files (subst (λ (o : Option (List NamedFile)). FileHas name o (HasFile options is_root room read)) files_same has);
       fits = let fits = so_far.fits in omega (arith, fits);
@@ -264,6 +266,7 @@ module _ (options : ReadOptions) (roots : ℕ) where
       valid = valid-both ms read.modules so_far.valid valid;
       light = let sum = sum_by-append weight ms read.modules in let light = so_far.light in let own = weighs.0 in let within = weighs.1 in
           omega (arith, sum, light, own, within);
+      within = omega (arith, inside);
     }
 
     at_file : (P : ℕ → List ℕ → Type 0) (i : ℕ) (files : Option (List NamedFile)) → names ≡ take number names ++ name ∷ drop (number + 1) names
@@ -377,11 +380,11 @@ module _ (options : ReadOptions) (roots : ℕ) where
 
   pub all_read : (names : List (List ℕ)) (done : ℕ) (ms : List Parts) (module_files : List ModuleFile) (room : ℕ) (old now : Meaning)
       (before after : Faults)
-      → HaveRead names done ms module_files room old now before after → length names ≤ done → done ≤ length names
-      → AllRead names ms module_files old now
-  all_read names done ms module_files room old now before after them enough within =
+      → HaveRead names done ms module_files room old now before after → length names ≤ done → AllRead names ms module_files old now
+  all_read names done ms module_files room old now before after them enough =
       let is = take_all done names enough in
       let light = them.light in
+      let within = them.within in
       let same : done ≡ length names = omega (arith, enough, within) in record {
         come = accepted_all old.files names done ms module_files room is them.files;
         files = files_all old.files names done ms module_files room is them.files;

@@ -10,15 +10,8 @@ use Rattle.mufom_members.specs.Names.{AreNames, member_names, name_at}
 use Rattle.mufom_origins.specs.Words.{ModuleFile, member_word, own_files, own_from}
 use Rattle.mufom_task.specs.Inputs.{IsFileVerdict, files_of_one, members_if}
 use Rattle.mufom_task.specs.FilesRead.{AreAsMany}
+use Rattle.mufom_members.proofs.FileNames.{names-of-modules, verdicts-have-names}
 use Rattle.mufom_task.proofs.FileLaws.{never-prefix}
-
-verdicts-have-names : (options : ReadOptions) (limit : ℕ) (bytes : List ℕ) (names : Option (List (List ℕ))) (ms : List Parts)
-    → IsVerdict options limit bytes (accepted names ms) → names ≡ member_names bytes
-verdicts-have-names options limit bytes names ms is = {! !}
-
-names-of-modules : (options : ReadOptions) (limit : ℕ) (bytes : List ℕ) (names : List (List ℕ)) (ms : List Parts)
-    → IsVerdict options limit bytes (accepted (Some names) ms) → length names ≡ length ms
-names-of-modules options limit bytes names ms is = {! !}
 
 plain-many : (options : ReadOptions) (limit : ℕ) (bytes : List ℕ) (names : Option (List (List ℕ))) (ms : List Parts)
     → IsPlainVerdict options limit bytes (accepted names ms) → AreAsMany names ms
@@ -36,7 +29,7 @@ members-many : (options : ReadOptions) (limit : ℕ) (bytes : List ℕ) (names :
     → IsVerdict options limit bytes (accepted names ms) → AreAsMany names ms
 members-many options limit bytes (Some names) ms is = names-of-modules options limit bytes names ms is
 members-many options limit bytes None ms (inl (begins, inl is)) = absurd is.1
-members-many options limit bytes None ms (inl (begins, inr (many, first, whole, same))) = absurd (never-prefix (take limit bytes) None ms first same)
+members-many options limit bytes None ms (inl (begins, inr (many, (first, whole, same)))) = absurd (never-prefix (take limit bytes) None ms first same)
 members-many options limit bytes None ms (inr is) = plain-many options limit bytes None ms is.1
 
 -- there is a name for each module, or there are no names and one module

@@ -58,7 +58,7 @@ starts-differ bytes more is begins =
     let code : MODULE_BEGIN ≡ 224 = refl in omega (arith, same, code)
 
 pub not-archive : (options : ReadOptions) (bytes : List ℕ) (m : Parts) → IsModule options bytes m → ¬ BeginsArchive bytes
-not-archive options bytes m (f, is, _) begins =
+not-archive options bytes m (f, is, _, _, _) begins =
     let first = begins-module f.begin.row f.begin.bytes (first_of (bytes_of (f.descriptor ∷ f.offsets) ++ after_header f) None) is.header.0 in
     starts-differ bytes ((first.0 ++ bytes_of (f.descriptor ∷ f.offsets)) ++ after_header f)
     (is.all ∙ ap (λ (l : List ℕ). (l ++ bytes_of (f.descriptor ∷ f.offsets)) ++ after_header f) first.1) begins
