@@ -39,9 +39,9 @@ never-prefix bytes names ms (refused offset reason) same = cc
 never-prefix bytes names ms past_limit same = cc
 never-prefix bytes names ms (bad_archive offset) same =
     by_test (lacks_header bytes offset) same where
-  by_test : (b : Bool) → accepted names ms ≡ (if b then bad_archive offset else past_limit) → ⊥
-  by_test true is = cc
-  by_test false is = cc
+      by_test : (b : Bool) → accepted names ms ≡ (if b then bad_archive offset else past_limit) → ⊥
+      by_test true is = cc
+      by_test false is = cc
 
 members-within : (options : ReadOptions) (limit other : ℕ) (bytes : List ℕ) (names : Option (List (List ℕ))) (ms : List Parts)
     → IsVerdict options limit bytes (accepted names ms) → length bytes ≤ other → IsVerdict options other bytes (accepted names ms)

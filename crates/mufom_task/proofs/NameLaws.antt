@@ -49,8 +49,8 @@ listed-files number name l count k (m ∷ names) are =
     let first : name_at (Some l) k ≡ Some m = subst (λ (n : ℕ). name_at (Some l) n ≡ Some m) here (are 0) in
     let rest = listed-files number name l count (suc k) names (λ j. next j) in
     (λ i. record { number = number; name = member_word name (unwrap_or (first i) []) } ∷ rest i) where
-  next : (j : ℕ) → name_at (Some l) (suc k + j) ≡ slice_get names j
-  next j = let later : k + suc j ≡ suc k + j = omega arith in subst (λ (n : ℕ). name_at (Some l) n ≡ slice_get names j) later (are (suc j))
+      next : (j : ℕ) → name_at (Some l) (suc k + j) ≡ slice_get names j
+      next j = let later : k + suc j ≡ suc k + j = omega arith in subst (λ (n : ℕ). name_at (Some l) n ≡ slice_get names j) later (are (suc j))
 
 -- the files of the modules of a file by its listing are those by the names of its members
 pub files-listed : (number : ℕ) (name : List ℕ) (listing : Option Listing) (names : Option (List (List ℕ))) (ms : List Parts) → AreNames listing names
@@ -61,8 +61,8 @@ files-listed number name listing None ms are many =
 files-listed number name (Some l) (Some names) ms are many =
     ap (λ (n : ℕ). own_from (record { number = number; name = name; listing = Some l; modules = length ms }) 0 n) (sym many)
     ∙ listed-files number name l (length ms) 0 names (λ j. shown j) where
-  shown : (j : ℕ) → name_at (Some l) (0 + j) ≡ slice_get names j
-  shown j = let same : j ≡ 0 + j = omega arith in subst (λ (n : ℕ). name_at (Some l) n ≡ slice_get names j) same (are j)
+      shown : (j : ℕ) → name_at (Some l) (0 + j) ≡ slice_get names j
+      shown j = let same : j ≡ 0 + j = omega arith in subst (λ (n : ℕ). name_at (Some l) n ≡ slice_get names j) same (are j)
 files-listed number name None (Some []) ms are many =
     ap (λ (n : ℕ). own_from (record { number = number; name = name; listing = None; modules = length ms }) 0 n) (sym many)
 files-listed number name None (Some (m ∷ names)) ms are many = absurd (let wrong : None ≡ Some m = are 0 in cc)

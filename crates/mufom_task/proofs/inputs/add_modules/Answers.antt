@@ -1,8 +1,6 @@
 use Rattle.std.proofs.Common.{◌++◌, ◌∷◌, [], List, ap, ◌∙◌, append_assoc}
 use Rattle.mufom_module.specs.declared.module.Parts.{Parts}
 use Rattle.mufom_task.proofs.InputLaws.{valid-both}
-use Rattle.mufom_task.proofs.Verdicts.{one_verdict}
-use Rattle.mufom_task.proofs.RootLaws.{roots-only}
 use Rattle.mufom_task.proofs.inputs.add_modules.Goals as goal
 
 pub loop-entry-preserved : goal.loop-entry-preserved
