@@ -110,6 +110,7 @@ module _ (c : Inputs) (name : List ℕ) (no_plan : c.plan ≡ None) (one : c.fil
   )
   reading-stops (outcome.ReadFault input.Plan) why = absurd why
   reading-stops (outcome.Refused (refusal.Read n r)) why = absurd why
+  reading-stops (outcome.Refused (refusal.TooManyModules n)) why = absurd why
   reading-stops (outcome.Refused (refusal.TooManyFiles n)) why = absurd why
   reading-stops (outcome.Refused (refusal.TooDeep n)) why = absurd why
   reading-stops (outcome.Refused (refusal.Plan r)) why = absurd why
@@ -130,6 +131,7 @@ module _ (c : Inputs) (name : List ℕ) (no_plan : c.plan ≡ None) (one : c.fil
   text-count (outcome.ReadFault (input.File n)) (zero, rose) = omega (arith, zero, no-plan-count)
   text-count (outcome.ReadFault input.Plan) why = absurd why
   text-count (outcome.Refused (refusal.Read n r)) why = absurd why
+  text-count (outcome.Refused (refusal.TooManyModules n)) why = absurd why
   text-count (outcome.Refused (refusal.TooManyFiles n)) why = absurd why
   text-count (outcome.Refused (refusal.TooDeep n)) why = absurd why
   text-count (outcome.Refused (refusal.Plan r)) why = absurd why
@@ -166,6 +168,7 @@ pub text-names : (plan : Option (List ℕ)) (name : List ℕ) (call : Call) (sto
 text-names plan name told (outcome.Refused (refusal.Plan r)) why = absurd why
 text-names plan name told (outcome.Refused (refusal.Read n r)) why = tt
 text-names plan name told (outcome.Refused (refusal.InputLimit n)) why = tt
+text-names plan name told (outcome.Refused (refusal.TooManyModules n)) why = tt
 text-names plan name told (outcome.Refused (refusal.TooManyFiles n)) why = tt
 text-names plan name told (outcome.Refused (refusal.TooDeep n)) why = tt
 text-names plan name told (outcome.Refused (refusal.Link l)) why = tt
