@@ -1,5 +1,5 @@
 -- The verdicts on one file: it has one, and one with modules is the same within each limit that the file keeps.
-use Rattle.std.proofs.Common.{◌≡◌, ◌⊎◌, ℕ, ◌+◌, ◌<◌, ◌≤◌, ◌&&◌, nat_le, is_none, Bool, true, false, cond, if◌then◌else◌, List, [], ◌∷◌, length, take}
+use Rattle.std.proofs.Common.{◌≡◌, ℕ, ◌<◌, ◌≤◌, Bool, true, false, if◌then◌else◌, List, [], ◌∷◌, length, take}
 use Rattle.std.proofs.Common.{Option, Some, None, refl, sym, ap, subst, ◌∙◌, inl, inr, arith}
 use Rattle.std.proofs.lemmas.List.{take_all}
 use Rattle.mufom_numbers.specs.Spelling.{AreBytes}
@@ -11,7 +11,7 @@ use Rattle.mufom_read.specs.declared.refusal.ReadRefusal.{ReadRefusal}
 use Rattle.mufom_read.specs.Judging.{IsJudged, IsModule, module_of, refusal}
 use Rattle.mufom_read.specs.Laws.{HasOneJudgment}
 use Rattle.mufom_read.specs.Source.{IsPastLimit, IsRefusedWithin}
-use Rattle.mufom_archive.specs.Entries.{entry_at}
+use Rattle.mufom_archive.specs.Entries.{lacks_header}
 use Rattle.mufom_members.specs.Files.{IsPlainVerdict, IsVerdict, Verdict, accepted, bad_archive, past_limit, refused, verdict_on_prefix}
 use Rattle.mufom_members.proofs.OneVerdict.{one_verdict as one_members_verdict}
 use Rattle.mufom_task.specs.Inputs.{HasModules, IsFilePast, IsFileRefused, IsFileVerdict}
@@ -38,22 +38,22 @@ never-prefix bytes names ms (accepted others more) same = cc
 never-prefix bytes names ms (refused offset reason) same = cc
 never-prefix bytes names ms past_limit same = cc
 never-prefix bytes names ms (bad_archive offset) same =
-    by_test (nat_le (offset + 60) (length bytes) && is_none (entry_at bytes offset)) same where
-  by_test : (b : Bool) → accepted names ms ≡ (if b then bad_archive offset else past_limit) → ⊥
-  by_test true is = cc
-  by_test false is = cc
+    by_test (lacks_header bytes offset) same where
+      by_test : (b : Bool) → accepted names ms ≡ (if b then bad_archive offset else past_limit) → ⊥
+      by_test true is = cc
+      by_test false is = cc
 
 members-within : (options : ReadOptions) (limit other : ℕ) (bytes : List ℕ) (names : Option (List (List ℕ))) (ms : List Parts)
     → IsVerdict options limit bytes (accepted names ms) → length bytes ≤ other → IsVerdict options other bytes (accepted names ms)
 members-within options limit other bytes names ms (inl (begins, inl is)) fits = inl (begins, inl (fits, is.1))
-members-within options limit other bytes names ms (inl (begins, inr (many, first, whole, same))) fits =
+members-within options limit other bytes names ms (inl (begins, inr (many, (first, whole, same)))) fits =
     absurd (never-prefix (take limit bytes) names ms first same)
 members-within options limit other bytes names ms (inr is) fits = inr (is.0, plain-within options limit other bytes names ms is.1 fits)
 
 members-fits : (options : ReadOptions) (limit : ℕ) (bytes : List ℕ) (names : Option (List (List ℕ))) (ms : List Parts)
     → IsVerdict options limit bytes (accepted names ms) → length bytes ≤ limit
 members-fits options limit bytes names ms (inl (begins, inl is)) = is.0
-members-fits options limit bytes names ms (inl (begins, inr (many, first, whole, same))) = absurd (never-prefix (take limit bytes) names ms first same)
+members-fits options limit bytes names ms (inl (begins, inr (many, (first, whole, same)))) = absurd (never-prefix (take limit bytes) names ms first same)
 members-fits options limit bytes names ms (inr is) = plain-fits options limit bytes names ms is.1
 
 pub verdict-within : (options : ReadOptions) (root : Bool) (limit other : ℕ) (bytes : List ℕ) (names : Option (List (List ℕ))) (ms : List Parts)

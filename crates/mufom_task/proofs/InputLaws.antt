@@ -20,7 +20,8 @@ use Rattle.mufom_members.specs.declared.members.Members.{Members}
 use Rattle.mufom_members.specs.Files.{accepted as verdict_accepted}
 use Rattle.mufom_members.specs.Names.{AreNames}
 use Rattle.mufom_task.specs.Inputs.{AreAccepted, AreModules, ComeTo, HasModules, HaveBytes, IsFilePast, IsFileRefused, IsFileVerdict, StopsAt, accepted}
-use Rattle.mufom_task.specs.Inputs.{files_from, files_of_one, members_if, most_input_bytes, room_after}
+use Rattle.mufom_task.specs.declared.task.Inputs.{Inputs}
+use Rattle.mufom_task.specs.Inputs.{HaveRoots, files_from, files_of_one, members_if, most_input_bytes, room_after, root_count}
 use Rattle.mufom_task.specs.FilesRead.{FileHas, FileStops, FilesStop, AreAsMany, HasFile, HaveCounts, IsFileCount, OpensFiles}
 use Rattle.mufom_groups.specs.Groups.{most_weight}
 use Rattle.mufom_task.specs.Calls.{Call}
@@ -80,8 +81,8 @@ grows_then a b (Some list) xs ys first second = grows_by_both a b (Some list) xs
 -- ---- what files have, one file after another
 
 pub have-length : (files : List NamedFile) (names contents : List (List ℕ)) → HaveBytes files names contents → length names ≡ length contents
-have-length files names contents have = sym (length-map (λ name. file_named name files) names)
-    ∙ ap (λ (l : List (Option (List ℕ))). length l) have ∙ length-map (λ bytes. Some bytes) contents
+have-length files names contents have = sym (length-map names (λ name. file_named name files))
+    ∙ ap (λ (l : List (Option (List ℕ))). length l) have ∙ length-map contents (λ bytes. Some bytes)
 
 -- the files of the modules of one file among others
 abbrev pub file_own : List NamedFile → (roots number : ℕ) → List ℕ → List ModuleFile
@@ -162,6 +163,7 @@ module _ (options : ReadOptions) (roots : ℕ) where
     pub count : HaveCounts roots done (length ms)
     pub valid : AreValid ms
     pub light : total_weight ms + 10 * room ≤ most_weight
+    pub within : done ≤ length names
 
   accepted_first : (files : Option (List NamedFile)) (names : List (List ℕ)) → IfSome files (λ fs. AreRead fs (take 0 names) [] [] most_input_bytes)
   accepted_first None names = tt
@@ -178,6 +180,7 @@ module _ (options : ReadOptions) (roots : ℕ) where
     count = record { few = λ within. refl; many = λ within. within };
     valid = tt;
     light = omega arith;
+    within = omega arith;
   }
 
   -- these are the files of the modules that were read of a file with this number and name
@@ -201,32 +204,37 @@ module _ (options : ReadOptions) (roots : ℕ) where
       → FileHas name files (HasFile options (nat_lt number roots) room read)
       → IfSome files (λ fs. AreRead fs more (ms ++ read.modules) (module_files ++ own) (room - read.length))
   accepted_next None prefix more name number ms module_files own room read is place are so_far next = tt
-  accepted_next (Some fs) prefix more name number ms module_files own room read is place are so_far (bytes, there, (names, (has, (named, (size, fits))))) =
+  accepted_next (Some fs) prefix more name number ms module_files own room read is place are so_far (bytes, there, (names, has, named, size, fits)) =
       let contents = so_far.contents in record {
         contents = contents ++ bytes ∷ [];
         accepted = subst (λ (names : List (List ℕ)). AreAccepted options roots fs names (contents ++ bytes ∷ []) (ms ++ read.modules)) (sym is)
-            (one_accepted options roots fs prefix contents ms name bytes read.modules so_far.accepted there
+            (one_accepted fs prefix contents ms name bytes read.modules so_far.accepted there
             (subst (λ (n : ℕ). HasModules options (nat_lt n roots) bytes read.modules) (sym place) (names, has))
             (subst (λ (n : ℕ). length bytes ≤ n) so_far.left fits));
-        left = (let left = so_far.left in (λ i. left i - size i)) ∙ sym (room-more options roots contents bytes);
+        left = (let left = so_far.left in (λ i. left i - size i)) ∙ sym (room-more contents bytes);
         files = (let before = so_far.files in let its = own-files fs name bytes number read own names are there named has in (λ i. before i ++ its i))
             ∙ ap (λ (n : ℕ). files_from fs roots 0 prefix ++ file_own fs roots n name) (let same : number ≡ 0 + length prefix = omega (arith, place) in same)
             ∙ sym (files-more fs roots 0 prefix name) ∙ ap (λ (l : List (List ℕ)). files_from fs roots 0 l) (sym is);
       }
 
+  many-more : (done count own : ℕ) → HaveCounts roots done count → (nat_lt done roots ≡ true → own ≡ 1) → roots ≤ done + 1 → (b : Bool)
+      → nat_lt done roots ≡ b → roots ≤ count + own
+  many-more done count own so_far one within true is =
+      let less = ltb-true done roots is in
+      let few = so_far.few (omega (arith, less)) in
+      let single = one is in omega (arith, few, single, within)
+  many-more done count own so_far one within false is = let many = so_far.many (ltb-false done roots is) in omega (arith, many)
+
+  few-more : (done count own : ℕ) → HaveCounts roots done count → (nat_lt done roots ≡ true → own ≡ 1) → done + 1 ≤ roots → count + own ≡ done + 1
+  few-more done count own so_far one within =
+      let few = so_far.few (omega (arith, within)) in
+      let single = one (lt-ltb done roots (omega (arith, within))) in omega (arith, few, single)
+
   counts-more : (done count own : ℕ) → HaveCounts roots done count → (nat_lt done roots ≡ true → own ≡ 1) → HaveCounts roots (done + 1) (count + own)
   counts-more done count own so_far one = record {
-    few = λ within. let is = so_far.few (omega (arith, within)) in let single = one (lt-ltb done roots (omega (arith, within))) in omega (arith, is, single);
-    many = λ within. many_more within;
-  } where
-    many_more : roots ≤ done + 1 → roots ≤ count + own
-    many_more within = by_test (nat_lt done roots) refl where
-      by_test : (b : Bool) → nat_lt done roots ≡ b → roots ≤ count + own
-      by_test true is = let less = ltb-true done roots is in let few = so_far.few (omega (arith, less)) in let single = one is in
-          omega (arith, few, single, within)
-      by_test false is = let many = so_far.many (not-less is) in omega (arith, many) where
-        not-less : nat_lt done roots ≡ false → roots ≤ done
-        not-less no_less = ltb-false done roots no_less
+    few = few-more done count own so_far one;
+    many = λ within. many-more done count own so_far one within (nat_lt done roots) refl;
+  }
 
   module _ (names : List (List ℕ)) (number : ℕ) (name : List ℕ) (ms : List Parts) (module_files : List ModuleFile) (room : ℕ) (old mid new : Meaning)
       (before between now : Faults)
@@ -243,8 +251,8 @@ module _ (options : ReadOptions) (roots : ℕ) where
     pub have_read_more : (read : Members) (own : List ModuleFile) → AreFilesOf number name read own → AreValid read.modules → (total_weight read.modules ≤ 10 * read.length) × (read.length ≤ room)
         → (is_root ≡ true → length read.modules ≡ 1)
         → FileHas name mid.files (HasFile options is_root room read) → GrowsBy mid.opened new.opened (name ∷ [])
-        → HaveRead names (number + 1) (ms ++ read.modules) (module_files ++ own) (room - read.length) old new before now
-    have_read_more read own are valid weighs one has opened = record {
+        → number < length names → HaveRead names (number + 1) (ms ++ read.modules) (module_files ++ own) (room - read.length) old new before now
+    have_read_more read own are valid weighs one has opened inside = record {
       files = accepted_next old.files (take number names) (take (number + 1) names) name number ms module_files own room read next place are
           so_far.files (subst (λ (o : Option (List NamedFile)). FileHas name o (HasFile options is_root room read)) files_same has);
       fits = let fits = so_far.fits in omega (arith, fits);
@@ -258,6 +266,7 @@ module _ (options : ReadOptions) (roots : ℕ) where
       valid = valid-both ms read.modules so_far.valid valid;
       light = let sum = sum_by-append weight ms read.modules in let light = so_far.light in let own = weighs.0 in let within = weighs.1 in
           omega (arith, sum, light, own, within);
+      within = omega (arith, inside);
     }
 
     at_file : (P : ℕ → List ℕ → Type 0) (i : ℕ) (files : Option (List NamedFile)) → names ≡ take number names ++ name ∷ drop (number + 1) names
@@ -371,11 +380,11 @@ module _ (options : ReadOptions) (roots : ℕ) where
 
   pub all_read : (names : List (List ℕ)) (done : ℕ) (ms : List Parts) (module_files : List ModuleFile) (room : ℕ) (old now : Meaning)
       (before after : Faults)
-      → HaveRead names done ms module_files room old now before after → length names ≤ done → done ≤ length names
-      → AllRead names ms module_files old now
-  all_read names done ms module_files room old now before after them enough within =
+      → HaveRead names done ms module_files room old now before after → length names ≤ done → AllRead names ms module_files old now
+  all_read names done ms module_files room old now before after them enough =
       let is = take_all done names enough in
       let light = them.light in
+      let within = them.within in
       let same : done ≡ length names = omega (arith, enough, within) in record {
         come = accepted_all old.files names done ms module_files room is them.files;
         files = files_all old.files names done ms module_files room is them.files;
@@ -383,3 +392,31 @@ module _ (options : ReadOptions) (roots : ℕ) where
         count = subst (λ (n : ℕ). HaveCounts roots n (length ms)) same them.count;
         light = omega (arith, light);
       }
+
+-- ---- the files of a task
+
+known : (P : Type 0) (o : Option (List (List ℕ))) → P → OnSome o P
+known P None holds = tt
+known P (Some list) holds = holds
+
+pub roots-of-counts : (inputs : Inputs) (ms : List Parts) → root_count inputs ≤ length inputs.files
+    → HaveCounts (root_count inputs) (length inputs.files) (length ms) → HaveRoots inputs ms
+roots-of-counts inputs ms within counts = record {
+  within = counts.many within;
+  all = λ same. counts.few (let least = same in omega (arith, least));
+}
+
+pub too-many-stop : (options : ReadOptions) (roots : ℕ) (files : Option (List NamedFile)) (names : List (List ℕ)) (ms : List Parts) (n : ℕ) → n ≡ length ms
+    → IfSome files (λ fs. ComeTo options roots fs names (accepted ms))
+    → IfSome files (λ fs. (all : List Parts) × ComeTo options roots fs names (accepted all) × (n ≡ length all))
+too-many-stop options roots None names ms n is come = tt
+too-many-stop options roots (Some fs) names ms n is come = (ms, come, is)
+
+pub all-opens : (names : List (List ℕ)) (old new : Meaning) (before now : Faults) (n : ℕ) → GrowsBy old.opened new.opened names
+    → OpensFiles names (call_between old new before now) (outcome.Refused (refusal.TooManyModules n))
+all-opens names old new before now n opened = record {
+  count = length names;
+  exact = refl;
+  within = omega arith;
+  opened = known (GrowsBy old.opened new.opened (take (length names) names)) new.opened (subst (λ (l : List (List ℕ)). GrowsBy old.opened new.opened l) (sym (take_all (length names) names (omega arith))) opened);
+}

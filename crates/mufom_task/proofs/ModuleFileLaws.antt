@@ -38,7 +38,10 @@ module _ (options : ReadOptions) (name : List ℕ) (number limit : ℕ) (files :
       (file-left name (λ bytes. IsModule options bytes m × (count ≡ length bytes) × (length bytes ≤ limit) × (after ≡ Some []))
       (HasFile options true limit (record { modules = m ∷ []; length = count; listing = None })) files left opened reads (λ bytes h. (
         None,
-        ((h.0, (let own : length bytes ≤ length bytes = omega arith in own)), (refl, (h.1, h.2))),
+        (h.0, (let own : length bytes ≤ length bytes = omega arith in own)),
+        refl,
+        h.1,
+        h.2,
       )))
 
   pub root-stops : (before between now : Faults) (s : SourceStop) → ReadsModule options limit left after (Err s)
@@ -63,10 +66,10 @@ module _ (options : ReadOptions) (name : List ℕ) (number limit : ℕ) (files :
       file-left name (λ bytes. ReadsFile options limit bytes after (Ok read)) (HasFile options false limit read) files left opened reads
       (λ bytes h. (
         h.0.0,
-        (
-          verdict-within options false limit (length bytes) bytes h.0.0 read.modules h.0.1 (let own : length bytes ≤ length bytes = omega arith in own),
-          (h.0.2, (h.1.0, verdict-fits options false limit bytes h.0.0 read.modules h.0.1)),
-        ),
+        verdict-within options false limit (length bytes) bytes h.0.0 read.modules h.0.1 (let own : length bytes ≤ length bytes = omega arith in own),
+        h.0.2,
+        h.1.0,
+        verdict-fits options false limit bytes h.0.0 read.modules h.0.1,
       ))
 
   pub members-stop : (before between now : Faults) (s : MembersStop) → ReadsMembers options limit left after (Err s)

@@ -10,15 +10,8 @@ use Rattle.mufom_members.specs.Names.{AreNames, member_names, name_at}
 use Rattle.mufom_origins.specs.Words.{ModuleFile, member_word, own_files, own_from}
 use Rattle.mufom_task.specs.Inputs.{IsFileVerdict, files_of_one, members_if}
 use Rattle.mufom_task.specs.FilesRead.{AreAsMany}
+use Rattle.mufom_members.proofs.FileNames.{names-of-modules, verdicts-have-names}
 use Rattle.mufom_task.proofs.FileLaws.{never-prefix}
-
-verdicts-have-names : (options : ReadOptions) (limit : ℕ) (bytes : List ℕ) (names : Option (List (List ℕ))) (ms : List Parts)
-    → IsVerdict options limit bytes (accepted names ms) → names ≡ member_names bytes
-verdicts-have-names options limit bytes names ms is = {! !}
-
-names-of-modules : (options : ReadOptions) (limit : ℕ) (bytes : List ℕ) (names : List (List ℕ)) (ms : List Parts)
-    → IsVerdict options limit bytes (accepted (Some names) ms) → length names ≡ length ms
-names-of-modules options limit bytes names ms is = {! !}
 
 plain-many : (options : ReadOptions) (limit : ℕ) (bytes : List ℕ) (names : Option (List (List ℕ))) (ms : List Parts)
     → IsPlainVerdict options limit bytes (accepted names ms) → AreAsMany names ms
@@ -36,7 +29,7 @@ members-many : (options : ReadOptions) (limit : ℕ) (bytes : List ℕ) (names :
     → IsVerdict options limit bytes (accepted names ms) → AreAsMany names ms
 members-many options limit bytes (Some names) ms is = names-of-modules options limit bytes names ms is
 members-many options limit bytes None ms (inl (begins, inl is)) = absurd is.1
-members-many options limit bytes None ms (inl (begins, inr (many, first, whole, same))) = absurd (never-prefix (take limit bytes) None ms first same)
+members-many options limit bytes None ms (inl (begins, inr (many, (first, whole, same)))) = absurd (never-prefix (take limit bytes) None ms first same)
 members-many options limit bytes None ms (inr is) = plain-many options limit bytes None ms is.1
 
 -- there is a name for each module, or there are no names and one module
@@ -56,8 +49,8 @@ listed-files number name l count k (m ∷ names) are =
     let first : name_at (Some l) k ≡ Some m = subst (λ (n : ℕ). name_at (Some l) n ≡ Some m) here (are 0) in
     let rest = listed-files number name l count (suc k) names (λ j. next j) in
     (λ i. record { number = number; name = member_word name (unwrap_or (first i) []) } ∷ rest i) where
-  next : (j : ℕ) → name_at (Some l) (suc k + j) ≡ slice_get names j
-  next j = let later : k + suc j ≡ suc k + j = omega arith in subst (λ (n : ℕ). name_at (Some l) n ≡ slice_get names j) later (are (suc j))
+      next : (j : ℕ) → name_at (Some l) (suc k + j) ≡ slice_get names j
+      next j = let later : k + suc j ≡ suc k + j = omega arith in subst (λ (n : ℕ). name_at (Some l) n ≡ slice_get names j) later (are (suc j))
 
 -- the files of the modules of a file by its listing are those by the names of its members
 pub files-listed : (number : ℕ) (name : List ℕ) (listing : Option Listing) (names : Option (List (List ℕ))) (ms : List Parts) → AreNames listing names
@@ -68,8 +61,8 @@ files-listed number name listing None ms are many =
 files-listed number name (Some l) (Some names) ms are many =
     ap (λ (n : ℕ). own_from (record { number = number; name = name; listing = Some l; modules = length ms }) 0 n) (sym many)
     ∙ listed-files number name l (length ms) 0 names (λ j. shown j) where
-  shown : (j : ℕ) → name_at (Some l) (0 + j) ≡ slice_get names j
-  shown j = let same : j ≡ 0 + j = omega arith in subst (λ (n : ℕ). name_at (Some l) n ≡ slice_get names j) same (are j)
+      shown : (j : ℕ) → name_at (Some l) (0 + j) ≡ slice_get names j
+      shown j = let same : j ≡ 0 + j = omega arith in subst (λ (n : ℕ). name_at (Some l) n ≡ slice_get names j) same (are j)
 files-listed number name None (Some []) ms are many =
     ap (λ (n : ℕ). own_from (record { number = number; name = name; listing = None; modules = length ms }) 0 n) (sym many)
 files-listed number name None (Some (m ∷ names)) ms are many = absurd (let wrong : None ≡ Some m = are 0 in cc)
@@ -78,7 +71,7 @@ files-listed number name None (Some (m ∷ names)) ms are many = absurd (let wro
 pub files-many : (number : ℕ) (name : List ℕ) (names : Option (List (List ℕ))) (ms : List Parts) → AreAsMany names ms
     → length (files_of_one number name names) ≡ length ms
 files-many number name None ms many = sym many
-files-many number name (Some names) ms many = length-map (λ (m : List ℕ). record { number = number; name = member_word name m }) names ∙ many
+files-many number name (Some names) ms many = length-map names (λ (m : List ℕ). record { number = number; name = member_word name m }) ∙ many
 
 -- ---- the names of a file
 

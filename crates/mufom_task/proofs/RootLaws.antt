@@ -1,5 +1,5 @@
 -- Roots have one module each. A file of a module is not an archive, so it is one module in any place.
-use Rattle.std.proofs.Common.{◌≡◌, ¬◌, ℕ, suc, ◌+◌, ◌-◌, ◌<◌, ◌≤◌, ◌==◌, Bool, true, false, nat_lt, if◌then◌else◌, List, [], ◌∷◌, ◌++◌, length, take}
+use Rattle.std.proofs.Common.{◌≡◌, ℕ, suc, ◌+◌, ◌-◌, ◌<◌, ◌≤◌, ◌==◌, Bool, true, false, nat_lt, if◌then◌else◌, List, [], ◌∷◌, ◌++◌, length, take}
 use Rattle.std.proofs.Common.{Option, Some, None, unwrap_or, refl, sym, ap, subst, ◌∙◌, inl, inr, arith, lt-ltb, eqb-true}
 use Rattle.std.proofs.lemmas.List.{length-append}
 use Rattle.mufom_numbers.specs.declared.codes.TheConstants.{MODULE_BEGIN}
@@ -53,10 +53,12 @@ begins-module record_ bytes next (x, prefix, back, spelled, rest, same) = by_tes
 starts-differ : (bytes more : List ℕ) → bytes ≡ MODULE_BEGIN ∷ more → BeginsArchive bytes → ⊥
 starts-differ bytes more is begins =
     let whole : take 8 (MODULE_BEGIN ∷ more) ≡ signature = ap (λ (l : List ℕ). take 8 l) (sym is) ∙ begins in
-    let first : MODULE_BEGIN ≡ 33 = cc in omega (arith, first)
+    let first : Some MODULE_BEGIN ≡ Some 33 = ap (λ (l : List ℕ). first_of l None) whole in
+    let same : MODULE_BEGIN ≡ 33 = cc in
+    let code : MODULE_BEGIN ≡ 224 = refl in omega (arith, same, code)
 
 pub not-archive : (options : ReadOptions) (bytes : List ℕ) (m : Parts) → IsModule options bytes m → ¬ BeginsArchive bytes
-not-archive options bytes m (f, is, _) begins =
+not-archive options bytes m (f, is, _, _, _) begins =
     let first = begins-module f.begin.row f.begin.bytes (first_of (bytes_of (f.descriptor ∷ f.offsets) ++ after_header f) None) is.header.0 in
     starts-differ bytes ((first.0 ++ bytes_of (f.descriptor ∷ f.offsets)) ++ after_header f)
     (is.all ∙ ap (λ (l : List ℕ). (l ++ bytes_of (f.descriptor ∷ f.offsets)) ++ after_header f) first.1) begins

@@ -130,7 +130,7 @@ pub(crate) fn read_file<H: Host>(
 ) -> Result<Members, Outcome>
     requires { limit ≤ most_input_bytes }
     ensures read { IfOk result (λ read. FileHas name.now (H.meaning host.old).files (HasFile options is_root limit read)) }
-    ensures one { is_root ≡ true → IfOk result (λ read. length read.modules ≡ 1) }
+    ensures one { IfOk result (λ read. is_root ≡ true → length read.modules ≡ 1) }
     ensures weighs { IfOk result (λ read. (total_weight read.modules ≤ 10 * read.length) × (read.length ≤ limit)) }
     ensures stops { IfErr result
         (λ stop. FileStops options is_root name.now number limit (H.meaning host.old).files (H.faults host.old) (H.faults host.new) stop) }

@@ -1,4 +1,4 @@
-use Rattle.std.proofs.Common.{◌≡◌, ◌×◌, ◌++◌}
+use Rattle.std.proofs.Common.{◌≡◌, ◌++◌}
 use Rattle.mufom_meaning.specs.Staging.{AreValid}
 use Rattle.mufom_task.proofs.inputs.add_modules.Given as goal
 
