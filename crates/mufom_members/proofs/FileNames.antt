@@ -1,15 +1,13 @@
 -- The names of the modules of a file, and how many they are.
-use Rattle.std.proofs.Common.{◌≡◌, ℕ, ◌+◌, inl, inr, sym, ◌∙◌, ap, refl, Bool, true, false, List, [], ◌∷◌, length, map, take}
+use Rattle.std.proofs.Common.{◌≡◌, ℕ, inl, inr, sym, ◌∙◌, ap, refl, Bool, true, false, List, [], ◌∷◌, length, map, take}
 use Rattle.std.proofs.Common.{Option, Some, None, IfSome, if◌then◌else◌, arith}
-use Rattle.std.specs.List.{before_first, find}
+use Rattle.std.specs.List.{find}
 use Rattle.std.proofs.lemmas.List.{length-map}
 use Rattle.std.proofs.lemmas.Slice.Eq.{bytes_eq-Decides}
 use Rattle.mufom_records.specs.declared.options.ReadOptions.{ReadOptions}
 use Rattle.mufom_module.specs.declared.module.Parts.{Parts}
-use Rattle.mufom_archive.specs.declared.entry.Entry.{Entry}
-use Rattle.mufom_archive.specs.declared.listing.BadArchive.{BadArchive}
 use Rattle.mufom_archive.specs.Entries.{BeginsArchive, begins_archive, entries_from, lacks_header, long_names, signature}
-use Rattle.mufom_archive.specs.Listings.{IsListing, Member, first_error, is_refused, members_of}
+use Rattle.mufom_archive.specs.Listings.{IsListing, Member, is_refused, members_of}
 use Rattle.mufom_archive.proofs.EntryLaws.{entries_are}
 use Rattle.mufom_archive.proofs.OnlyLaws.{all_before, no_error}
 use Rattle.mufom_members.specs.Files.{AreModulesOf, IsArchiveVerdict, IsPlainVerdict, IsVerdict, IsVerdictWithin, Verdict, accepted, bad_archive, past_limit}

@@ -9,6 +9,7 @@ pub mod FileNames
 pub mod Taking
 pub mod Gathering
 pub mod Finishing
+pub mod Prefixes
 pub mod OneVerdict
 pub mod EachVerdict
 pub mod Feeding
