@@ -10,6 +10,7 @@ pub mod Taking
 pub mod Gathering
 pub mod Finishing
 pub mod Prefixes
+pub mod PrefixLaws
 pub mod OneVerdict
 pub mod EachVerdict
 pub mod Feeding

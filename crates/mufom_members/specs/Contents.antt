@@ -1,5 +1,6 @@
 -- What reading a file results in, chunk by chunk and from a source.
-use Rattle.std.specs.Prelude.{◌≡◌, ℕ, ◌+◌, ◌-◌, ◌<◌, ◌≤◌, Bool, true, false, List, [], ◌++◌, length, take, Option, Some, None, Result, Ok, Err, IfSome}
+use Rattle.std.specs.Prelude.{◌≡◌, ℕ, ◌+◌, ◌-◌, ◌<◌, ◌≤◌, Bool, true, false, List, [], ◌++◌, length, take, Option, Some, None, IfSome}
+use Rattle.std.specs.Prelude.{Result, Ok, Err}
 use Rattle.mufom_records.specs.declared.options.ReadOptions.{ReadOptions}
 use Rattle.mufom_host.specs.World.{ReadsOff}
 use Rattle.mufom_read.specs.declared.state.State.{State}
@@ -65,8 +66,8 @@ HasReadChunk kind room before after stream new (Err s) = IfSome before (λ left.
 -- bytes, and there are more; or the stop is the verdict on the file.
 abbrev pub HasReadRest : Kind → ℕ → Option (List ℕ) → Option (List ℕ) → List ℕ → Content → Result (Option ℕ) MembersStop → Type 0
 HasReadRest kind limit before after head new (Ok None) = GoesOn (limit - length head) before head new
-HasReadRest kind limit before after head new (Ok (Some n)) = (more : List ℕ) × (length (head ++ more) ≡ n) × (n ≤ limit) × HasReadOf new (head ++ more)
-    × IfSome before (λ left. (left ≡ more) × (after ≡ Some []))
+HasReadRest kind limit before after head new (Ok (Some n)) = (more : List ℕ) × (length (head ++ more) ≡ n) × (n ≤ limit)
+    × HasReadOf new (head ++ more) × IfSome before (λ left. (left ≡ more) × (after ≡ Some []))
 HasReadRest kind limit before after head new (Err s) = IfSome before (λ left. StopsBy (IsVerdictAs kind limit (head ++ left)) s)
 
 -- The result of reading a whole file is the verdict on it. If it has modules, its length is returned, and nothing is left.

@@ -1,13 +1,13 @@
 -- Files that are read one after another: what was accepted so far, one file more, and the file that stops the run.
-use Rattle.std.proofs.Common.{◌≡◌, ℕ, suc, ◌+◌, ◌*◌, ◌-◌, ◌<◌, ◌≤◌, Bool, true, false, nat_lt, List, [], ◌∷◌, ◌++◌, length, map, take, drop, get_or}
+use Rattle.std.proofs.Common.{◌≡◌, ℕ, suc, ◌+◌, ◌*◌, ◌-◌, ◌<◌, ◌≤◌, Bool, true, false, nat_lt, List, [], ◌∷◌, ◌++◌, length, take, drop, get_or}
 use Rattle.std.proofs.Common.{sum_by, Option, Some, None, unwrap_or, IfSome, OnSome, refl, sym, ap, subst, ◌∙◌, arith, append_assoc, true≢false}
 use Rattle.std.proofs.Common.{ltb-true, ltb-false, lt-ltb}
-use Rattle.std.proofs.lemmas.List.{append-nil, drop_more, length-append, length-map, length-take-le, map-append, take-append-drop, take_all, take_more}
+use Rattle.std.proofs.lemmas.List.{append-nil, drop_more, length-append, length-map, length-take-le, map-append, take-append-drop}
+use Rattle.std.proofs.lemmas.List.{take_all, take_more}
 use Rattle.std.proofs.lemmas.List.Sums.{sum_by-append}
 use Rattle.mufom_records.specs.declared.options.ReadOptions.{ReadOptions}
 use Rattle.mufom_host.specs.World.{Faults, Meaning, NamedFile, GrowsBy, KeepsAllButOpened, KeepsAllButReads, Rose, file_named}
 use Rattle.mufom_module.specs.declared.module.Parts.{Parts}
-use Rattle.mufom_module.specs.Defects.{IsValid}
 use Rattle.mufom_module.specs.Written.{weight}
 use Rattle.mufom_meaning.specs.Staging.{AreValid}
 use Rattle.mufom_meaning.specs.StagingLaws.{total_weight}
@@ -19,7 +19,8 @@ use Rattle.mufom_origins.specs.Words.{ModuleFile}
 use Rattle.mufom_members.specs.declared.members.Members.{Members}
 use Rattle.mufom_members.specs.Files.{accepted as verdict_accepted}
 use Rattle.mufom_members.specs.Names.{AreNames}
-use Rattle.mufom_task.specs.Inputs.{AreAccepted, AreModules, ComeTo, HasModules, HaveBytes, IsFilePast, IsFileRefused, IsFileVerdict, StopsAt, accepted}
+use Rattle.mufom_task.specs.Inputs.{AreAccepted, AreModules, ComeTo, HasModules, HaveBytes, IsFilePast, IsFileRefused, IsFileVerdict}
+use Rattle.mufom_task.specs.Inputs.{StopsAt, accepted}
 use Rattle.mufom_task.specs.declared.task.Inputs.{Inputs}
 use Rattle.mufom_task.specs.Inputs.{HaveRoots, files_from, files_of_one, members_if, most_input_bytes, room_after, root_count}
 use Rattle.mufom_task.specs.FilesRead.{FileHas, FileStops, FilesStop, AreAsMany, HasFile, HaveCounts, IsFileCount, OpensFiles}
@@ -130,7 +131,8 @@ module _ (options : ReadOptions) (roots : ℕ) where
       → file_named name files ≡ Some bytes → HasModules options (nat_lt (length names) roots) bytes own → length bytes ≤ room_after contents
       → AreAccepted options roots files (names ++ name ∷ []) (contents ++ bytes ∷ []) (ms ++ own)
   one_accepted files names contents ms name bytes own them there is fits = record {
-    bytes = map-append (λ n. file_named n files) names (name ∷ []) ∙ (λ i. them.bytes i ++ there i ∷ []) ∙ sym (map-append (λ b. Some b) contents (bytes ∷ []));
+    bytes = map-append (λ n. file_named n files) names (name ∷ []) ∙ (λ i. them.bytes i ++ there i ∷ [])
+        ∙ sym (map-append (λ b. Some b) contents (bytes ∷ []));
     modules = modules-append options roots contents ms bytes own them.modules
         (subst (λ (n : ℕ). HasModules options (nat_lt n roots) bytes own) (have-length files names contents them.bytes) is);
     within = let sum = sum-more options roots contents bytes in let within = them.within in omega (arith, sum, within, fits);
@@ -248,7 +250,8 @@ module _ (options : ReadOptions) (roots : ℕ) where
     abbrev is_root : Bool
     is_root = nat_lt number roots
 
-    pub have_read_more : (read : Members) (own : List ModuleFile) → AreFilesOf number name read own → AreValid read.modules → (total_weight read.modules ≤ 10 * read.length) × (read.length ≤ room)
+    pub have_read_more : (read : Members) (own : List ModuleFile) → AreFilesOf number name read own → AreValid read.modules
+        → (total_weight read.modules ≤ 10 * read.length) × (read.length ≤ room)
         → (is_root ≡ true → length read.modules ≡ 1)
         → FileHas name mid.files (HasFile options is_root room read) → GrowsBy mid.opened new.opened (name ∷ [])
         → number < length names → HaveRead names (number + 1) (ms ++ read.modules) (module_files ++ own) (room - read.length) old new before now
@@ -353,7 +356,12 @@ module _ (options : ReadOptions) (roots : ℕ) where
     -- and none after it was opened
     pub stop_opens : (stop : Outcome) → number < length names → FileStops options is_root name number room mid.files between now stop
         → OnSome new.opened (GrowsBy mid.opened new.opened (name ∷ [])) → OpensFiles names (call_between old new before now) stop
-    stop_opens stop inside why opened = record { count = number + 1; exact = opened_count stop why; within = omega (arith, inside); opened = opened_now opened }
+    stop_opens stop inside why opened = record {
+      count = number + 1;
+      exact = opened_count stop why;
+      within = omega (arith, inside);
+      opened = opened_now opened;
+    }
 
   -- ---- all files
 
@@ -418,5 +426,6 @@ all-opens names old new before now n opened = record {
   count = length names;
   exact = refl;
   within = omega arith;
-  opened = known (GrowsBy old.opened new.opened (take (length names) names)) new.opened (subst (λ (l : List (List ℕ)). GrowsBy old.opened new.opened l) (sym (take_all (length names) names (omega arith))) opened);
+  opened = known (GrowsBy old.opened new.opened (take (length names) names)) new.opened
+      (subst (λ (l : List (List ℕ)). GrowsBy old.opened new.opened l) (sym (take_all (length names) names (omega arith))) opened);
 }

@@ -1,13 +1,14 @@
 -- The names of the modules of a file: those of the members of an archive, and none of another file.
-use Rattle.std.proofs.Common.{◌≡◌, ℕ, suc, ◌+◌, Bool, true, false, List, [], ◌∷◌, length, take, slice_get, Option, Some, None, unwrap_or, refl, sym, ap}
+use Rattle.std.proofs.Common.{◌≡◌, ℕ, suc, ◌+◌, Bool, true, false, List, [], ◌∷◌, length, take, slice_get, Option, Some, None, unwrap_or}
+use Rattle.std.proofs.Common.{refl, sym, ap}
 use Rattle.std.proofs.Common.{subst, ◌∙◌, inl, inr, arith}
 use Rattle.std.proofs.lemmas.List.{length-map}
 use Rattle.mufom_archive.specs.declared.listing.Listing.{Listing}
 use Rattle.mufom_records.specs.declared.options.ReadOptions.{ReadOptions}
 use Rattle.mufom_module.specs.declared.module.Parts.{Parts}
 use Rattle.mufom_members.specs.Files.{IsPlainVerdict, IsVerdict, accepted}
-use Rattle.mufom_members.specs.Names.{AreNames, member_names, name_at}
-use Rattle.mufom_origins.specs.Words.{ModuleFile, member_word, own_files, own_from}
+use Rattle.mufom_members.specs.Names.{AreNames, name_at}
+use Rattle.mufom_origins.specs.Words.{member_word, own_files, own_from}
 use Rattle.mufom_task.specs.Inputs.{IsFileVerdict, files_of_one, members_if}
 use Rattle.mufom_task.specs.FilesRead.{AreAsMany}
 use Rattle.mufom_members.proofs.FileNames.{names-of-modules, verdicts-have-names}

@@ -1,5 +1,5 @@
 -- Files come to one verdict, since each of them has one judgment.
-use Rattle.std.proofs.Common.{◌≡◌, ℕ, suc, ◌+◌, ◌-◌, ◌<◌, ◌≤◌, Bool, nat_lt, List, [], ◌∷◌, ◌++◌, length, map, sum_by, Some, refl, sym, ap, subst, ◌∙◌}
+use Rattle.std.proofs.Common.{◌≡◌, ℕ, ◌+◌, ◌-◌, ◌<◌, ◌≤◌, Bool, nat_lt, List, [], ◌∷◌, ◌++◌, length, map, sum_by, Some, refl, sym, ap, subst, ◌∙◌}
 use Rattle.std.proofs.Common.{inl, inr, arith}
 use Rattle.std.proofs.lemmas.Bool.{cases_order}
 use Rattle.std.proofs.lemmas.List.Sums.{sum_by-append, sum_by-cons}
@@ -8,7 +8,8 @@ use Rattle.mufom_host.specs.World.{HoldBytes, NamedFile, file_named}
 use Rattle.mufom_module.specs.declared.module.Parts.{Parts}
 use Rattle.mufom_read.specs.declared.refusal.ReadRefusal.{ReadRefusal}
 use Rattle.mufom_read.specs.Laws.{HasOneJudgment}
-use Rattle.mufom_task.specs.Inputs.{AreAccepted, AreModules, ComeTo, HasModules, HaveBytes, HaveOneVerdict, IsFilePast, IsFileRefused, StopsAt, Verdict}
+use Rattle.mufom_task.specs.Inputs.{AreAccepted, AreModules, ComeTo, HasModules, HaveBytes, HaveOneVerdict, IsFilePast, IsFileRefused}
+use Rattle.mufom_task.specs.Inputs.{StopsAt, Verdict}
 use Rattle.mufom_task.specs.Inputs.{accepted, past_limit, refused, room_after}
 use Rattle.mufom_task.proofs.FileLaws.{one_refused, past_not_accepted, refused_not_accepted, refused_not_past, same_modules_of}
 use Rattle.mufom_task.proofs.InputLaws.{lt-next}

@@ -30,8 +30,9 @@ AreAsMany (Some names) ms = length names ≡ length ms
 
 -- The bytes have these modules with the names of this listing, and this length, which is at most the limit.
 abbrev pub HasFile : ReadOptions → Bool → ℕ → Members → List ℕ → Type 0
-HasFile options root limit read bytes = (names : Option (List (List ℕ))) × IsFileVerdict options root (length bytes) bytes (one_accepted names read.modules)
-    × AreNames read.listing names × (read.length ≡ length bytes) × (length bytes ≤ limit)
+HasFile options root limit read bytes = (names : Option (List (List ℕ)))
+    × IsFileVerdict options root (length bytes) bytes (one_accepted names read.modules) × AreNames read.listing names
+    × (read.length ≡ length bytes) × (length bytes ≤ limit)
 
 -- How many modules the first of the files have, as many as were read: each root has one.
 pub record HaveCounts (roots files modules : ℕ) : Type 0 where
@@ -73,11 +74,13 @@ FilesStop options roots names call (outcome.Refused (refusal.InputLimit n)) =
 FilesStop options roots names call (outcome.Refused (refusal.TooManyModules n)) =
     (MOST_MODULES < n) × IfSome call.old.files (λ files. (ms : List Parts) × ComeTo options roots files names (accepted ms) × (n ≡ length ms))
 FilesStop options roots names call (outcome.ReadFault (input.File n)) =
-    Rose call.before.reads call.now.reads × IfSome call.old.files (λ files. (ms : List Parts) × ComeTo options roots files (take n names) (accepted ms))
+    Rose call.before.reads call.now.reads
+    × IfSome call.old.files (λ files. (ms : List Parts) × ComeTo options roots files (take n names) (accepted ms))
 FilesStop options roots names call outcome.NoMemory = Unit {0}
 FilesStop options roots names call _ = ⊥
 
--- The number of files that are opened: up to the one that the outcome names, or all if their modules are too many; any number if memory ran out.
+-- The number of files that are opened: up to the one that the outcome names, or all if their modules are too many; any number if memory
+-- ran out.
 abbrev pub IsFileCount : List (List ℕ) → Outcome → ℕ → Type 0
 IsFileCount names (outcome.Refused (refusal.Read n r)) count = count ≡ n + 1
 IsFileCount names (outcome.Refused (refusal.InputLimit n)) count = count ≡ n + 1
