@@ -332,9 +332,7 @@ fn explain_planned<H: Host>(
 {
     if plan.symbols.is_empty() {
         let object = &part.object;
-        return explain_fact(
-            alloc, words, names, flat, part, object, plan, refusal, host,
-        );
+        return explain_fact(alloc, words, names, flat, part, object, plan, refusal, host);
     }
     explain_with_symbols(alloc, words, names, flat, part, plan, refusal, host)
 }
@@ -413,7 +411,9 @@ fn explain_obstacle<H: Host>(
             let Ok(flat) = flat_list(alloc, inputs, modules, places) else {
                 return Outcome::NoMemory;
             };
-            explain_unlocated(alloc, words, inputs, names, &flat, part, plan, refusal, host)
+            explain_unlocated(
+                alloc, words, inputs, names, &flat, part, plan, refusal, host,
+            )
         }
     }
 }
