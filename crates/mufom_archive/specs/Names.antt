@@ -1,6 +1,6 @@
 -- The names of the entries of an archive. A header has a label of 16 bytes. It holds a short name, or says where a long
 -- name begins in the table of long names, or marks an entry that is a table of the archive itself.
-use Rattle.std.specs.Prelude.{ℕ, ◌-◌, Bool, not, ◌&&◌, ◌||◌, List, [], ◌∷◌, length, take, drop, nat_lt, ◌==◌, slice_index, if◌then◌else◌, Option}
+use Rattle.std.specs.Prelude.{ℕ, ◌-◌, Bool, not, ◌&&◌, ◌||◌, List, [], ◌∷◌, length, take, drop, nat_le, nat_lt, ◌==◌, slice_index, if◌then◌else◌, Option}
 use Rattle.std.specs.Prelude.{Some, None, codes, false}
 use Rattle.std.specs.Char.{is_ascii_digit}
 use Rattle.std.specs.List.{before_first, list_all, suffix_len}
@@ -45,7 +45,7 @@ ends_name b = (b == 47) || (b == 10)
 
 -- the long name that begins at this position of the table, or None past the end of the table
 abbrev pub long_name : List ℕ → ℕ → Option (List ℕ)
-long_name table at = if nat_lt at (length table) then Some (before_first ends_name (drop at table)) else None
+long_name table at = if nat_le at (length table) then Some (before_first ends_name (drop at table)) else None
 
 -- the name of a member with this label, or None if it begins past the end of the table of long names
 abbrev pub name_of : List ℕ → List ℕ → Option (List ℕ)

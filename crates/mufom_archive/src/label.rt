@@ -129,7 +129,7 @@ fn name_length(bytes: &[u8]) -> usize
 fn long_name(table: &[u8], at: u64) -> Option<&[u8]>
     ensures { option_map (λ name. name.now) result ≡ long_name table.now at }
 {
-    if at >= table.len() as u64 {
+    if at > table.len() as u64 {
         return None;
     }
     let rest = &table[at as usize..];
@@ -157,7 +157,7 @@ pub(crate) fn lacks_name(table: &[u8], label: &[u8]) -> bool
 {
     let name = without_slash(trimmed(label));
     if is_reference(name) {
-        position_of(name) >= table.len() as u64
+        position_of(name) > table.len() as u64
     } else {
         false
     }

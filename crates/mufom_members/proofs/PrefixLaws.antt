@@ -80,7 +80,7 @@ named_so : (names more : List ℕ) (label : List ℕ) → length names ≤ lengt
 named_so names more label longer named =
     by_kind (is_reference (without_slash (trimmed label))) (digits_value 10 (drop 1 (without_slash (trimmed label)))) named
   where
-    by_test : (at : ℕ) (a b : Bool) → nat_lt at (length names) ≡ a → nat_lt at (length more) ≡ b
+    by_test : (at : ℕ) (a b : Bool) → nat_le at (length names) ≡ a → nat_le at (length more) ≡ b
         → is_none (if a then Some (before_first ends_name (drop at names)) else None) ≡ false
         → is_none (if b then Some (before_first ends_name (drop at more)) else None) ≡ false
     by_test at true true one two is = refl
@@ -89,7 +89,7 @@ named_so names more label longer named =
 
     by_kind : (reference : Bool) (at : ℕ) → is_none (if reference then long_name names at else Some (without_slash (trimmed label))) ≡ false
         → is_none (if reference then long_name more at else Some (without_slash (trimmed label))) ≡ false
-    by_kind true at is = by_test at (nat_lt at (length names)) (nat_lt at (length more)) refl refl is
+    by_kind true at is = by_test at (nat_le at (length names)) (nat_le at (length more)) refl refl is
     by_kind false at is = refl
 
 module _ (bytes more : List ℕ) (es all : List Entry) (stays : (t : Entry) → table_among es ≡ Some t → table_among all ≡ Some t) where
