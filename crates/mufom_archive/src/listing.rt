@@ -1,6 +1,6 @@
 //! What an archive has.
 
-ghost use Rattle.std.specs.Prelude.{◌≡◌, ◌≤◌, find, length, option_map, position, take};
+ghost use Rattle.std.specs.Prelude.{◌≡◌, ◌≤◌, find, is_some, length, option_map, position, take};
 ghost use Rattle.std.specs.List.{before_first, position_or_len};
 ghost use Rattle.mufom_archive.specs.Names.{name_of};
 ghost use Rattle.mufom_archive.specs.Listings.{first_error, is_refused};
@@ -35,6 +35,14 @@ impl Listing {
         ensures { option_map (λ name. name.now) result ≡ name_of self.now.names.items entry.now.label }
     {
         name_of(&self.names, &entry.label)
+    }
+
+    /// Whether an entry that is a member has a name. Takes the same time for a name of any length, and does not
+    /// allocate.
+    pub fn has_name(&self, entry: &Entry) -> bool
+        ensures { result ≡ is_some (name_of self.now.names.items entry.now.label) }
+    {
+        !lacks_name(&self.names, &entry.label)
     }
 }
 

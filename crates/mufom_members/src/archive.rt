@@ -33,7 +33,7 @@ pub(crate) struct Gatherer {
 fn is_named(listing: &Listing, entry: &Entry) -> bool
     ensures { result ≡ is_named listing.now.names.items entry.now }
 {
-    entry.is_member() && listing.name(entry).is_some()
+    entry.is_member() && listing.has_name(entry)
 }
 
 // The entries that are members with a name.
