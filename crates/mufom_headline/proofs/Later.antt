@@ -21,6 +21,7 @@ use Rattle.mufom_outcome.specs.declared.outcome.Outcome.{Outcome}
 use Rattle.mufom_outcome.specs.declared.outcome.Outcome.TheVariants as outcome
 use Rattle.mufom_outcome.specs.Stop.{Stop, link_fact}
 use Rattle.mufom_task.specs.declared.task.Inputs.{Inputs}
+use Rattle.mufom_task.specs.Inputs.{module_files}
 use Rattle.mufom_task.specs.declared.task.Product.{Product}
 use Rattle.mufom_task.specs.declared.task.Product.TheVariants as product
 use Rattle.mufom_task.specs.declared.task.Task.{Task}
@@ -145,11 +146,11 @@ module _ (link : Parts) (list : List Parts) (name : List ℕ) (valid : IsValid l
             → IsSameWork (work_of (task.Locate inputs keep p) files) (work_of (task.Locate other keep p) others)
         locates-same keep p may =
             let roots : Option Roots = roots_by keep plan in
-            let first : Work Stop Output = location_of_list roots p inputs.files (origins_of own.0) plan leaves in
-            let second : Work Stop Output = location_of_list roots p other.files (origins_of its.0) plan leaves in
+            let first : Work Stop Output = location_of_list roots p (module_files files inputs) (origins_of own.0) plan leaves in
+            let second : Work Stop Output = location_of_list roots p (module_files others other) (origins_of its.0) plan leaves in
             same-trans (work_of (task.Locate inputs keep p) files) first (work_of (task.Locate other keep p) others) (here.located keep p)
             (same-trans first second (work_of (task.Locate other keep p) others)
-            (location-names roots p may inputs.files other.files (origins_of own.0) (origins_of its.0) plan leaves)
+            (location-names roots p may (module_files files inputs) (module_files others other) (origins_of own.0) (origins_of its.0) plan leaves)
             (same-sym (work_of (task.Locate other keep p) others) second (there.located keep p)))
 
 pub linked-files-replace-lists : LinkedFilesReplaceLists

@@ -30,7 +30,7 @@ use Rattle.mufom_task.specs.declared.task.Request.TheVariants as request
 use Rattle.mufom_task.specs.declared.task.Task.{Task}
 use Rattle.mufom_task.specs.declared.task.Task.TheVariants as task
 use Rattle.mufom_task.specs.Calls.{Call}
-use Rattle.mufom_task.specs.Inputs.{ComeTo, accepted}
+use Rattle.mufom_task.specs.Inputs.{ComeTo, accepted, root_count}
 use Rattle.mufom_task.specs.Reading.{modules_in, plan_in, text_in, unless_past_limit}
 use Rattle.mufom_task.specs.Tasks.{request_of}
 use Rattle.mufom_origins.specs.Origins.{origins_of}
@@ -111,8 +111,11 @@ module _ (text : List ℕ) (maus : ℕ) (runs : List Run) (low : 1 ≤ maus) (hi
       is-planned = subst (λ (o : Option (List ℕ)). plan_in files o (gives no_regions)) (sym does.plan) refl
 
       is-in : modules_in files c (gives (text_parts maus runs ∷ []))
-      is-in = subst (λ (names : List (List ℕ)). ComeTo c.options files names (accepted (text_parts maus runs ∷ []))) (sym does.files)
-          (text-accepted maus runs low high has-module has-text few c.options files name there)
+      is-in = (
+        subst (λ (names : List (List ℕ)). ComeTo c.options (root_count c) files names (accepted (text_parts maus runs ∷ []))) (sym does.files)
+            (text-accepted maus runs low high has-module has-text few c.options (root_count c) files name there),
+        omega arith,
+      )
 
       text-file : r.runs ≡ runs → work_of (task.Locate c [] (product.TiTxt out)) files (gives (made out (txt_text runs)))
       text-file same =
