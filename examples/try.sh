@@ -22,7 +22,7 @@ try_page() {
 import re, shutil, subprocess, sys, textwrap, time
 
 # What a machine may lack, and what a command that needs it mentions.
-TOOLS = {"srec_cat": r"srec_cat|\.srec\b|^make .*\bsrec\b", "xxd": r"\bxxd\b", "make": r"^make\b"}
+TOOLS = {"ar": r"\bar r", "srec_cat": r"srec_cat|\.srec\b|^make .*\bsrec\b", "xxd": r"\bxxd\b", "make": r"^make\b"}
 lacking = {tool: mention for tool, mention in TOOLS.items() if not shutil.which(tool)}
 passed = failed = skipped = 0
 page = open(sys.argv[1], encoding="utf-8").read()

@@ -247,6 +247,61 @@ def kept_chain():
         ("locate --plan p --keep p0 -o out m", 0), ("map --plan p m", 0)]
 
 
+def entry(label, contents, size=None):
+    """An entry of an archive: its header, its contents, and the padding."""
+    size = len(contents) if size is None else size
+    return label.ljust(16) + b" " * 32 + b"%-10d" % size + b"`\n" + contents + b"\n" * (len(contents) % 2)
+
+
+ARCHIVE = b"!<arch>\n"
+
+
+def with_root(archives):
+    """The archives, and a module that needs `n_999`."""
+    return {"r": file_of(b"r", externals=reference(11, b"n_999")), **{name: ARCHIVE + entries for name, entries in archives.items()}}
+
+
+ONE = file_of(b"m", externals=public(32, b"n_0", b"\x00"))
+
+
+def archive_of_a_chain():
+    """A thousand members, each of which needs the one before it in the archive; the last is needed first."""
+    chained = [file_of(b"m", externals=public(32, b"n_%d" % at, b"\x00") + (reference(11, b"n_%d" % (at - 1)) if at else b"")) for at in range(1000)]
+    return with_root({"c": b"".join(entry(b"m%d.o/" % at, m) for at, m in enumerate(chained))}), [
+        ("link -o out r + c", 0), ("locate -o out r + c", 0), ("map r + c", 0), ("map r + c c c", 0), ("check c", 1)]
+
+
+def archives_cut_off():
+    """The greatest size that an entry can state; and 100,000 modules, the last without its last byte."""
+    return with_root({"s": entry(b"m.o/", ONE, 9_999_999_999), "c": entry(b"m.o/", ONE) * 40_000 + entry(b"m.o/", ONE)[:-1]}), [
+        ("map r + s", 1), ("map r + c", 1)]
+
+
+def archive_of_empty_entries():
+    """A million entries without contents, which are no modules."""
+    return with_root({"e": entry(b"m.o/", b"") * 1_000_000}), [("map r + e", 1)]
+
+
+def archive_of_tables():
+    """A million tables of symbols, which are no members, before one that is."""
+    return with_root({"t": entry(b"/", b"") * 1_000_000 + entry(b"m.o/", ONE)}), [("map r + t", 1)]
+
+
+def names_past_the_long_names():
+    return with_root({"p": entry(b"//", b"m.o/\n") + entry(b"/1", ONE) * 10_000 + entry(b"/5", ONE)}), [("map r + p", 1)]
+
+
+def a_long_name_of_many_members():
+    """One name of 60,000,000 bytes that 5,000 members have."""
+    return with_root({"l": entry(b"//", b"x" * 60_000_000) + entry(b"/0", ONE) * 5_000}), [("link -o out r + l", 0), ("map r + l", 1)]
+
+
+def archives_past_the_limits():
+    """More modules than a run may have, and more bytes, with an error at the end of those that may be read."""
+    return with_root({"m": entry(b"m.o/", ONE) * 65_536, "b": entry(b"m.o/", ONE) * 100 + entry(b"/", b"") + b" " * (1 << 26)}), [
+        ("link -o out r + m", 1), ("map r + b", 1)]
+
+
 def no_files():
     """Commands that read no file."""
     return {}, [("make 65536", 0, 64), ("help Misfit", 0), ("help " + "x" * 100_000, 2)]
@@ -255,5 +310,7 @@ def no_files():
 KINDS = [colliding_publics, colliding_references, descending_indexes, scattered_indexes, chain, cycle, cycles_at_the_end,
          members, groups, sections, long_expressions, deep_blocks, long_fields, repeated_bytes, scattered_bytes,
          an_address_with_two_bytes, bytes_far_apart, debug_lines, text_lines_from_the_top, text_of_one_line,
-         text_of_empty_lines, text_with_two_bytes, kept_chain, plan_names, plan_regions, plan_brackets, plan_tables,
+         text_of_empty_lines, text_with_two_bytes, kept_chain,
+         archive_of_a_chain, archives_cut_off, archive_of_empty_entries, archive_of_tables, names_past_the_long_names,
+         a_long_name_of_many_members, archives_past_the_limits, plan_names, plan_regions, plan_brackets, plan_tables,
          plan_keys, plan_text, no_files]

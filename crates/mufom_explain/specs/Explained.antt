@@ -15,6 +15,7 @@ use Rattle.mufom_explain.specs.declared.details.NameDetails.{NameDetails}
 use Rattle.mufom_explain.specs.declared.details.SharedDetails.{SharedDetails}
 use Rattle.mufom_explain.specs.Lines.{ModuleFiles, module_line}
 use Rattle.mufom_explain.specs.Details.{Explained, entry_lines, has_start, lines_among, mismatch_lines, start_lines, symbol_lines}
+use Rattle.mufom_origins.specs.Words.{all_files}
 use Rattle.mufom_explain.specs.Flat.{flat_of, wanted_names}
 use Rattle.mufom_explain.specs.Mentions.{mention_text}
 use Rattle.mufom_explain.specs.Region.{region_line}
@@ -40,12 +41,12 @@ link_lines names flat link.Starts = start_lines names flat
 link_lines names flat link.Nothing = []
 
 abbrev pub link_text : LinkDetails → Text
-link_text d = link_lines d.names.now (flat_of d.flat.now) d.kind
+link_text d = link_lines (all_files d.names.now) (flat_of d.flat.now) d.kind
 
 -- ---- a name that should be kept
 
 abbrev pub name_text : NameDetails → Text
-name_text d = mention_text d.names.now (flat_of d.mentions.flat.now) (wanted_names d.mentions.wanted)
+name_text d = mention_text (all_files d.names.now) (flat_of d.mentions.flat.now) (wanted_names d.mentions.wanted)
 
 -- ---- a name that the plan shares
 
@@ -56,7 +57,7 @@ shared_text d = symbol_lines d.name.now d.symbol ++ name_text d.mentions
 
 abbrev pub explained_of : LocateContext → Explained
 explained_of c = record {
-  names = c.names.now;
+  names = all_files c.names.now;
   flat = flat_of c.flat.now;
   origins = c.origins.now;
   maus = c.object.now.maus;

@@ -9,7 +9,7 @@ use crate::modules::FlatModule;
 use mufom_field_values::FieldValue;
 use mufom_module::Module;
 use mufom_numbers::List;
-use mufom_origins::{ModuleFile, Origins};
+use mufom_origins::{ModuleFiles, Origins};
 use mufom_place::RegionCopy;
 use mufom_plan::Plan;
 use mufom_sections::Section;
@@ -28,7 +28,7 @@ pub(crate) enum LinkKind<'a> {
 /// The lines that follow the error line of a list of modules that cannot be linked.
 #[derive(Drop)]
 pub struct LinkDetails<'a> {
-    pub(crate) names: &'a [ModuleFile],
+    pub(crate) names: &'a ModuleFiles,
     pub(crate) flat: &'a [FlatModule<'a>],
     pub(crate) kind: LinkKind<'a>,
 }
@@ -36,7 +36,7 @@ pub struct LinkDetails<'a> {
 /// The lines about a name: the modules that mention it.
 #[derive(Drop)]
 pub struct NameDetails<'a> {
-    pub(crate) names: &'a [ModuleFile],
+    pub(crate) names: &'a ModuleFiles,
     pub(crate) mentions: Mentions<'a>,
 }
 
@@ -53,7 +53,7 @@ pub struct SharedDetails<'a> {
 #[derive(Clone, Copy)]
 pub struct LocateContext<'a> {
     /// The files of all modules, in the order in which they were read.
-    pub names: &'a [ModuleFile],
+    pub names: &'a ModuleFiles,
     /// The modules of the flat list.
     pub flat: &'a [FlatModule<'a>],
     /// The origins of the entries of the module that is located.

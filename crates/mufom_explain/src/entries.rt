@@ -8,11 +8,12 @@ ghost use Rattle.mufom_meaning.specs.Flat.{is_common};
 ghost use Rattle.mufom_explain.specs.Flat.{file_module, flat_of};
 ghost use Rattle.mufom_explain.specs.Lines.{asking_line, asks_by, asks_for, base_text, common_lines, described, module_line, origin_text};
 ghost use Rattle.mufom_explain.specs.Lines.{copy_line, place_text, section_line};
+ghost use Rattle.mufom_origins.specs.Words.{all_files};
 
 use crate::modules::{FlatModule, module_line};
 use mufom_module::Parts;
 use mufom_names::Reference;
-use mufom_origins::{ModuleFile, Origin, Origins, Place, module_text};
+use mufom_origins::{ModuleFiles, Origin, Origins, Place, module_text};
 use mufom_place::RegionCopy;
 use mufom_sections::Section;
 use mufom_text::{Output, counted, hex, quoted};
@@ -38,16 +39,16 @@ fn base_text<K: Output>(out: &mut K, maus: u8, base: Option<u64>)
 }
 
 // The module with a position, after a comma.
-fn origin_text<K: Output>(out: &mut K, names: &[ModuleFile], position: usize, origin: &Origin)
-    ensures { K.takes out.old out.new (origin_text names.now position (Some origin.now)) }
+fn origin_text<K: Output>(out: &mut K, names: &ModuleFiles, position: usize, origin: &Origin)
+    ensures { K.takes out.old out.new (origin_text (all_files names.now) position (Some origin.now)) }
 {
     out.put(b", ");
     module_text(out, names, position, origin.file, &origin.name);
 }
 
 // The module with a position, if there is one.
-fn origin_at<K: Output>(out: &mut K, names: &[ModuleFile], origins: &[Origin], position: usize)
-    ensures { K.takes out.old out.new (origin_text names.now position (slice_get origins.now position)) }
+fn origin_at<K: Output>(out: &mut K, names: &ModuleFiles, origins: &[Origin], position: usize)
+    ensures { K.takes out.old out.new (origin_text (all_files names.now) position (slice_get origins.now position)) }
 {
     match origins.get(position) {
         Some(origin) => origin_text(out, names, position, origin),
@@ -56,8 +57,8 @@ fn origin_at<K: Output>(out: &mut K, names: &[ModuleFile], origins: &[Origin], p
 }
 
 // The module of a place, if there is a place.
-fn place_text<K: Output>(out: &mut K, names: &[ModuleFile], origins: &Origins, place: Option<Place>)
-    ensures { K.takes out.old out.new (place_text names.now origins.now (option_map (λ p. p.«module») place)) }
+fn place_text<K: Output>(out: &mut K, names: &ModuleFiles, origins: &Origins, place: Option<Place>)
+    ensures { K.takes out.old out.new (place_text (all_files names.now) origins.now (option_map (λ p. p.«module») place)) }
 {
     match place {
         Some(place) => origin_at(out, names, origins.as_slice(), place.module),
@@ -81,13 +82,13 @@ fn described<K: Output>(out: &mut K, word: &[u8], number: u32, section: &Section
 pub(crate) fn section_line<K: Output>(
     out: &mut K,
     maus: u8,
-    names: &[ModuleFile],
+    names: &ModuleFiles,
     origins: &Origins,
     number: u32,
     section: &Section,
 )
     requires { IsUnitCount maus }
-    ensures { K.takes out.old out.new (section_line maus names.now origins.now number section.now) }
+    ensures { K.takes out.old out.new (section_line maus (all_files names.now) origins.now number section.now) }
 {
     described(out, b"section ", number, section);
     base_text(out, maus, section.base);
@@ -125,11 +126,11 @@ fn asks_for(name: &[u8], parts: &Parts) -> bool
 // The line of a module that requests space.
 fn indented_line<K: Output>(
     out: &mut K,
-    names: &[ModuleFile],
+    names: &ModuleFiles,
     position: usize,
     module: &FlatModule<'_>,
 )
-    ensures { K.takes out.old out.new (codes "  " ++ module_line names.now position (file_module «module».now)) }
+    ensures { K.takes out.old out.new (codes "  " ++ module_line (all_files names.now) position (file_module «module».now)) }
 {
     out.put(b"  ");
     module_line(out, names, position, module);
@@ -138,12 +139,12 @@ fn indented_line<K: Output>(
 // The line of a module, if it requests space for the name.
 fn asking_line<K: Output>(
     out: &mut K,
-    names: &[ModuleFile],
+    names: &ModuleFiles,
     name: &[u8],
     position: usize,
     module: &FlatModule<'_>,
 )
-    ensures { K.takes out.old out.new (asking_line names.now name.now position (file_module «module».now)) }
+    ensures { K.takes out.old out.new (asking_line (all_files names.now) name.now position (file_module «module».now)) }
 {
     match asks_for(name, module.parts) {
         true => indented_line(out, names, position, module),
@@ -152,8 +153,8 @@ fn asking_line<K: Output>(
 }
 
 // The lines of the modules that request space for the name.
-fn asking_lines<K: Output>(out: &mut K, names: &[ModuleFile], flat: &[FlatModule<'_>], name: &[u8])
-    ensures { K.takes out.old out.new (each (asking_line names.now name.now) (flat_of flat.now)) }
+fn asking_lines<K: Output>(out: &mut K, names: &ModuleFiles, flat: &[FlatModule<'_>], name: &[u8])
+    ensures { K.takes out.old out.new (each (asking_line (all_files names.now) name.now) (flat_of flat.now)) }
 {
     for position in 0..flat.len() {
         asking_line(out, names, name, position, &flat[position]);
@@ -163,12 +164,12 @@ fn asking_lines<K: Output>(out: &mut K, names: &[ModuleFile], flat: &[FlatModule
 /// Puts the line of a common with its number, and those of the modules that request space for its name.
 pub(crate) fn common_lines<K: Output>(
     out: &mut K,
-    names: &[ModuleFile],
+    names: &ModuleFiles,
     flat: &[FlatModule<'_>],
     number: u32,
     section: &Section,
 )
-    ensures { K.takes out.old out.new (common_lines names.now (flat_of flat.now) number section.now) }
+    ensures { K.takes out.old out.new (common_lines (all_files names.now) (flat_of flat.now) number section.now) }
 {
     described(out, b"common ", number, section);
     out.put(b"\n");

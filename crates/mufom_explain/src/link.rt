@@ -6,6 +6,7 @@ ghost use Rattle.mufom_explain.specs.Details.{differs_from, first_line, link_det
 ghost use Rattle.mufom_explain.specs.Explained.{left_after, link_lines, link_text, start_line};
 ghost use Rattle.mufom_explain.specs.Flat.{file_module, flat_of};
 ghost use Rattle.mufom_explain.specs.Lines.{ModuleFiles};
+ghost use Rattle.mufom_origins.specs.Words.{all_files};
 
 use crate::details::{LinkDetails, LinkKind};
 use crate::finding::find_mentions;
@@ -14,7 +15,7 @@ use crate::naming::one_name;
 use mufom_link::LinkRefusal;
 use mufom_module::{Order, Parts};
 use mufom_numbers::NoMemory;
-use mufom_origins::ModuleFile;
+use mufom_origins::ModuleFiles;
 use mufom_text::{Lines, Output};
 use std::alloc::Global;
 
@@ -42,8 +43,8 @@ fn differs_from(flat: &[FlatModule<'_>], module: &Parts) -> bool
 }
 
 // The line of the first module whose descriptor differs from that of the first module, if there is one.
-fn other_line<K: Output>(out: &mut K, names: &[ModuleFile], flat: &[FlatModule<'_>])
-    ensures { K.takes out.old out.new (other_line names.now (flat_of flat.now)) }
+fn other_line<K: Output>(out: &mut K, names: &ModuleFiles, flat: &[FlatModule<'_>])
+    ensures { K.takes out.old out.new (other_line (all_files names.now) (flat_of flat.now)) }
 {
     for position in 0..flat.len() {
         let module = &flat[position];
@@ -55,8 +56,8 @@ fn other_line<K: Output>(out: &mut K, names: &[ModuleFile], flat: &[FlatModule<'
 }
 
 // The line of the first module, if there is one.
-fn first_line<K: Output>(out: &mut K, names: &[ModuleFile], flat: &[FlatModule<'_>])
-    ensures { K.takes out.old out.new (first_line names.now (flat_of flat.now)) }
+fn first_line<K: Output>(out: &mut K, names: &ModuleFiles, flat: &[FlatModule<'_>])
+    ensures { K.takes out.old out.new (first_line (all_files names.now) (flat_of flat.now)) }
 {
     if let Some(first) = flat.first() {
         module_line(out, names, 0, first);
@@ -67,13 +68,13 @@ fn first_line<K: Output>(out: &mut K, names: &[ModuleFile], flat: &[FlatModule<'
 // it.
 fn start_line<K: Output>(
     out: &mut K,
-    names: &[ModuleFile],
+    names: &ModuleFiles,
     left: u32,
     position: usize,
     module: &FlatModule<'_>,
 ) -> u32
     ensures left { result ≡ left_after left (position, file_module «module».now) }
-    ensures put { K.takes out.old out.new (start_line names.now left (position, file_module «module».now)) }
+    ensures put { K.takes out.old out.new (start_line (all_files names.now) left (position, file_module «module».now)) }
 {
     match left > 0 && module.parts.start.is_some() {
         true => {
@@ -85,8 +86,8 @@ fn start_line<K: Output>(
 }
 
 // The lines of the first two modules with a start.
-fn start_lines<K: Output>(out: &mut K, names: &[ModuleFile], flat: &[FlatModule<'_>])
-    ensures { K.takes out.old out.new (start_lines names.now (flat_of flat.now)) }
+fn start_lines<K: Output>(out: &mut K, names: &ModuleFiles, flat: &[FlatModule<'_>])
+    ensures { K.takes out.old out.new (start_lines (all_files names.now) (flat_of flat.now)) }
 {
     let mut left = 2;
     for position in 0..flat.len() {
@@ -141,12 +142,12 @@ fn kind_of<'a>(
 /// error is out of memory.
 pub fn explain_link<'a>(
     alloc: Global,
-    names: &'a [ModuleFile],
+    names: &'a ModuleFiles,
     flat: &'a [FlatModule<'a>],
     refusal: &'a LinkRefusal,
 ) -> Result<LinkDetails<'a>, NoMemory>
     requires { length flat.now < 2 ^ 32 }
-    ensures { IfOk result (λ details. link_text details ≡ link_details names.now (flat_of flat.now) refusal.now) }
+    ensures { IfOk result (λ details. link_text details ≡ link_details (all_files names.now) (flat_of flat.now) refusal.now) }
 {
     let kind = kind_of(alloc, flat, refusal)?;
     Ok(LinkDetails { names, flat, kind })

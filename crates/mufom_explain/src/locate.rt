@@ -17,6 +17,7 @@ ghost use Rattle.mufom_explain.specs.Explained.{explained_of, locate_lines, loca
 ghost use Rattle.mufom_explain.specs.Flat.{flat_of};
 ghost use Rattle.mufom_explain.specs.Lines.{copied_line};
 ghost use Rattle.mufom_explain.specs.Mentions.{mention_text};
+ghost use Rattle.mufom_origins.specs.Words.{all_files};
 
 use crate::details::{LocateContext, LocateDetails, LocateKind};
 use crate::entries::{common_lines, copy_line, section_line};
@@ -176,7 +177,7 @@ fn about_name<'a>(
 ) -> Result<LocateKind<'a>, NoMemory>
     requires { length context.now.flat.now < 2 ^ 32 }
     ensures { IfOk result (λ kind. locate_lines (explained_of context.now) kind
-        ≡ mention_text context.now.names.now (flat_of context.now.flat.now) (name.now ∷ [])) }
+        ≡ mention_text (all_files context.now.names.now) (flat_of context.now.flat.now) (name.now ∷ [])) }
 {
     let wanted = one_name(alloc, name.as_slice())?;
     Ok(LocateKind::Mentions(find_mentions(alloc, wanted, context.flat)?))
@@ -189,7 +190,7 @@ fn about_undefined<'a>(
 ) -> Result<LocateKind<'a>, NoMemory>
     requires { length context.now.flat.now < 2 ^ 32 }
     ensures { IfOk result (λ kind. locate_lines (explained_of context.now) kind
-        ≡ mention_text context.now.names.now (flat_of context.now.flat.now) (undefined_names (context.now.object.now ∷ []))) }
+        ≡ mention_text (all_files context.now.names.now) (flat_of context.now.flat.now) (undefined_names (context.now.object.now ∷ []))) }
 {
     let wanted = undefined_names(alloc, context.object)?;
     Ok(LocateKind::Mentions(find_mentions(alloc, wanted, context.flat)?))

@@ -6,6 +6,7 @@ ghost use Rattle.mufom_plan.specs.Names.{has_name};
 ghost use Rattle.mufom_text.specs.Words.{each};
 ghost use Rattle.mufom_explain.specs.Flat.{file_module, flat_of, parts_of, wanted_names};
 ghost use Rattle.mufom_explain.specs.Mentions.{kind_text, mention_line, mention_text, mentions_any, name_lines, named_line};
+ghost use Rattle.mufom_origins.specs.Words.{all_files};
 
 use crate::mention::{Mention, MentionKind};
 use crate::mentions::Mentions;
@@ -13,7 +14,7 @@ use crate::modules::{FlatModule, module_line};
 use crate::wanted::Wanted;
 use mufom_module::Parts;
 use mufom_names::{Public, Reference};
-use mufom_origins::ModuleFile;
+use mufom_origins::ModuleFiles;
 use mufom_text::{Output, counted, quoted};
 
 // The text about a mention, after the name.
@@ -78,12 +79,12 @@ fn has_reference(wanted: &Wanted<'_>, references: &[Reference]) -> bool
 // The line of a module, if it mentions one of the names.
 fn named_line<K: Output>(
     out: &mut K,
-    names: &[ModuleFile],
+    names: &ModuleFiles,
     wanted: &Wanted<'_>,
     position: usize,
     module: &FlatModule<'_>,
 )
-    ensures { K.takes out.old out.new (named_line names.now (wanted_names wanted.now) position (file_module «module».now)) }
+    ensures { K.takes out.old out.new (named_line (all_files names.now) (wanted_names wanted.now) position (file_module «module».now)) }
 {
     match mentions_any(wanted, module.parts) {
         true => module_line(out, names, position, module),
@@ -103,8 +104,8 @@ impl<'a> Mentions<'a> {
     }
 
     // The lines of the modules that mention one of the names.
-    fn module_lines<K: Output>(&self, out: &mut K, names: &[ModuleFile])
-        ensures { K.takes out.old out.new (each (named_line names.now (wanted_names self.now.wanted)) (flat_of self.now.flat.now)) }
+    fn module_lines<K: Output>(&self, out: &mut K, names: &ModuleFiles)
+        ensures { K.takes out.old out.new (each (named_line (all_files names.now) (wanted_names self.now.wanted)) (flat_of self.now.flat.now)) }
     {
         for position in 0..self.flat.len() {
             named_line(out, names, &self.wanted, position, &self.flat[position]);
@@ -112,8 +113,8 @@ impl<'a> Mentions<'a> {
     }
 
     /// Puts the lines of the mentions, and those of the modules that contain them.
-    pub(crate) fn put<K: Output>(&self, out: &mut K, names: &[ModuleFile])
-        ensures { K.takes out.old out.new (mention_text names.now (flat_of self.now.flat.now) (wanted_names self.now.wanted)) }
+    pub(crate) fn put<K: Output>(&self, out: &mut K, names: &ModuleFiles)
+        ensures { K.takes out.old out.new (mention_text (all_files names.now) (flat_of self.now.flat.now) (wanted_names self.now.wanted)) }
     {
         self.all_lines(out);
         self.module_lines(out, names);

@@ -3,9 +3,10 @@
 ghost use Rattle.std.specs.Prelude.{◌≡◌, ◌++◌};
 ghost use Rattle.mufom_explain.specs.Flat.{file_module};
 ghost use Rattle.mufom_explain.specs.Lines.{module_line};
+ghost use Rattle.mufom_origins.specs.Words.{all_files};
 
 use mufom_module::Parts;
-use mufom_origins::{ModuleFile, module_text};
+use mufom_origins::{ModuleFiles, module_text};
 use mufom_text::Output;
 
 /// A module of a flat list, with the number of the file that it was read from.
@@ -18,11 +19,11 @@ pub struct FlatModule<'a> {
 /// The line of a module.
 pub(crate) fn module_line<K: Output>(
     out: &mut K,
-    names: &[ModuleFile],
+    names: &ModuleFiles,
     position: usize,
     module: &FlatModule<'_>,
 )
-    ensures { K.takes out.old out.new (module_line names.now position (file_module «module».now)) }
+    ensures { K.takes out.old out.new (module_line (all_files names.now) position (file_module «module».now)) }
 {
     module_text(out, names, position, module.file, &module.parts.name);
     out.put(b"\n");

@@ -5,12 +5,13 @@ ghost use Rattle.std.specs.Str.{bytes_eq};
 ghost use Rattle.mufom_explain.specs.Details.{shared_details, symbol_line, symbol_lines};
 ghost use Rattle.mufom_explain.specs.Explained.{shared_text};
 ghost use Rattle.mufom_explain.specs.Flat.{flat_of};
+ghost use Rattle.mufom_origins.specs.Words.{all_files};
 
 use crate::details::SharedDetails;
 use crate::modules::FlatModule;
 use crate::named::explain_name;
 use mufom_numbers::NoMemory;
-use mufom_origins::ModuleFile;
+use mufom_origins::ModuleFiles;
 use mufom_plan::{Plan, PlanSymbol};
 use mufom_text::{Lines, Output, counted, quoted};
 use std::alloc::Global;
@@ -66,13 +67,13 @@ fn symbol_named(symbols: &[PlanSymbol], name: &[u8]) -> Option<usize>
 /// the plan, and the memory to the number of mentions. The only error is out of memory.
 pub fn explain_shared<'a>(
     alloc: Global,
-    names: &'a [ModuleFile],
+    names: &'a ModuleFiles,
     flat: &'a [FlatModule<'a>],
     plan: &Plan,
     name: &'a [u8],
 ) -> Result<SharedDetails<'a>, NoMemory>
     requires few { length flat.now < 2 ^ 32 }
-    ensures { IfOk result (λ details. shared_text details ≡ shared_details names.now (flat_of flat.now) plan.now name.now) }
+    ensures { IfOk result (λ details. shared_text details ≡ shared_details (all_files names.now) (flat_of flat.now) plan.now name.now) }
 {
     let symbol = symbol_named(plan.symbols.as_slice(), name);
     let mentions = explain_name(alloc, names, flat, name)?;

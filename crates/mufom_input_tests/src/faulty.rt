@@ -74,7 +74,7 @@ fn fault_in(rt: &impl Abort, alloc: Global, words: &[String], line: &str) -> Usa
 fn each_error_is_about_its_argument(rt: HostRuntime) {
     for (line, want) in &ROWS {
         let words = words_of(&rt, rt.alloc(), line);
-        assert!(&rt; words.len() < 1 << 32);
+        assert!(&rt; words.len() < 1 << 32, "{line}");
         let fault = fault_in(&rt, rt.alloc(), &words, line);
         let found = faulty_argument(rt.alloc(), &words, fault).expect(&rt, "memory");
         let text = format!(in rt.alloc(); "{found:?}").expect(&rt, "memory");

@@ -3,6 +3,7 @@
 
 use mufom_host::{Host, MemHost};
 use mufom_link::{LinkRefusal, link, link_owned, may_be_linked};
+use mufom_meaning::Descriptor;
 use mufom_module::Module;
 use mufom_numbers::List;
 use mufom_read::{ReadOptions, Reader};
@@ -163,10 +164,32 @@ pub(crate) fn links_to(rt: &impl Abort, alloc: Global, list: &[&Records<'_>], wh
     is_written(rt, alloc, &linked, &file);
 }
 
-/// These modules are not linked, and this is why.
-pub(crate) fn refuses(rt: &impl Abort, alloc: Global, list: &[&Records<'_>], why: &str) {
+/// Why modules are not linked.
+pub(crate) enum Unlinked {
+    Duplicate(&'static [u8]),
+    Mismatch(Descriptor, Descriptor),
+    DuplicateStart,
+}
+
+// Whether this is the error.
+fn is_why(refusal: &LinkRefusal, why: &Unlinked) -> bool {
+    match (refusal, why) {
+        (LinkRefusal::Duplicate(name), Unlinked::Duplicate(wanted)) => name.as_slice() == *wanted,
+        (LinkRefusal::Mismatch(a, b), Unlinked::Mismatch(first, other)) => a == first && b == other,
+        (LinkRefusal::DuplicateStart, Unlinked::DuplicateStart) => true,
+        _ => false,
+    }
+}
+
+/// These modules, the row with this number, are not linked, and this is why.
+pub(crate) fn refuses(
+    rt: &impl Abort,
+    alloc: Global,
+    number: usize,
+    list: &[&Records<'_>],
+    why: &Unlinked,
+) {
     let modules = modules(rt, alloc, list);
     let refusal = try_link(alloc, &modules).err().expect(rt, "a refusal");
-    let text = format!(in alloc; "{refusal:?}").expect(rt, "memory");
-    assert_eq!(rt; text.as_str(), why);
+    assert!(rt; is_why(&refusal, why), "row {number}: {refusal}");
 }

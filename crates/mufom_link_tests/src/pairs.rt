@@ -1,8 +1,10 @@
 //! Lists of two modules that are linked: two halves that need each other, each refusal, and
 //! references that become one, stay apart or are met.
 
-use crate::files::{FOUR, Records, links_to, refuses};
+use crate::files::{FOUR, Records, Unlinked, links_to, refuses};
 use mufom_link::may_be_linked;
+use mufom_meaning::Descriptor;
+use mufom_module::Order;
 
 #[test]
 fn an_empty_list_may_not_be_linked(rt: HostRuntime) {
@@ -123,31 +125,31 @@ const LEAST_FIRST: Records<'static> = Records {
     trailer: START,
 };
 
+// The address descriptor with this number of units and byte order.
+const fn descriptor(maus: u8, order: Order) -> Descriptor {
+    Descriptor { maus, order }
+}
+
 // Two modules, and why they are not linked.
-const REFUSED: [([&Records<'static>; 2], &str); 5] = [
-    (
-        [&DEFINING, &DEFINING],
-        "Duplicate(Bytes { held: [109, 97, 105, 110] })",
-    ),
-    (
-        [&BOTH, &BOTH],
-        "Duplicate(Bytes { held: [109, 97, 105, 110] })",
-    ),
+const REFUSED: [([&Records<'static>; 2], Unlinked); 5] = [
+    ([&DEFINING, &DEFINING], Unlinked::Duplicate(b"main")),
+    ([&BOTH, &BOTH], Unlinked::Duplicate(b"main")),
     (
         [&BOTH, &TWO_UNITS],
-        "Mismatch(Descriptor { maus: 4, order: Most }, Descriptor { maus: 2, order: Most })",
+        Unlinked::Mismatch(descriptor(4, Order::Most), descriptor(2, Order::Most)),
     ),
     (
         [&BOTH, &LEAST_FIRST],
-        "Mismatch(Descriptor { maus: 4, order: Most }, Descriptor { maus: 4, order: Least })",
+        Unlinked::Mismatch(descriptor(4, Order::Most), descriptor(4, Order::Least)),
     ),
-    ([&STARTING, &STARTING], "DuplicateStart"),
+    ([&STARTING, &STARTING], Unlinked::DuplicateStart),
 ];
 
 #[test]
 fn lists_are_refused_in_order(rt: HostRuntime) {
-    for (list, why) in &REFUSED {
-        refuses(&rt, rt.alloc(), list, why);
+    for number in 0..REFUSED.len() {
+        let (list, why) = &REFUSED[number];
+        refuses(&rt, rt.alloc(), number, list, why);
     }
 }
 

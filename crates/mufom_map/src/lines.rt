@@ -8,25 +8,26 @@ ghost use Rattle.mufom_text.specs.Words.{each, line};
 ghost use Rattle.mufom_map.specs.MapText.{found_public, in_module, in_module_or_plan, in_region, kind_word, module_line, placed_text};
 ghost use Rattle.mufom_map.specs.MapText.{public_line, public_text, section_line, start_line};
 ghost use Rattle.mufom_map.specs.Shown.{base_of};
+ghost use Rattle.mufom_origins.specs.Words.{all_files};
 
 use crate::room::base_of;
 use mufom_meaning::PublicValue;
-use mufom_origins::{ModuleFile, Origin, module_text};
+use mufom_origins::{ModuleFiles, Origin, module_text};
 use mufom_sections::Section;
 use mufom_text::{Output, counted, hex, quoted};
 
 // ---- modules
 
-fn module_line<K: Output>(out: &mut K, names: &[ModuleFile], position: usize, origin: &Origin)
-    ensures { K.takes out.old out.new (module_line names.now position origin.now) }
+fn module_line<K: Output>(out: &mut K, names: &ModuleFiles, position: usize, origin: &Origin)
+    ensures { K.takes out.old out.new (module_line (all_files names.now) position origin.now) }
 {
     module_text(out, names, position, origin.file, &origin.name);
     out.put(b"\n");
 }
 
 /// The lines of modules. `names` are the files of all modules that were read.
-pub(crate) fn module_lines<K: Output>(out: &mut K, names: &[ModuleFile], origins: &[Origin])
-    ensures { K.takes out.old out.new (each (module_line names.now) origins.now) }
+pub(crate) fn module_lines<K: Output>(out: &mut K, names: &ModuleFiles, origins: &[Origin])
+    ensures { K.takes out.old out.new (each (module_line (all_files names.now)) origins.now) }
 {
     for position in 0..origins.len() {
         module_line(out, names, position, &origins[position]);

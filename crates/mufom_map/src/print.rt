@@ -7,6 +7,7 @@ ghost use Rattle.mufom_planned.specs.Planned.{IsPlanned};
 ghost use Rattle.mufom_map.specs.Mapped.{mapped_by, planned_layout};
 ghost use Rattle.mufom_map.specs.MapText.{by_key, map_text, public_line, section_line, total_line};
 ghost use Rattle.mufom_map.specs.ShownMap.{shown};
+ghost use Rattle.mufom_origins.specs.Words.{all_files};
 
 use crate::entries::module_of;
 use crate::lines::{module_lines, public_line, start_line};
@@ -18,7 +19,7 @@ use mufom_host::Host;
 use mufom_located::Located;
 use mufom_meaning::Run;
 use mufom_module::Module;
-use mufom_origins::{ModuleFile, Origins};
+use mufom_origins::{ModuleFiles, Origins};
 use mufom_place::RegionCopy;
 use mufom_plan::Plan;
 use mufom_sections::Section;
@@ -86,7 +87,7 @@ impl<'a> Map<'a> {
 /// A map of which the whole text is printed, with the files of all modules that were read.
 #[derive(Drop)]
 struct WholeMap<'a> {
-    names: &'a [ModuleFile],
+    names: &'a ModuleFiles,
     map: Map<'a>,
 }
 
@@ -94,7 +95,7 @@ impl<'a> Lines for WholeMap<'a> {
     ghost use Rattle.mufom_map.specs.MapText.{map_text};
     ghost use Rattle.mufom_map.specs.ShownMap.{shown};
 
-    ghost text = { λ whole. map_text whole.names.now (shown whole.map) };
+    ghost text = { λ whole. map_text (all_files whole.names.now) (shown whole.map) };
 
     fn put_lines<K: Output>(&self, out: &mut K) {
         let map = &self.map;
@@ -120,7 +121,7 @@ impl<'a> Lines for WholeMap<'a> {
 pub fn print_map<H: Host>(
     alloc: Global,
     host: &mut H,
-    names: &[ModuleFile],
+    names: &ModuleFiles,
     origins: &Origins,
     object: &Module,
     plan: &Plan,
@@ -131,9 +132,9 @@ pub fn print_map<H: Host>(
     requires regions { length plan.now.regions < 2 ^ 32 }
     requires planned { IsPlanned (object.now ∷ []) plan.now located.now }
     requires copies { copies.now ≡ (planned_layout (object.now ∷ []) plan.now).copied }
-    ensures done { OnOk result (GrowsBy (H.meaning host.old).out (H.meaning host.new).out (map_text names.now
+    ensures done { OnOk result (GrowsBy (H.meaning host.old).out (H.meaning host.new).out (map_text (all_files names.now)
         (mapped_by origins.now (planned_layout (object.now ∷ []) plan.now) located.now))) }
-    ensures fault { result ≡ Err PrintStop.Fault → GrowsByPrefix (H.meaning host.old).out (H.meaning host.new).out (map_text names.now
+    ensures fault { result ≡ Err PrintStop.Fault → GrowsByPrefix (H.meaning host.old).out (H.meaning host.new).out (map_text (all_files names.now)
         (mapped_by origins.now (planned_layout (object.now ∷ []) plan.now) located.now))
         × Rose (H.faults host.old).writes (H.faults host.new).writes }
     ensures unmade { result ≡ Err PrintStop.NoMemory → (H.meaning host.new).out ≡ (H.meaning host.old).out }

@@ -14,5 +14,5 @@ mod slices;
 mod source;
 
 pub use laws::{files_have_a_verdict, files_have_one_verdict};
-pub use members::{Members, MembersStop};
+pub use members::{Members, MembersStop, name_at};
 pub use source::read_members;

@@ -16,8 +16,18 @@ pub struct Members {
     pub modules: List<Module>,
     /// The length of the file in bytes.
     pub length: u64,
-    // The listing of an archive, with the entries of the modules alone. None if the file is not an archive.
-    pub(crate) listing: Option<Listing>,
+    /// The listing of an archive, with the entries of the modules alone. None if the file is not an archive.
+    pub listing: Option<Listing>,
+}
+
+/// The name of the module at this position of a file, without the path of the file, given the listing of the
+/// file's modules. `None` if the file is not an archive, or if it has no such module. Does not allocate.
+pub fn name_at(listing: &Option<Listing>, position: usize) -> Option<&[u8]>
+    ensures { option_map (λ name. name.now) result ≡ name_at listing.now position }
+{
+    let listing = listing.as_ref()?;
+    let entry = listing.entries.get(position)?;
+    listing.name(entry)
 }
 
 impl Members {
@@ -26,9 +36,7 @@ impl Members {
     pub fn name(&self, position: usize) -> Option<&[u8]>
         ensures { option_map (λ name. name.now) result ≡ name_at self.now.listing position }
     {
-        let listing = self.listing.as_ref()?;
-        let entry = listing.entries.get(position)?;
-        listing.name(entry)
+        name_at(&self.listing, position)
     }
 }
 

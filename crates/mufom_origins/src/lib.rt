@@ -7,14 +7,16 @@
 //! the flat list itself.
 #![tactic(auto)]
 
+mod files;
 mod laws;
 mod origins;
 mod words;
 
+pub use files::ModuleFiles;
 pub use laws::{
     entries_left_keep_their_modules, publics_come_from_modules, references_come_from_modules,
     sections_come_from_modules, selected_origins_are_those_of_the_flat_list,
     the_start_comes_from_a_module,
 };
 pub use origins::{Origin, Origins, Place};
-pub use words::{ModuleFile, file_name, module_text};
+pub use words::{file_name, module_text};

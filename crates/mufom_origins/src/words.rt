@@ -1,20 +1,13 @@
 //! The words for a module: its position, its name, and the file from which it was read.
 
-ghost use Rattle.std.specs.Prelude.{◌≡◌};
-ghost use Rattle.mufom_origins.specs.Words.{file_name, file_text, module_text};
+ghost use Rattle.std.specs.Prelude.{◌++◌, codes, flat_map, slice_get};
+ghost use Rattle.mufom_text.specs.Words.{quoted, quoted_byte};
+ghost use Rattle.mufom_origins.specs.Words.{all_files, file_name, file_text, module_text, word_at};
 
+use crate::files::{ModuleFiles, ReadFile};
+use mufom_members::name_at;
 use mufom_numbers::{Bytes, Text};
-use mufom_text::{Output, counted, quoted};
-
-/// The file of a module: its number among the files that are named, and its name as it was given. For a member
-/// of an archive, the name of the member follows in parentheses, as in `libc.a(printf.o)`.
-#[derive(Debug, Drop)]
-pub struct ModuleFile {
-    /// The number of the file, from 0.
-    pub number: u32,
-    /// The name of the file, and perhaps of the member.
-    pub name: Bytes,
-}
+use mufom_text::{Output, counted, quoted, quoted_bytes};
 
 /// Returns the name of the file with a number, as it was given; empty past the last file.
 pub fn file_name(names: &[Text], number: u32) -> &[u8]
@@ -26,17 +19,35 @@ pub fn file_name(names: &[Text], number: u32) -> &[u8]
     }
 }
 
-// Puts a file by its number and its name, if there is one.
-fn file_text<K: Output>(out: &mut K, file: Option<&ModuleFile>)
-    ensures { K.takes out.old out.new (file_text (option_map (λ f. f.now) file)) }
+// Puts the name of a member in parentheses.
+fn member_text<K: Output>(out: &mut K, member: &[u8])
+    ensures { K.takes out.old out.new (codes "(" ++ (flat_map quoted_byte member.now ++ codes ")")) }
 {
-    match file {
-        Some(file) => {
-            counted(out, b" file ", file.number as u128);
-            out.put(b": ");
-            quoted(out, file.name.as_slice());
-        }
-        None => {}
+    out.put(b"(");
+    quoted_bytes(out, member);
+    out.put(b")");
+}
+
+// Puts the name of a file in quotes, with that of the member at a position if the file is an archive.
+fn file_word<K: Output>(out: &mut K, file: &ReadFile, position: usize)
+    ensures { K.takes out.old out.new (quoted (word_at file.now.name file.now.listing position)) }
+{
+    out.put(b"\"");
+    quoted_bytes(out, file.name.as_str().as_bytes());
+    if file.listing.is_some() {
+        member_text(out, name_at(&file.listing, position).unwrap_or(&[]));
+    }
+    out.put(b"\"");
+}
+
+// Puts the file of the module at a place, by its number and its name.
+fn file_text<K: Output>(out: &mut K, files: &ModuleFiles, place: u32)
+    ensures { K.takes out.old out.new (file_text (slice_get (all_files files.now) place)) }
+{
+    if let Some((file, position)) = files.find(place as usize) {
+        counted(out, b" file ", file.number as u128);
+        out.put(b": ");
+        file_word(out, file, position);
     }
 }
 
@@ -45,15 +56,15 @@ fn file_text<K: Output>(out: &mut K, file: Option<&ModuleFile>)
 /// read, and `place` is the place of the module among them.
 pub fn module_text<K: Output>(
     out: &mut K,
-    files: &[ModuleFile],
+    files: &ModuleFiles,
     position: usize,
     place: u32,
     name: &Bytes,
 )
-    ensures { K.takes out.old out.new (module_text files.now position place name.now) }
+    ensures { K.takes out.old out.new (module_text (all_files files.now) position place name.now) }
 {
     counted(out, b"module ", position as u128);
     out.put(b" ");
     quoted(out, name.as_slice());
-    file_text(out, files.get(place as usize));
+    file_text(out, files, place);
 }

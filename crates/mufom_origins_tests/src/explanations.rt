@@ -13,7 +13,7 @@ use mufom_image::{LocateRefusal, locate};
 use mufom_module::{Module, Order, Parts, assemble};
 use mufom_names::{Reference, Weak};
 use mufom_numbers::{Bytes, List};
-use mufom_origins::{ModuleFile, Origins};
+use mufom_origins::{ModuleFiles, Origins};
 use mufom_plan::{Plan, read_plan};
 use mufom_sections::Section;
 use mufom_text::print_lines;

@@ -71,7 +71,11 @@ fn addresses_come_in_order(rt: HostRuntime) {
     let mut found = addresses(rt.alloc(), items).expect(&rt, "memory");
     for number in 1..5u64 {
         let expression = found.next().expect(&rt, "an address");
-        assert_eq!(rt; expression.tokens(), &[Token::Number(number)][..]);
+        assert_eq!(rt;
+            expression.tokens(),
+            &[Token::Number(number)][..],
+            "address {number}"
+        );
     }
     assert!(rt; found.next().is_none());
 }

@@ -216,8 +216,8 @@ fn fault(builder: &mut Builder, token: Token) -> Option<ExprFault> {
 fn full(rt: &impl Abort, alloc: Global) -> Builder {
     let mut builder = Builder::new(alloc);
     assert!(rt; fault(&mut builder, Number(1)).is_none());
-    for _ in 0..254 {
-        assert!(rt; fault(&mut builder, Fun(Neg)).is_none());
+    for number in 1..255 {
+        assert!(rt; fault(&mut builder, Fun(Neg)).is_none(), "token {number}");
     }
     builder
 }

@@ -26,7 +26,7 @@ fn cuts_make_no_difference(rt: HostRuntime) {
     let whole = text_of(&rt, alloc, &stream, 65_536);
     for size in [1, 2, 3, 99] {
         let cut = text_of(&rt, alloc, &stream, size);
-        assert_eq!(rt; cut.as_str(), whole.as_str());
+        assert_eq!(rt; cut.as_str(), whole.as_str(), "chunks of {size}");
     }
 }
 

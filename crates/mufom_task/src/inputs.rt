@@ -114,8 +114,8 @@ pub struct Loaded {
     pub plan: Plan,
     /// The modules of the files, in their order.
     pub modules: List<Module>,
-    /// The file of each of these modules.
-    pub files: List<ModuleFile>,
+    /// The files of these modules.
+    pub files: ModuleFiles,
 }
 
 /// Reads the inputs of a task: its plan, and then its files in their order. Returns the outcome of the run if
@@ -130,7 +130,7 @@ pub fn read_or_unread<H: Host>(
     ensures read { IfOk result (λ loaded. IfSome (H.meaning host.old).files
         (λ files. inputs_in files inputs.now (gives (loaded.plan, loaded.modules)))) }
     ensures sound { IfOk result (λ loaded. IsReadPlan loaded.plan) }
-    ensures files { IfOk result (λ loaded. IfSome (H.meaning host.old).files (λ files. loaded.files ≡ module_files files inputs.now)) }
+    ensures files { IfOk result (λ loaded. IfSome (H.meaning host.old).files (λ files. all_files loaded.files ≡ module_files files inputs.now)) }
     ensures count { IfOk result (λ loaded. HaveRoots inputs.now loaded.modules) }
     ensures few { IfOk result (λ loaded. length loaded.modules ≤ MOST_MODULES) }
     ensures all { IfOk result (λ loaded. GrowsBy (H.meaning host.old).opened (H.meaning host.new).opened (input_names inputs.now)) }
@@ -159,7 +159,7 @@ pub fn read_inputs<H: Host>(alloc: Global, inputs: &Inputs, host: &mut H) -> Res
     ensures read { IfOk result (λ loaded. IfSome (H.meaning host.old).files
         (λ files. inputs_in files inputs.now (gives (loaded.plan, loaded.modules)))) }
     ensures sound { IfOk result (λ loaded. IsReadPlan loaded.plan) }
-    ensures files { IfOk result (λ loaded. IfSome (H.meaning host.old).files (λ files. loaded.files ≡ module_files files inputs.now)) }
+    ensures files { IfOk result (λ loaded. IfSome (H.meaning host.old).files (λ files. all_files loaded.files ≡ module_files files inputs.now)) }
     ensures count { IfOk result (λ loaded. HaveRoots inputs.now loaded.modules) }
     ensures few { IfOk result (λ loaded. length loaded.modules ≤ MOST_MODULES) }
     ensures all { IfOk result (λ loaded. GrowsBy (H.meaning host.old).opened (H.meaning host.new).opened (input_names inputs.now)) }

@@ -36,4 +36,4 @@ pub use output::Output;
 pub use print::{Lines, PrintStop, print_lines};
 pub use quoting::quoted_name;
 pub use show::{print_module, print_text, text_bytes};
-pub use words::{number, numbered, quoted};
+pub use words::{number, numbered, quoted, quoted_bytes};

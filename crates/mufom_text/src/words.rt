@@ -79,7 +79,8 @@ fn quoted_byte<K: Output>(out: &mut K, byte: u8)
     }
 }
 
-fn quoted_bytes<K: Output>(out: &mut K, bytes: &[u8])
+/// The bytes of a name without its quotes, for a name that is put in parts.
+pub fn quoted_bytes<K: Output>(out: &mut K, bytes: &[u8])
     ensures { K.takes out.old out.new (flat_map quoted_byte bytes.now) }
 {
     for byte in bytes {

@@ -6,12 +6,13 @@ use Rattle.mufom_explain.specs.declared.modules.FlatModule.{FlatModule}
 use Rattle.mufom_explain.specs.Flat.{file_module, wanted_names}
 use Rattle.mufom_explain.specs.Mentions.{named_line}
 use Rattle.mufom_explain.proofs.LineLaws.{each-map}
+use Rattle.mufom_origins.specs.Words.{all_files}
 use Rattle.mufom_explain.proofs.mentions.Mentions.module_lines.Goals as goal
 
 pub loop-position-preserved : goal.loop-position-preserved
 loop-position-preserved g c =
     let self = c.args.self.now in
-    let write : ℕ → FlatModule → Text = λ j m. named_line c.args.names.now (wanted_names self.wanted) j (file_module m) in
+    let write : ℕ → FlatModule → Text = λ j m. named_line (all_files c.args.names.now) (wanted_names self.wanted) j (file_module m) in
     each-step g.K.Output.takes g.met.K.Output.joins write self.flat.now c.loop-position.position
     c.index-self-position.result c.index-self-position.result _ _ _
     c.loop-position-test.true c.index-self-position.is c.loop-position.invariant
@@ -21,7 +22,7 @@ loop-position-preserved g c =
 pub returns : goal.returns
 returns g c =
     let self = c.args.self.now in
-    let flat = self.flat.now in let names = c.args.names.now in let wanted = wanted_names self.wanted in
+    let flat = self.flat.now in let names = all_files c.args.names.now in let wanted = wanted_names self.wanted in
     let write : ℕ → FlatModule → Text = λ j m. named_line names wanted j (file_module m) in
     let end = c.loop-position-test.false in
     let all : take c.loop-position.position flat ≡ flat = take_all c.loop-position.position flat (omega (arith, end)) in
