@@ -47,6 +47,13 @@ module _ (options : ReadOptions) (bytes names : List ℕ) (fits : AreBytes bytes
   members-weigh at [] next (m ∷ ms) found are = absurd are
   members-weigh at (e ∷ es) next ms found are =
       by-test (is_refused names (length bytes) e) refl ms are (λ ns is. members-weigh (next_offset e) es next ns found.1 is) where
+        lighter : (ms : List Parts) → total_weight ms ≤ 10 * (length bytes - next_offset e) → total_weight ms ≤ 10 * (length bytes - at)
+        lighter ms light =
+            let parts = entry_parts at (take 60 (drop at bytes)) e found.0 in
+            let start = parts.start in
+            let order = parts.order in
+            omega (arith, start, order, light)
+
         by-kind : (member : Bool) (name : Option (List ℕ)) (rest : List Member) (ms : List Parts)
             → AreModulesOf options bytes (cons_option (if member
             then option_map {U = Member} (λ n. record { name = n; start = e.start; end = e.end }) name else None) rest) ms
@@ -67,13 +74,6 @@ module _ (options : ReadOptions) (bytes names : List ℕ) (fits : AreBytes bytes
             omega (arith, start, order, own, few, there, left, later, sum)
         by-kind true None rest ms are further = lighter ms (further ms are)
         by-kind false name rest ms are further = lighter ms (further ms are)
-
-        lighter : (ms : List Parts) → total_weight ms ≤ 10 * (length bytes - next_offset e) → total_weight ms ≤ 10 * (length bytes - at)
-        lighter ms light =
-            let parts = entry_parts at (take 60 (drop at bytes)) e found.0 in
-            let start = parts.start in
-            let order = parts.order in
-            omega (arith, start, order, light)
 
         none : (ms : List Parts) → AreModulesOf options bytes [] ms → total_weight ms ≤ 10 * (length bytes - at)
         none [] are = omega arith

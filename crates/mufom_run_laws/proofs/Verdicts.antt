@@ -1,6 +1,6 @@
 -- Files that exist have a result when they are read in order: each file has a verdict.
 use Rattle.std.proofs.Common.{◌≡◌, ℕ, inl, inr, Bool, true, false, nat_lt, List, [], ◌∷◌, ◌++◌, length, Option, Some, None, IsSome, refl, sym, subst}
-use Rattle.std.proofs.Common.{append-nil, append_assoc, true≢false}
+use Rattle.std.proofs.Common.{append-nil, append_assoc, ltb-true, ltb-false, true≢false}
 use Rattle.std.specs.List.{AllByRecursion}
 use Rattle.mufom_numbers.specs.declared.reason.Reason.TheVariants as why
 use Rattle.mufom_numbers.specs.Spelling.{AreBytes}
@@ -12,7 +12,13 @@ use Rattle.mufom_members.proofs.EachVerdict.{each_plain, each_verdict}
 use Rattle.mufom_task.specs.Inputs.{AreAccepted, ComeTo, IsFileVerdict, Verdict, accepted, past_limit, refused, room_after}
 use Rattle.mufom_task.proofs.FileLaws.{modules-of, verdict-fits}
 use Rattle.mufom_task.proofs.InputLaws.{none_accepted, one_accepted}
-use Rattle.mufom_run_laws.specs.Exist.{FilesHaveAVerdict}
+use Rattle.mufom_task.specs.declared.task.Inputs.{Inputs}
+use Rattle.mufom_task.specs.Inputs.{root_count}
+use Rattle.mufom_task.specs.Reading.{modules_in}
+use Rattle.mufom_outcome.specs.Stop.{Stop, file_refused, past_limit as too_long, too_many_modules}
+use Rattle.mufom_groups.specs.Work.{Reached, gives, stops}
+use Rattle.mufom_numbers.specs.declared.limits.TheConstants.{MOST_MODULES}
+use Rattle.mufom_run_laws.specs.Exist.{FilesHaveAVerdict, ReadingHasAResult}
 
 -- ---- one file
 
@@ -111,3 +117,25 @@ module _ (options : ReadOptions) (roots : ℕ) (files : List NamedFile) where
 pub files-have-a-verdict : FilesHaveAVerdict
 files-have-a-verdict options roots files names bytes all =
   verdict-from options roots files bytes [] names [] [] (none_accepted options roots files) all
+
+-- ---- the modules of a task
+
+module _ (files : List NamedFile) (inputs : Inputs) where
+  abbrev HasResult : Type 0
+  HasResult = (reached : Reached Stop (List Parts)) × modules_in files inputs reached
+
+  -- they may be too many
+  counted : (ms : List Parts) → ComeTo inputs.options (root_count inputs) files inputs.files (accepted ms) → HasResult
+  counted ms come = by (nat_lt MOST_MODULES (length ms)) refl where
+    by : (b : Bool) → nat_lt MOST_MODULES (length ms) ≡ b → HasResult
+    by true is = (stops (too_many_modules (length ms)), (ms, come, refl, ltb-true MOST_MODULES (length ms) is))
+    by false is = (gives ms, (come, ltb-false MOST_MODULES (length ms) is))
+
+  result-of : (v : Verdict) → ComeTo inputs.options (root_count inputs) files inputs.files v → HasResult
+  result-of (accepted ms) come = counted ms come
+  result-of (refused n r) come = (stops (file_refused n r), come)
+  result-of (past_limit n) come = (stops (too_long n), come)
+
+pub reading-has-a-result : ReadingHasAResult
+reading-has-a-result files inputs bytes all =
+    let (v, come) = files-have-a-verdict inputs.options (root_count inputs) files inputs.files bytes all in result-of files inputs v come
