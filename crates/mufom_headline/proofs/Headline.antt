@@ -200,7 +200,8 @@ module _ (files : List NamedFile) (call : Call) (result : Outcome) (c : Inputs) 
       by (inl fact) = no-link-fact flat plan s (links ∙ none.links) fact
       by (inr (linkable, ends)) =
           no-end (product_with p (module_files files c) origins plan) roots plan list
-          (λ kept r keeps there s. product-never p (module_files files c) (mapped_kept origins plan kept r) r (short kept r keeps there) s) none s ((alike (stops s)).0 ends)
+          (λ kept r keeps there s. product-never p (module_files files c) (mapped_kept origins plan kept r) r (short kept r keeps there) s) none s
+          ((alike (stops s)).0 ends)
 
     -- an end of what is put out of the list is the result
     ends-there : (s : Stop) → link_answer list ≡ None → put_out_of list (stops s) → result ≡ outcome_of (stops s)
@@ -239,7 +240,8 @@ module _ (files : List NamedFile) (call : Call) (result : Outcome) (c : Inputs) 
       unknown = λ given name same linkable some.
           ends-there (keep_unknown name) linkable (unknown-end roots p (module_files files c) origins plan list given name same some);
       refused = λ kept f linkable is_kept some.
-          ends-there (locate_fact (maus_of kept.modules) f) linkable (fact-end roots p (module_files files c) origins plan list kept (of_list f) is_kept some);
+          ends-there (locate_fact (maus_of kept.modules) f) linkable
+          (fact-end roots p (module_files files c) origins plan list kept (of_list f) is_kept some);
       shared = λ kept name linkable is_kept some.
           ends-there (name_shared name) linkable (fact-end roots p (module_files files c) origins plan list kept (shared_name name) is_kept some);
       unwritten = λ kept r b linkable is_kept is_r some.

@@ -83,8 +83,8 @@ same-works-end-the-same files others t u words its_words c d call other result i
 
 -- ---- the names of modules and files
 
-product-names : (p : Product) → NamesNoModules p → (names its : ModuleFiles) (origins others : List Origin) (plan : Plan) (kept : Kept) (r : LocatedParts)
-    → IsSameWork (product_with p names origins plan kept r) (product_with p its others plan kept r)
+product-names : (p : Product) → NamesNoModules p → (names its : ModuleFiles) (origins others : List Origin) (plan : Plan) (kept : Kept)
+    (r : LocatedParts) → IsSameWork (product_with p names origins plan kept r) (product_with p its others plan kept r)
 product-names (product.Absolute out) may names its origins others plan kept r x = ((λ h. h), (λ h. h))
 product-names (product.Raw fill out) may names its origins others plan kept r x = ((λ h. h), (λ h. h))
 product-names (product.Region name fill out) may names its origins others plan kept r x = ((λ h. h), (λ h. h))

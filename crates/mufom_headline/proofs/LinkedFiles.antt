@@ -1,5 +1,5 @@
 -- The result of `link` is that of linking its flat list, and each list from which that was linked in stages.
-use Rattle.std.proofs.Common.{◌≡◌, ℕ, List, Option, Some, None, unwrap_or, refl, sym, subst, ◌∙◌}
+use Rattle.std.proofs.Common.{◌≡◌, ℕ, List, Option, Some, unwrap_or, refl, sym, subst, ◌∙◌}
 use Rattle.mufom_host.specs.World.{HoldBytes, NamedFile}
 use Rattle.mufom_words.specs.Tree.{tree_of}
 use Rattle.mufom_module.specs.declared.module.Parts.{Parts}

@@ -1,6 +1,6 @@
 -- The places of files among the modules that are read: a file of a written module has one module, in its place.
-use Rattle.std.proofs.Common.{◌≡◌, ℕ, zero, suc, ◌+◌, ◌-◌, ◌<◌, ◌≤◌, Bool, true, false, nat_lt, List, [], ◌∷◌, ◌++◌, length, Option, Some, None, unwrap_or}
-use Rattle.std.proofs.Common.{refl, sym, ap, subst, ◌∙◌, inl, inr, arith, lt-ltb}
+use Rattle.std.proofs.Common.{◌≡◌, ℕ, zero, suc, ◌+◌, ◌-◌, ◌<◌, ◌≤◌, Bool, true, false, nat_lt, List, [], ◌∷◌, ◌++◌, length, Option, Some}
+use Rattle.std.proofs.Common.{None, unwrap_or, refl, sym, ap, subst, ◌∙◌, inl, inr, arith, lt-ltb}
 use Rattle.std.specs.Prelude.{slice_get}
 use Rattle.std.proofs.lemmas.List.Sums.{sum_by-cons}
 use Rattle.mufom_numbers.specs.declared.limits.TheConstants.{MOST_FILE_BYTES}
@@ -72,8 +72,8 @@ module _ (options : ReadOptions) (content : List ℕ) (m : Parts) (is : IsModule
         let at : number ≡ number + 0 = omega arith in
         record {
           place = 0;
-          file = ap (λ (o : Option (List (List ℕ))). slice_get (files_of_one number first o ++ files_from files roots (suc number) names) 0) (sym members)
-              ∙ (λ i. Some (record { number = at i; name = same i }));
+          file = ap (λ (o : Option (List (List ℕ))). slice_get (files_of_one number first o ++ files_from files roots (suc number) names) 0)
+              (sym members) ∙ (λ i. Some (record { number = at i; name = same i }));
           read = ap (λ (l : List Parts). slice_get l 0) split ∙ ap (λ (l : List Parts). slice_get (l ++ later) 0) one;
           root = λ less. refl;
         }

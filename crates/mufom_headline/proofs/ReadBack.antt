@@ -42,8 +42,8 @@ module _ (m : Parts) (is : (gnu : Bool) → IsModule (with_debug gnu) (written m
   place files c ms k name there debug here ((contents, all), most) =
       let none : root_count c ≡ root_count c - 0 = omega arith in
       let at : IsInPlace files (root_count c) 0 c.files ms k name m
-      = in-place c.options (written m) m (is-module c.options debug) (one-only c.options debug) files (root_count c) name there 0 k c.files contents ms
-      all.bytes (subst (λ (n : ℕ). AreModules c.options n contents ms) none all.modules) here in
+      = in-place c.options (written m) m (is-module c.options debug) (one-only c.options debug) files (root_count c) name there 0 k c.files contents
+      ms all.bytes (subst (λ (n : ℕ). AreModules c.options n contents ms) none all.modules) here in
       let same : 0 + k ≡ k = omega arith in
       record {
         place = at.place;

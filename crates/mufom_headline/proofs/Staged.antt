@@ -153,7 +153,8 @@ module _ (files : List NamedFile) (c : Inputs) (plan : Plan) (flat leaves : List
       ((put_out-alike plan symbols flat leaves (lists-same flat leaves came)).linked name out)
 
   staged-location : (keep : List (List ℕ)) (p : Product)
-      → IsSameWork (work_of (task.Locate c keep p) files) (location_of_list (roots_by keep plan) p (module_files files c) (origins_of own) plan leaves)
+      → IsSameWork (work_of (task.Locate c keep p) files)
+      (location_of_list (roots_by keep plan) p (module_files files c) (origins_of own) plan leaves)
   staged-location keep p =
       by-linking (λ ms plan flat. locating_kept (producing p (module_files files c) (tree_of c.marks) ms plan) (roots_by keep plan) plan flat)
       (locating_kept (product_with p (module_files files c) (origins_of own) plan) (roots_by keep plan) plan leaves)

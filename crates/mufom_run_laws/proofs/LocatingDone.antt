@@ -1,5 +1,5 @@
 -- Locating accepted files is done exactly where no fact stands against their flat list.
-use Rattle.std.proofs.Common.{◌≡◌, ◌⊎◌, ◌≤◌, ℕ, Bool, false, true, nat_lt, List, length, Option, Some, None, refl, sym, subst, arith, inl, inr}
+use Rattle.std.proofs.Common.{◌≡◌, ◌⊎◌, ℕ, List, length, Option, None, sym, subst, inl, inr}
 use Rattle.mufom_host.specs.World.{HoldBytes, NamedFile}
 use Rattle.mufom_map.specs.Mapped.{Mapped}
 use Rattle.mufom_origins.specs.Words.{ModuleFiles}
@@ -88,11 +88,13 @@ module _ (files : List NamedFile) (c : Inputs) (keep : List (List ℕ)) (p : Pro
     never : (kept : Kept) (r : LocatedParts) → kept_of (roots_by keep plan) flat (gives kept) → IsPlanned kept.modules plan r → (s : Stop)
         → producing p (module_files files c) (tree_of c.marks) accepts.modules plan kept r (stops s) → ⊥
     never kept r keeps there s (inl nothing) = nothing
-    never kept r keeps there s (inr (own, are, ends)) = product-never p (module_files files c) (mapped_kept (origins_of own) plan kept r) r (may kept r keeps there) s ends
+    never kept r keeps there s (inr (own, are, ends)) =
+        product-never p (module_files files c) (mapped_kept (origins_of own) plan kept r) r (may kept r keeps there) s ends
 
     by : EndsAtFact flat s ⊎ ((link_answer flat ≡ None) × work accepts.modules plan flat (stops s)) → ⊥
     by (inl fact) = no-link-fact flat plan s none.links fact
-    by (inr (links, ends)) = no-end (producing p (module_files files c) (tree_of c.marks) accepts.modules plan) (roots_by keep plan) plan flat never none s ends
+    by (inr (links, ends)) =
+        no-end (producing p (module_files files c) (tree_of c.marks) accepts.modules plan) (roots_by keep plan) plan flat never none s ends
 
 -- Locating is done exactly where no fact stands against the flat list.
 pub locating-done : LocatingIsDone

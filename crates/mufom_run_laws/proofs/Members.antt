@@ -1,5 +1,5 @@
 -- The modules of one file have no defect and weigh at most ten times as much as the file has bytes.
-use Rattle.std.proofs.Common.{◌≡◌, ℕ, ◌+◌, ◌-◌, ◌*◌, ◌≤◌, Bool, true, false, nat_lt, if◌then◌else◌, List, [], ◌∷◌, ◌++◌, length}
+use Rattle.std.proofs.Common.{◌≡◌, ℕ, ◌-◌, ◌*◌, ◌≤◌, Bool, true, false, nat_lt, if◌then◌else◌, List, [], ◌∷◌, length}
 use Rattle.std.proofs.Common.{take, drop, Option, Some, None, option_map, refl, sym, ap, subst, inl, inr, arith}
 use Rattle.std.specs.List.{before_first, cons_option}
 use Rattle.std.proofs.lemmas.List.{length-drop, length-take}
@@ -32,7 +32,8 @@ archive-whole options limit bytes names ms (inr cut) = absurd (never-prefix (tak
 
 -- ---- the members of an archive
 
-members-valid : (options : ReadOptions) (bytes : List ℕ) (members : List Member) (ms : List Parts) → AreModulesOf options bytes members ms → AreValid ms
+members-valid : (options : ReadOptions) (bytes : List ℕ) (members : List Member) (ms : List Parts) → AreModulesOf options bytes members ms
+    → AreValid ms
 members-valid options bytes [] [] are = tt
 members-valid options bytes [] (m ∷ ms) are = absurd are
 members-valid options bytes (e ∷ members) [] are = absurd are
@@ -141,7 +142,8 @@ modules-light options false bytes ms fits (names, inr (other, is)) = plain-light
 
 -- ---- the modules of files
 
-pub files-valid : (options : ReadOptions) (roots : ℕ) (contents : List (List ℕ)) (ms : List Parts) → AreModules options roots contents ms → AreValid ms
+pub files-valid : (options : ReadOptions) (roots : ℕ) (contents : List (List ℕ)) (ms : List Parts) → AreModules options roots contents ms
+    → AreValid ms
 files-valid options roots [] ms are = subst AreValid (sym are) tt
 files-valid options roots (bytes ∷ contents) ms (own, later, split, has, rest) =
     subst AreValid (sym split)

@@ -116,7 +116,7 @@ module _ (options : ReadOptions) (roots : ℕ) (files : List NamedFile) where
 
 pub files-have-a-verdict : FilesHaveAVerdict
 files-have-a-verdict options roots files names bytes all =
-  verdict-from options roots files bytes [] names [] [] (none_accepted options roots files) all
+    verdict-from options roots files bytes [] names [] [] (none_accepted options roots files) all
 
 -- ---- the modules of a task
 
