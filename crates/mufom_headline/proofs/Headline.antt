@@ -1,6 +1,6 @@
 -- The result of a task that locates is that of locating the flat list, and each list from which that was linked in stages.
-use Rattle.std.proofs.Common.{◌≡◌, ◌⊎◌, ◌<◌, ◌≤◌, ℕ, Bool, false, true, nat_lt, List, length, Option, Some, None, refl, sym, subst, ◌∙◌}
-use Rattle.std.proofs.Common.{arith, inl, inr}
+use Rattle.std.proofs.Common.{◌≡◌, ◌⊎◌, ℕ, List, length, Option, Some, None, refl, sym, subst, ◌∙◌}
+use Rattle.std.proofs.Common.{inl, inr}
 use Rattle.mufom_host.specs.World.{HoldBytes, NamedFile}
 use Rattle.mufom_words.specs.Tree.{tree_of}
 use Rattle.mufom_module.specs.declared.module.Parts.{Parts}
@@ -43,7 +43,7 @@ use Rattle.mufom_command.proofs.WorkLaws.{bytes-stop}
 use Rattle.mufom_command.proofs.EndLaws.{location-of}
 use Rattle.mufom_command.proofs.KeptLaws.{kept-valid}
 use Rattle.mufom_command.proofs.Runs.{kept_of-single, of-files}
-use Rattle.mufom_run_laws.specs.RunLaws.{Accepts, CameByStages, HasNoFact, IsSameWork, IsUndisturbed, MayPutOut}
+use Rattle.mufom_run_laws.specs.RunLaws.{Accepts, HasNoFact, IsSameWork, MayPutOut}
 use Rattle.mufom_run_laws.proofs.Accepted.{EndsAtFact, accepted-back, accepted-fact, accepted-gives, accepted-stops, no-link-fact}
 use Rattle.mufom_run_laws.proofs.Calm.{CameTo, done-comes, never-done}
 use Rattle.mufom_run_laws.proofs.Determined.{answers-determined}
@@ -52,7 +52,6 @@ use Rattle.mufom_run_laws.proofs.Plain.{plain-answers, plain-run}
 use Rattle.mufom_run_laws.proofs.StageLaws.{means-same}
 use Rattle.mufom_headline.specs.Headline.{HasLocated, MayBeWritten, LocatesAll, PutsOutLocation, TheHeadline}
 use Rattle.mufom_headline.specs.Linking.{IsRefusedLink}
-use Rattle.mufom_headline.specs.ReadBack.{IsPutInFile}
 use Rattle.mufom_headline.proofs.Kept.{kept-means}
 use Rattle.mufom_headline.proofs.LinkedFiles.{file-made, flat-valid}
 use Rattle.mufom_headline.proofs.Maps.{flat-files, producing-known, producing-staged}

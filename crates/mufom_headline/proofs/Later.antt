@@ -2,16 +2,12 @@
 use Rattle.std.proofs.Common.{◌≡◌, List, [], ◌∷◌, ◌++◌, ℕ, Option, unwrap_or, refl, sym, subst, ◌∙◌}
 use Rattle.mufom_host.specs.World.{HoldBytes, NamedFile}
 use Rattle.mufom_words.specs.Tree.{tree_of}
-use Rattle.mufom_words.specs.declared.command.Command.{Command}
-use Rattle.mufom_names.specs.Names.{AreDistinct}
 use Rattle.mufom_module.specs.declared.module.Parts.{Parts}
 use Rattle.mufom_module.specs.Defects.{IsValid}
 use Rattle.mufom_plan.specs.declared.plan.Plan.{Plan}
-use Rattle.mufom_plan.specs.declared.plan.Region.{Region}
 use Rattle.mufom_meaning.specs.declared.located.LocatedParts.{LocatedParts}
-use Rattle.mufom_meaning.specs.Flat.{public_names}
 use Rattle.mufom_meaning.specs.Joined.{IsJoined}
-use Rattle.mufom_meaning.specs.Staging.{HaveDescriptor, IsStaged, NameStays, linked, unlinked}
+use Rattle.mufom_meaning.specs.Staging.{IsStaged, linked, unlinked}
 use Rattle.mufom_groups.specs.Linked.{first_name, links}
 use Rattle.mufom_groups.specs.Work.{Reached, gives, stops, Work, ◌>>=◌, with_stops}
 use Rattle.mufom_origins.specs.declared.origins.Origin.{Origin}
@@ -20,7 +16,6 @@ use Rattle.mufom_origins.specs.Words.{ModuleFiles}
 use Rattle.mufom_outcome.specs.declared.outcome.Outcome.{Outcome}
 use Rattle.mufom_outcome.specs.declared.outcome.Outcome.TheVariants as outcome
 use Rattle.mufom_outcome.specs.Stop.{Stop, link_fact}
-use Rattle.mufom_task.specs.declared.task.Inputs.{Inputs}
 use Rattle.mufom_task.specs.Inputs.{module_files}
 use Rattle.mufom_task.specs.declared.task.Product.{Product}
 use Rattle.mufom_task.specs.declared.task.Product.TheVariants as product
@@ -33,14 +28,14 @@ use Rattle.mufom_command.specs.Roots.{Roots, roots_by}
 use Rattle.mufom_command.specs.Run.{AnswersFor, PutsOut, outcome_of}
 use Rattle.mufom_command.specs.Works.{Kept, Output, kept_of, linked_file, located, locating_kept, product_with, work_of}
 use Rattle.mufom_command.proofs.Runs.{of-files, over-files, work_of-single}
-use Rattle.mufom_run_laws.specs.RunLaws.{Accepts, CameByStages, IsSameWork, IsUndisturbed}
+use Rattle.mufom_run_laws.specs.RunLaws.{CameByStages, IsSameWork, IsUndisturbed}
 use Rattle.mufom_run_laws.proofs.Accepted.{accepted-gives}
 use Rattle.mufom_run_laws.proofs.Calm.{CameTo, done-comes}
 use Rattle.mufom_run_laws.proofs.Determined.{answers-determined}
 use Rattle.mufom_run_laws.proofs.Plain.{plain-answers, plain-run}
 use Rattle.mufom_run_laws.proofs.SameWorks.{same-sym, same-trans, same-work, then-same}
-use Rattle.mufom_headline.specs.Later.{EndTheSame, HaveSameWorks, IsReplacedLater, LinkedFilesReplaceLists, NamesNoModules, ReplacesInRuns, SameWorksEndTheSame}
-use Rattle.mufom_headline.specs.Linking.{AreFlatRuns, after_link, link_of_list, location_of_list}
+use Rattle.mufom_headline.specs.Later.{EndTheSame, LinkedFilesReplaceLists, NamesNoModules, ReplacesInRuns, SameWorksEndTheSame}
+use Rattle.mufom_headline.specs.Linking.{AreFlatRuns, link_of_list, location_of_list}
 use Rattle.mufom_headline.proofs.LinkedFiles.{file-made, flat-valid}
 use Rattle.mufom_headline.proofs.Maps.{flat-files}
 use Rattle.mufom_headline.proofs.Staged.{staged-runs-are-flat}
