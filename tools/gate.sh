@@ -61,6 +61,7 @@ for built in "$program" "$program.by-rattle"; do
     try bash 25 "round trips of $(basename "$built")" bash tools/round_trips.sh "$built"
   fi
 done
+try ar 15 "archives" bash tools/archives.sh "$program"
 try python3 120 "documents" bash tools/documents.sh "$program"
 try python3 150 "random files" python3 tools/try_files.py "$program" 1 3000
 try python3 120 "random texts" python3 tools/try_texts.py "$program" 1 1000

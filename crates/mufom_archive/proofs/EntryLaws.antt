@@ -1,11 +1,11 @@
 -- The entries of a stream: what further bytes change, and that there is one way to read them.
-use Rattle.std.proofs.Common.{◌≡◌, ℕ, ◌+◌, ◌<◌, ◌≤◌, ◌∙◌, sym, ap, refl, Bool, true, false, List, [], ◌∷◌, ◌++◌, length, take, drop, if◌then◌else◌}
+use Rattle.std.proofs.Common.{◌≡◌, ℕ, zero, suc, ◌+◌, ◌<◌, ◌≤◌, ◌∙◌, sym, ap, refl, Bool, true, false, List, [], ◌∷◌, ◌++◌, length, take, drop, if◌then◌else◌}
 use Rattle.std.proofs.Common.{◌&&◌, ◌==◌, nat_eq, Option, Some, None, option_map, subst, length-drop, arith}
 use Rattle.std.specs.List.{ends_with, find}
 use Rattle.std.proofs.lemmas.Bool.{eqb-true}
 use Rattle.std.proofs.lemmas.List.{drop-append-le, length-take, take-append-le}
 use Rattle.mufom_archive.specs.declared.entry.Entry.{Entry}
-use Rattle.mufom_archive.specs.Entries.{AreEntries, entry_at, entry_of, is_header, next_offset, size_in}
+use Rattle.mufom_archive.specs.Entries.{AreEntries, entries_from, entry_at, entry_of, entry_then, is_header, next_offset, size_in}
 
 -- an entry by the parts of its header
 pub entry_is : (offset size : ℕ) (header label : List ℕ) → true ≡ is_header header → Some size ≡ size_in (take 10 (drop 48 header)) → label ≡ take 16 header
@@ -116,3 +116,17 @@ one_reading bytes at (e ∷ es) (f ∷ fs) m n a last b end =
     let one = a.0 in let two = b.0 in let same : e ≡ f = cc in
     let rest = one_reading bytes (next_offset e) es fs m n a.1 last (subst (λ (x : Entry). AreEntries bytes (next_offset x) fs n) (sym same) b.1) end in
     ((λ i. same i ∷ rest.0 i), rest.1)
+
+-- the entries from an offset on, by the function: each header is in the bytes, and the next one is at least 60 bytes further, so there
+-- are fewer entries than bytes
+pub entries_are : (fuel : ℕ) (bytes : List ℕ) (at : ℕ) (es : List Entry) (next : ℕ) → AreEntries bytes at es next → entry_at bytes next ≡ None
+    → length bytes ≤ at + fuel → es ≡ entries_from fuel bytes at
+entries_are zero bytes at [] next found last enough = refl
+entries_are zero bytes at (e ∷ es) next found last enough = absurd (omega (arith, enough, header_inside bytes at e found.0))
+entries_are (suc fuel) bytes at [] next found last enough =
+    ap (λ o. entry_then o (λ e. entries_from fuel bytes (next_offset e))) (sym (ap (entry_at bytes) found ∙ last))
+entries_are (suc fuel) bytes at (e ∷ es) next found last enough =
+    let parts = entry_parts at (take 60 (drop at bytes)) e found.0 in
+    let start = parts.start in let order = parts.order in
+    let rest = entries_are fuel bytes (next_offset e) es next found.1 last (omega (arith, enough, start, order)) in
+    ap (λ l. e ∷ l) rest ∙ ap (λ o. entry_then o (λ e. entries_from fuel bytes (next_offset e))) (sym found.0)

@@ -1,13 +1,13 @@
 -- Listings: there is one, and the position of its first error.
-use Rattle.std.proofs.Common.{◌≡◌, ◌≤◌, ℕ, Bool, true, false, not, cond, nat_lt, List, [], ◌∷◌, length, take, drop, zero, suc, ◌+◌, length-drop}
-use Rattle.std.proofs.Common.{Option, Some, None, sym, ◌∙◌, ap, refl, arith}
+use Rattle.std.proofs.Common.{◌≡◌, ◌<◌, ◌≤◌, ℕ, Bool, true, false, not, cond, nat_le, nat_lt, List, [], ◌∷◌, length, take, drop, zero, suc, ◌+◌}
+use Rattle.std.proofs.Common.{Option, Some, None, sym, ◌∙◌, ap, refl, if◌then◌else◌, length-drop, arith}
 use Rattle.std.specs.List.{before_first, find, position, position_or_len}
 use Rattle.std.proofs.lemmas.Bool.Decides.{nat_tests}
 use Rattle.std.proofs.lemmas.List.Sums.{prefix_len-le-length}
 use Rattle.mufom_archive.specs.declared.entry.Entry.{Entry}
 use Rattle.mufom_archive.specs.declared.listing.BadArchive.{BadArchive}
 use Rattle.mufom_archive.specs.Entries.{AreEntries, contents_of_table, entry_at, entry_of, long_names, next_offset}
-use Rattle.mufom_archive.specs.Listings.{IsListing, Member, first_error, is_refused, members_of}
+use Rattle.mufom_archive.specs.Listings.{IsBadHeader, IsListing, Member, first_error, is_refused, members_of}
 use Rattle.mufom_archive.specs.Laws.{HaveListing, HaveOneListing}
 use Rattle.mufom_archive.specs.Reading.{Knows}
 use Rattle.mufom_archive.proofs.EntryLaws.{entry_parts, entry_short, one_reading}
@@ -45,6 +45,38 @@ listing_known stream size entries next header table names k =
       listed = λ i. members_of (named i) (before_first (is_refused (named i) (k.counted i)) entries);
       refused = λ i. first_error (k.counted i) next (find (is_refused (named i) (k.counted i)) entries);
     }
+
+-- what a reader knows of the bytes after the entries
+module _ (stream : List ℕ) (size : ℕ) (entries : List Entry) (next : ℕ) (header : List ℕ) (table : Option Entry) (names : List ℕ)
+    (k : Knows stream size entries next header table names) where
+  bad_at : (place : Option ℕ) → place ≡ (if nat_le (next + 60) (length stream) then Some next else None) → IsBadHeader stream place
+  bad_at place is = record { entries = entries; next = next; found = k.found; last = ap (entry_of next) (sym k.pending) ∙ k.last; place = is }
+
+  pub header_complete : 60 ≤ length header → IsBadHeader stream (Some next)
+  header_complete whole = bad_at (Some next) (by_test (nat_le (next + 60) (length stream)) refl) where
+    by_test : (b : Bool) → nat_le (next + 60) (length stream) ≡ b → Some next ≡ (if b then Some next else None)
+    by_test true is = refl
+    by_test false is = absurd (grind (
+      arith,
+      nat_tests,
+      whole,
+      ap length k.pending,
+      length-take 60 (drop next stream),
+      length-drop next stream,
+    ))
+
+  pub header_short : length header < 60 → IsBadHeader stream None
+  header_short short = bad_at None (by_test (nat_le (next + 60) (length stream)) refl) where
+    by_test : (b : Bool) → nat_le (next + 60) (length stream) ≡ b → ◌≡◌ {A = Option ℕ} None (if b then Some next else None)
+    by_test false is = refl
+    by_test true is = absurd (grind (
+      arith,
+      nat_tests,
+      short,
+      ap length k.pending,
+      length-take 60 (drop next stream),
+      length-drop next stream,
+    ))
 
 -- ---- all bytes have a listing
 

@@ -177,7 +177,7 @@ entries_written names bytes at (e ∷ es) next found past none =
       )
 
 -- what comes before an entry that is not there
-all_before : (p : Entry → Bool) (es : List Entry) → find p es ≡ None → before_first p es ≡ es
+pub all_before : (p : Entry → Bool) (es : List Entry) → find p es ≡ None → before_first p es ≡ es
 all_before p [] none = refl
 all_before p (e ∷ es) none = by_case (p e) none (all_before p es) where
   by_case : (b : Bool) → (if b then Some e else find p es) ≡ None → (find p es ≡ None → before_first p es ≡ es)
@@ -187,7 +187,7 @@ all_before p (e ∷ es) none = by_case (p e) none (all_before p es) where
       rw one (ap (λ l. e ∷ l) (further rest))
 
 -- no error: no entry is refused, and the archive has ended
-no_error : (size next : ℕ) (o : Option Entry) → ◌≡◌ {A = Option BadArchive} None (first_error size next o) → (o ≡ None) × (size ≤ next)
+pub no_error : (size next : ℕ) (o : Option Entry) → ◌≡◌ {A = Option BadArchive} None (first_error size next o) → (o ≡ None) × (size ≤ next)
 no_error size next (Some e) none = absurd (cc)
 no_error size next None none = by_test (nat_lt next size) refl none where
   by_test : (b : Bool) → nat_lt next size ≡ b → ◌≡◌ {A = Option BadArchive} None (if b then Some (record { offset = next }) else None)

@@ -1,6 +1,6 @@
 -- The entries of an archive: a header of 60 bytes, the contents, and a byte of padding if their size is odd.
-use Rattle.std.specs.Prelude.{◌≡◌, ℕ, zero, suc, ◌+◌, ◌-◌, ◌%◌, Bool, ◌&&◌, List, [], ◌∷◌, length, take, drop, nat_eq, nat_lt, ◌==◌, if◌then◌else◌, Option}
-use Rattle.std.specs.Prelude.{Some, None, option_map}
+use Rattle.std.specs.Prelude.{◌≡◌, ℕ, zero, suc, ◌+◌, ◌-◌, ◌%◌, Bool, ◌&&◌, List, [], ◌∷◌, length, take, drop, nat_eq, nat_le, nat_lt, ◌==◌, Option}
+use Rattle.std.specs.Prelude.{Some, None, is_none, option_map, if◌then◌else◌}
 use Rattle.std.specs.Char.{is_ascii_digit}
 use Rattle.std.specs.List.{ends_with, find, list_all, prefix_len}
 use Rattle.std.specs.Str.{bytes_eq}
@@ -39,6 +39,10 @@ entry_of offset header = if is_header header
 -- the entry whose header is at this offset of the bytes
 abbrev pub entry_at : List ℕ → ℕ → Option Entry
 entry_at bytes at = entry_of at (take 60 (drop at bytes))
+
+-- the bytes at this offset are as many as a header has, and are none
+abbrev pub lacks_header : List ℕ → ℕ → Bool
+lacks_header bytes at = nat_le (at + 60) (length bytes) && is_none (entry_at bytes at)
 
 -- the offset of the next header: after the contents, and after the padding if their size is odd
 abbrev pub next_offset : Entry → ℕ

@@ -1,5 +1,5 @@
 -- What an archive has: its members before the first error, and the first error.
-use Rattle.std.specs.Prelude.{◌≡◌, ℕ, Bool, ◌||◌, ◌&&◌, List, length, nat_lt, if◌then◌else◌, Option, Some, None, option_map, is_none}
+use Rattle.std.specs.Prelude.{◌≡◌, ℕ, ◌+◌, Bool, ◌||◌, ◌&&◌, List, length, nat_le, nat_lt, if◌then◌else◌, Option, Some, None, option_map, is_none}
 use Rattle.std.specs.List.{filter_map, before_first, find}
 use Rattle.mufom_archive.specs.declared.entry.Entry.{Entry}
 use Rattle.mufom_archive.specs.declared.listing.BadArchive.{BadArchive}
@@ -38,3 +38,12 @@ pub record IsListing (bytes : List ℕ) (members : List Member) (error : Option 
   pub last : entry_at bytes next ≡ None
   pub listed : members ≡ members_of (long_names bytes entries) (before_first (is_refused (long_names bytes entries) (length bytes)) entries)
   pub refused : error ≡ first_error (length bytes) next (find (is_refused (long_names bytes entries) (length bytes)) entries)
+
+-- The entries of the bytes are followed by as many bytes as a header has, which are none, and this is their offset; None if there are
+-- fewer bytes.
+pub record IsBadHeader (bytes : List ℕ) (header : Option ℕ) : Type 0 where
+  pub entries : List Entry
+  pub next : ℕ
+  pub found : AreEntries bytes 8 entries next
+  pub last : entry_at bytes next ≡ None
+  pub place : header ≡ (if nat_le (next + 60) (length bytes) then Some next else None)

@@ -2,7 +2,7 @@
 
 ghost use Rattle.std.specs.Prelude.{◌≡◌, ◌+◌, ◌<◌, ◌≤◌, ◌^◌, ℕ, List, [], ◌∷◌, ◌++◌, length, take, IfOk, OnOk};
 ghost use Rattle.mufom_archive.specs.Entries.{next_offset};
-ghost use Rattle.mufom_archive.specs.Listings.{IsListing};
+ghost use Rattle.mufom_archive.specs.Listings.{IsBadHeader, IsListing};
 ghost use Rattle.mufom_archive.specs.Reading.{HasRead, entries_of, length_of, members_in, names_after, table_with};
 
 use crate::entry::{Entry, HEADER, SIGNATURE, entry_of};
@@ -69,6 +69,17 @@ impl Archive {
         ensures { result.now ≡ entries_of self.now }
     {
         self.entries.as_slice()
+    }
+
+    /// The offset of the next header, if all its bytes were read and they are not a header.
+    pub fn bad_header(&self) -> Option<u64>
+        ensures { (stream : List ℕ) → HasRead self.now stream → IsBadHeader stream result }
+    {
+        if self.header.remaining_capacity() == 0 {
+            Some(self.next)
+        } else {
+            None
+        }
     }
 
     // Passes over bytes, and keeps those of them that belong to the table of long names.

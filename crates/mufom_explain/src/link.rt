@@ -1,11 +1,11 @@
 //! Explains the error of a list of modules that cannot be linked.
 
-ghost use Rattle.std.specs.Prelude.{◌≡◌, ◌<◌, ◌^◌, IfOk, length};
+ghost use Rattle.std.specs.Prelude.{◌≡◌, ◌<◌, ◌^◌, ℕ, IfOk, length};
 ghost use Rattle.mufom_meaning.specs.LinkAnswer.{same_order};
 ghost use Rattle.mufom_explain.specs.Details.{differs_from, first_line, link_details, other_line, start_lines};
 ghost use Rattle.mufom_explain.specs.Explained.{left_after, link_lines, link_text, start_line};
 ghost use Rattle.mufom_explain.specs.Flat.{file_module, flat_of};
-ghost use Rattle.mufom_explain.specs.Lines.{ModuleFiles};
+ghost use Rattle.mufom_explain.specs.Lines.{ModuleFiles as Files};
 ghost use Rattle.mufom_origins.specs.Words.{all_files};
 
 use crate::details::{LinkDetails, LinkKind};
@@ -120,7 +120,7 @@ fn kind_of<'a>(
     refusal: &'a LinkRefusal,
 ) -> Result<LinkKind<'a>, NoMemory>
     requires { length flat.now < 2 ^ 32 }
-    ensures { (names : ModuleFiles) → IfOk result
+    ensures { (names : Files) → IfOk result
         (λ kind. link_lines names (flat_of flat.now) kind ≡ link_details names (flat_of flat.now) refusal.now) }
 {
     match refusal {

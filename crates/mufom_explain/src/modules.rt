@@ -9,7 +9,7 @@ use mufom_module::Parts;
 use mufom_origins::{ModuleFiles, module_text};
 use mufom_text::Output;
 
-/// A module of a flat list, with the number of the file that it was read from.
+/// A module of a flat list, with the place of the file that it was read from.
 #[derive(Clone, Copy)]
 pub struct FlatModule<'a> {
     pub file: u32,

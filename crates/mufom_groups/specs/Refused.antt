@@ -1,4 +1,5 @@
--- The files of the first list that is linked and that cannot be linked.
+-- The modules of the first list that is linked and that cannot be linked. They are given by their places among all modules: that of a module of the tree
+-- is the number of its file, and the members have the places after those.
 use Rattle.std.specs.Prelude.{◌≡◌, ◌⊎◌, ℕ, ◌+◌, ◌-◌, List, [], ◌∷◌, ◌++◌, drop, length, map, take, Option, Some, None, option_map, IsSome}
 use Rattle.mufom_module.specs.declared.module.Parts.{Parts}
 use Rattle.mufom_place.specs.Facts.{first_some}

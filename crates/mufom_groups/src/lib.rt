@@ -13,5 +13,5 @@ pub use laws::{
     groups_make_no_difference, link_facts_stand, linked_is_flat, links_are_single,
     links_stand_for_flat_lists,
 };
-pub use linking::{LinkedModules, link_modules, link_with_members};
+pub use linking::{LinkedModules, file_count, link_modules, link_with_members};
 pub use refused::{flat_files, refused_files};

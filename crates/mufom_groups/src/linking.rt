@@ -204,7 +204,7 @@ fn own_files(mark: &Mark) -> usize
 }
 
 /// The number of files among the marks.
-pub(crate) fn file_count(marks: &[Mark]) -> usize
+pub fn file_count(marks: &[Mark]) -> usize
     ensures { result ≡ length (files_of marks.now) }
 {
     let mut count = 0;

@@ -1,4 +1,7 @@
-//! The files of the first list that cannot be linked.
+//! The modules of the first list that cannot be linked, by their places.
+//!
+//! Files of the tree have one module each, and they come first. So the place of such a module among all modules
+//! is the number of its file, and the members, which may be those of archives, have the places after them.
 
 ghost use Rattle.std.specs.Prelude.{◌≡◌, ◌-◌, ◌+◌, ◌++◌, ◌≤◌, ◌<◌, ◌^◌, ℕ, length, map};
 ghost use Rattle.std.specs.Prelude.{drop, take, is_some, option_map, All, IfOk, IfSome, IsNone, IsSome, None, OnOk};
@@ -157,7 +160,7 @@ fn add_members(files: &mut List<u32>, first: usize, chosen: &[u32]) -> Result<()
     Ok(())
 }
 
-/// Returns the numbers of the files of the flat list. The first `roots` files are those of the tree; `chosen`
+/// Returns the places of the modules of the flat list. The first `roots` modules are those of the tree; `chosen`
 /// are the positions of the selected members after them.
 pub fn flat_files(alloc: Global, roots: usize, chosen: &[u32]) -> Result<List<u32>, NoMemory>
     requires few { roots < 2 ^ 32 }
@@ -211,11 +214,11 @@ fn tree_or_flat(alloc: Global, roots: usize, modules: &[Module]) -> Result<List<
     }
 }
 
-/// Returns the numbers of the files of the first list that cannot be linked: the first group that cannot
+/// Returns the places of the modules of the first list that cannot be linked: the first group that cannot
 /// be linked, in the order of the closing brackets; otherwise the tree; otherwise the flat list. If
 /// everything can be linked, they are those of the flat list.
 ///
-/// Each group is linked from its own files, so the time is that of one link for each level of brackets. The
+/// Each group is linked from its own modules, so the time is that of one link for each level of brackets. The
 /// memory is that of the largest of these links.
 pub fn refused_files(
     alloc: Global,

@@ -17,7 +17,7 @@ use Rattle.mufom_read.proofs.judged.Stays.{AreBytes-drop, AreBytes-take}
 use Rattle.mufom_read.proofs.spelled.Judged.{judgments_exclude_each_other}
 use Rattle.mufom_read.proofs.weighing.Files.{files_weigh}
 use Rattle.mufom_members.specs.Files.{AreModulesOf, IsArchiveVerdict, IsFirstRefused, IsPlainVerdict, IsVerdict, IsVerdictWithin, Verdict, accepted}
-use Rattle.mufom_members.specs.Files.{bad_archive, contents_at, past_limit, refused}
+use Rattle.mufom_members.specs.Files.{bad_archive, contents_at, past_limit, refused, verdict_on_prefix}
 use Rattle.mufom_members.specs.Laws.{HaveVerdict}
 use Rattle.mufom_members.proofs.Gathering.{le_or_above}
 
@@ -111,12 +111,16 @@ module _ (options : ReadOptions) (bytes : List ℕ) (fits : AreBytes bytes) wher
   by_found members (Some bad) l (inl all) = (bad_archive bad.offset, (members, all.0, l, all.1))
   by_found members error l (inr one) = (refused one.0 one.1, (members, error, l, one.2))
 
-  each_within : (limit : ℕ) → (v : Verdict) × IsVerdictWithin options limit bytes v
-  each_within limit = by_length (le_or_above (length bytes) limit) where
-    by_length : (length bytes ≤ limit) ⊎ (limit + 1 ≤ length bytes) → (v : Verdict) × IsVerdictWithin options limit bytes v
-    by_length (inl few) =
-        let l = each_listing bytes in let v = by_found l.0 l.1 l.2 (found l.0) in (v.0, inl (few, v.1))
-    by_length (inr many) = (past_limit, inr (omega (arith, many), refl))
+  each_archive : (v : Verdict) × IsArchiveVerdict options bytes v
+  each_archive = let l = each_listing bytes in by_found l.0 l.1 l.2 (found l.0)
+
+each_within : (options : ReadOptions) (bytes : List ℕ) → AreBytes bytes → (limit : ℕ) → (v : Verdict) × IsVerdictWithin options limit bytes v
+each_within options bytes fits limit = by_length (le_or_above (length bytes) limit) where
+  by_length : (length bytes ≤ limit) ⊎ (limit + 1 ≤ length bytes) → (v : Verdict) × IsVerdictWithin options limit bytes v
+  by_length (inl few) = let v = each_archive options bytes fits in (v.0, inl (few, v.1))
+  by_length (inr many) =
+      let v = each_archive options (take limit bytes) (AreBytes-take limit bytes fits) in
+      (verdict_on_prefix (take limit bytes) v.0, inr (omega (arith, many), (v.0, v.1, refl)))
 
 -- whether a file begins as an archive can be told
 begins : (bytes : List ℕ) → BeginsArchive bytes ⊎ (BeginsArchive bytes → ⊥)

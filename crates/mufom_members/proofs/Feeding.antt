@@ -1,7 +1,8 @@
 -- What the results of reading a chunk, and of reading a whole file, say of the file.
-use Rattle.std.proofs.Common.{◌≡◌, ◌≢◌, ℕ, ◌+◌, ◌-◌, ◌<◌, ◌≤◌, ◌∙◌, inl, inr, sym, ap, refl, List, [], ◌∷◌, ◌++◌, length, take}
-use Rattle.std.proofs.Common.{Option, None, Result, Ok, Err, subst, append_assoc, append-nil, length-append, arith}
-use Rattle.std.proofs.Math.Seq.{take-append-add}
+use Rattle.std.proofs.Common.{◌≡◌, ◌≢◌, ◌↔◌, ◌⊎◌, ℕ, ◌+◌, ◌-◌, ◌<◌, ◌≤◌, ◌∙◌, inl, inr, sym, ap, refl, Bool, true, false, List, [], ◌∷◌, ◌++◌, length}
+use Rattle.std.proofs.Common.{take, Option, None, Result, Ok, Err, subst, append_assoc, length-append, arith}
+use Rattle.std.proofs.lemmas.List.{take_all}
+use Rattle.std.proofs.Math.Seq.{take-append-add, take-append_seam}
 use Rattle.mufom_records.specs.declared.options.ReadOptions.{ReadOptions}
 use Rattle.mufom_module.specs.declared.module.Parts.{Parts}
 use Rattle.mufom_archive.proofs.StepLaws.{take_both}
@@ -9,16 +10,19 @@ use Rattle.mufom_read.specs.declared.refusal.ReadStop.{ReadStop}
 use Rattle.mufom_read.specs.declared.refusal.ReadStop.TheVariants as read_stop
 use Rattle.mufom_read.specs.declared.state.State.{State}
 use Rattle.mufom_read.specs.Judging.{IsModule, IsRefusedAt}
-use Rattle.mufom_read.specs.Reader.{HasRead, Knows, options_of, reader_stop}
+use Rattle.mufom_read.specs.Reader.{Knows, options_of}
 use Rattle.mufom_read.specs.Source.{IsUnrefused}
 use Rattle.mufom_read.proofs.feeding.Feed.{reading-not-refused}
 use Rattle.mufom_read.proofs.judged.Stays.{refusal_goes_on}
+use Rattle.mufom_members.specs.declared.content.Content.{Content}
 use Rattle.mufom_members.specs.declared.members.Members.{Members}
 use Rattle.mufom_members.specs.declared.members.MembersStop.{MembersStop}
 use Rattle.mufom_members.specs.declared.members.MembersStop.TheVariants as stop
-use Rattle.mufom_members.specs.Files.{IsArchiveVerdict, IsPlainVerdict, IsVerdictWithin, Verdict, accepted, bad_archive, past_limit, refused}
+use Rattle.mufom_members.specs.Contents.{HasFed, HasReadOf, Kind, plain_of}
+use Rattle.mufom_members.specs.Files.{IsArchiveVerdict, IsPlainVerdict, IsPrefixVerdict, IsVerdictWithin, Verdict, accepted, bad_archive, past_limit, refused}
 use Rattle.mufom_members.specs.Results.{HasModules, StopsBy}
 use Rattle.mufom_members.specs.Stops.{stop_by}
+use Rattle.mufom_members.proofs.Gathering.{le_or_above}
 use Rattle.mufom_members.proofs.Taking.{IsEarlyStop, IsLateStop}
 
 -- a file that goes on, up to the limit
@@ -43,33 +47,32 @@ plain_stop options room stream chunk more fed s made same by is =
         (refusal_goes_on options (stream ++ take room chunk) (take (room - length chunk) more) r.offset r.reason is.0 is.1))
     by_stop read_stop.NoMemory is = tt
 
--- no error in the bytes that may be read, and there are more
-pub plain_limit : (options : ReadOptions) (room : ℕ) (stream chunk more fed : List ℕ) (reader : State) → room < length chunk → fed ≡ take room chunk
-    → HasRead reader (stream ++ fed) → options_of reader ≡ options → reader_stop reader ≡ None
-    → IsPlainVerdict options (length stream + room) (stream ++ (chunk ++ more)) past_limit
-plain_limit options room stream chunk more fed reader many is_fed read_fed same none = (
-  omega (arith, many, length-append stream (chunk ++ more), length-append chunk more),
-  subst (λ l. IsUnrefused options l) (sym exact) (λ offset reason wrong.
-      reading-not-refused reader (stream ++ take room chunk) offset reason
-      (subst (λ (o : Option ReadStop). Knows reader (stream ++ take room chunk) o) none read.1)
-      (subst (λ (d : ReadOptions). IsRefusedAt d (stream ++ take room chunk) offset reason) (sym same) wrong)),
+-- no error in the bytes that may be read
+pub fed_within : (kind : Kind) (room : ℕ) (stream chunk fed : List ℕ) (new : Content) (whole : Bool) → fed ≡ take room chunk
+    → (whole ≡ true) ↔ (length chunk ≤ room) → HasReadOf new (stream ++ fed) → HasFed kind room stream chunk new (Ok whole)
+fed_within kind room stream chunk fed new true is within read =
+    let few = within.0 refl in (few, subst (λ l. HasReadOf new (stream ++ l)) (is ∙ take_all room chunk few) read)
+fed_within kind room stream chunk fed new false is within read = (
+  by_size (le_or_above (length chunk) room),
+  subst (λ l. HasReadOf new (stream ++ l)) is read,
 )
   where
-    read : HasRead reader (stream ++ take room chunk)
-    read = subst (λ l. HasRead reader (stream ++ l)) is_fed read_fed
+    by_size : (length chunk ≤ room) ⊎ (room + 1 ≤ length chunk) → room < length chunk
+    by_size (inl few) = let wrong = within.1 few in absurd (cc)
+    by_size (inr many) = omega (arith, many)
 
-    exact : take (length stream + room) (stream ++ (chunk ++ more)) ≡ stream ++ take room chunk
-    exact =
-        let no_room : room - length chunk ≡ 0 = omega (arith, many) in
-        up_to room stream chunk more ∙ ap (λ n. (stream ++ take room chunk) ++ take n more) no_room ∙ append-nil (stream ++ take room chunk)
+-- ---- files that are too long
 
--- an archive that is too long
-pub archive_limit : (options : ReadOptions) (room : ℕ) (stream chunk more : List ℕ) → room < length chunk
-    → IsVerdictWithin options (length stream + room) (stream ++ (chunk ++ more)) past_limit
-archive_limit options room stream chunk more many =
-    inr (omega (arith, many, length-append stream (chunk ++ more), length-append chunk more), refl)
+-- there is no error in the bytes that may be read
+pub plain_past : (stream more : List ℕ) (reader : State) → HasReadOf (plain_of reader) stream → 0 < length more
+    → IsPlainVerdict (options_of reader) (length stream) (stream ++ more) past_limit
+plain_past stream more reader has some = (
+  omega (arith, some, length-append stream more),
+  subst (λ l. IsUnrefused (options_of reader) l) (sym (take-append_seam stream more)) (λ offset reason wrong.
+      reading-not-refused reader stream offset reason (subst (λ (o : Option ReadStop). Knows reader stream o) has.1 has.0.1) wrong),
+)
 
--- ---- whole files
+-- ---- results
 
 pub stops_by : (P Q : Verdict → Type 0) → ((v : Verdict) → P v → Q v) → (s : MembersStop) → StopsBy P s → StopsBy Q s
 stops_by P Q f (stop.Refused r) is = f (refused r.offset r.reason) is
@@ -81,6 +84,16 @@ stops_by P Q f stop.NoMemory is = tt
 pub has_modules : (P Q : Verdict → Type 0) → ((v : Verdict) → P v → Q v) → (r : Result Members MembersStop) → HasModules P r → HasModules Q r
 has_modules P Q f (Ok r) is = (is.0, f (accepted is.0 r.modules) is.1, is.2)
 has_modules P Q f (Err s) is = stops_by P Q f s is
+
+-- an archive of which only the first bytes may be read
+pub archive_past : (options : ReadOptions) (stream more : List ℕ) (s : MembersStop) → 0 < length more → StopsBy (IsPrefixVerdict options stream) s
+    → StopsBy (IsVerdictWithin options (length stream) (stream ++ more)) s
+archive_past options stream more s some is =
+    stops_by (IsPrefixVerdict options stream) (IsVerdictWithin options (length stream) (stream ++ more))
+    (λ v it. inr (
+      omega (arith, some, length-append stream more),
+      subst (λ l. IsPrefixVerdict options l v) (sym (take-append_seam stream more)) it,
+    )) s is
 
 pub archive_whole : (options : ReadOptions) (limit : ℕ) (stream : List ℕ) → length stream ≤ limit → (r : Result Members MembersStop)
     → HasModules (IsArchiveVerdict options stream) r → HasModules (IsVerdictWithin options limit stream) r

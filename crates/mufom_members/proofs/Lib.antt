@@ -5,9 +5,12 @@ pub mod Chunks
 pub mod Steps
 pub mod Inside
 pub mod NameLaws
+pub mod FileNames
 pub mod Taking
 pub mod Gathering
 pub mod Finishing
+pub mod Prefixes
+pub mod PrefixLaws
 pub mod OneVerdict
 pub mod EachVerdict
 pub mod Feeding

@@ -16,7 +16,7 @@ use Rattle.mufom_read.proofs.judged.PrefixesOne.{refusal_is_single}
 use Rattle.mufom_read.proofs.judged.Stays.{AreBytes-drop, AreBytes-take}
 use Rattle.mufom_read.proofs.spelled.Judged.{judgments_exclude_each_other}
 use Rattle.mufom_members.specs.Files.{AreModulesOf, IsArchiveVerdict, IsFirstRefused, IsPlainVerdict, IsVerdictWithin, Verdict, accepted}
-use Rattle.mufom_members.specs.Files.{bad_archive, contents_at, past_limit, refused}
+use Rattle.mufom_members.specs.Files.{bad_archive, contents_at, past_limit, refused, verdict_on_prefix}
 use Rattle.mufom_members.specs.Laws.{HaveOneVerdict}
 use Rattle.mufom_members.proofs.Gathering.{le_or_above}
 
@@ -178,11 +178,15 @@ module _ (options : ReadOptions) (bytes : List ℕ) (fits : AreBytes bytes) wher
       let errors : record { offset = offset } ≡ record { offset = further } = cc in
       ap (λ (e : BadArchive). bad_archive e.offset) errors
 
-  one_within : (limit : ℕ) (a b : Verdict) → IsVerdictWithin options limit bytes a → IsVerdictWithin options limit bytes b → a ≡ b
-  one_within limit a b (inl one) (inl other) = one_archive a b one.1 other.1
-  one_within limit a b (inl one) (inr other) = absurd (let few = one.0 in let many = other.0 in omega (arith, few, many))
-  one_within limit a b (inr one) (inl other) = absurd (let many = one.0 in let few = other.0 in omega (arith, few, many))
-  one_within limit a b (inr one) (inr other) = one.1 ∙ sym other.1
+one_within : (options : ReadOptions) (bytes : List ℕ) → AreBytes bytes → (limit : ℕ) (a b : Verdict) → IsVerdictWithin options limit bytes a
+    → IsVerdictWithin options limit bytes b → a ≡ b
+one_within options bytes fits limit a b (inl one) (inl other) = one_archive options bytes fits a b one.1 other.1
+one_within options bytes fits limit a b (inl one) (inr other) = absurd (let few = one.0 in let many = other.0 in omega (arith, few, many))
+one_within options bytes fits limit a b (inr one) (inl other) = absurd (let many = one.0 in let few = other.0 in omega (arith, few, many))
+one_within options bytes fits limit a b (inr one) (inr other) =
+    let front = one.1 in let same = other.1 in
+    front.2 ∙ ap (verdict_on_prefix (take limit bytes))
+    (one_archive options (take limit bytes) (AreBytes-take limit bytes fits) front.0 same.0 front.1 same.1) ∙ sym same.2
 
 pub one_verdict : HaveOneVerdict
 one_verdict options limit bytes a b fits (inl one) (inl other) = one_within options bytes fits limit a b one.1 other.1

@@ -1,7 +1,7 @@
 -- What was read of a source, and the verdict on it.
 use Rattle.std.proofs.Common.{◌≡◌, ◌↔◌, ◌⊎◌, ℕ, ◌+◌, ◌-◌, ◌<◌, ◌≤◌, ◌∙◌, inl, inr, sym, ap, refl, Bool, true, false, List, [], ◌∷◌, ◌++◌, length, take}
-use Rattle.std.proofs.Common.{Option, Some, None, Result, Ok, Err, IfOk, IfSome, subst, append_assoc, append-nil, length-append, arith}
-use Rattle.std.proofs.lemmas.List.{length-take-le, take-append-le}
+use Rattle.std.proofs.Common.{drop, Option, Some, None, Result, Ok, Err, IfOk, IfSome, subst, append_assoc, append-nil, length-append, length-drop, arith}
+use Rattle.std.proofs.lemmas.List.{length-take-le, take-append-drop, take-append-le}
 use Rattle.mufom_records.specs.declared.options.ReadOptions.{ReadOptions}
 use Rattle.mufom_host.specs.World.{Faults, Meaning, OnlyReads, ReadsOff}
 use Rattle.mufom_host.proofs.Composing.{KeepsAllButLeft-trans, KeepsAllButReads-trans, ReadsOff-refl, ReadsOff-trans}
@@ -11,7 +11,7 @@ use Rattle.mufom_members.specs.declared.content.Content.{Content}
 use Rattle.mufom_members.specs.declared.members.Members.{Members}
 use Rattle.mufom_members.specs.declared.members.MembersStop.{MembersStop}
 use Rattle.mufom_members.specs.declared.members.MembersStop.TheVariants as stop
-use Rattle.mufom_members.specs.Contents.{HasBegunWith, HasFed, HasReadChunk, HasReadOf, HasReadRest, HasReadWhole, IsVerdictAs, Kind, ReadsMembers, kind_of}
+use Rattle.mufom_members.specs.Contents.{GoesOn, HasBegunWith, HasFed, HasReadChunk, HasReadOf, HasReadRest, HasReadWhole, IsVerdictAs, Kind, ReadsMembers, kind_of}
 use Rattle.mufom_members.specs.Files.{IsVerdict, Verdict}
 use Rattle.mufom_members.specs.Results.{HasModules, SaysNothing, StopsBy}
 use Rattle.mufom_members.proofs.Feeding.{has_modules, stops_by}
@@ -45,13 +45,28 @@ chunk_stopped kind room None after stream chunk new s off fed = tt
 chunk_stopped kind room (Some left) after stream chunk new s off fed =
     subst (λ l. StopsBy (IsVerdictAs kind (length stream + room) (stream ++ l)) s) (sym off.1) (fed off.0)
 
-pub chunk_read : (kind : Kind) (room n : ℕ) (before after : Option (List ℕ)) (stream buffer : List ℕ) (new : Content) (done : Unit {0})
+pub chunk_read : (kind : Kind) (room n : ℕ) (before after : Option (List ℕ)) (stream buffer : List ℕ) (new : Content)
     → n ≤ length buffer → ReadsOff before after (take n buffer) → (n ≡ 0 → IfSome before (λ left. left ≡ []))
-    → HasFed kind room stream (take n buffer) new (Ok done) → HasReadChunk kind room before after stream new (Ok n)
-chunk_read kind room n before after stream buffer new done inside off none fed =
+    → HasFed kind room stream (take n buffer) new (Ok true) → HasReadChunk kind room before after stream new (Ok (Some n))
+chunk_read kind room n before after stream buffer new inside off none fed =
     let size = length-take-le n buffer inside in
     let few = fed.0 in
     (take n buffer, size, omega (arith, size, few), off, fed.1, none)
+
+-- more bytes than may be read
+pub chunk_past : (kind : Kind) (room : ℕ) (before after : Option (List ℕ)) (stream chunk : List ℕ) (new : Content) → ReadsOff before after chunk
+    → HasFed kind room stream chunk new (Ok false) → GoesOn room before stream new
+chunk_past kind room before after stream chunk new off fed =
+    let many = fed.0 in (take room chunk, length-take-le room chunk (omega (arith, many)), fed.1, by_before before off)
+  where
+    by_before : (o : Option (List ℕ)) → ReadsOff o after chunk
+        → IfSome o (λ left. (more : List ℕ) × (left ≡ take room chunk ++ more) × (0 < length more))
+    by_before None off = tt
+    by_before (Some left) off = (
+      drop room chunk ++ off.0,
+      off.1 ∙ ap (λ l. l ++ off.0) (sym (take-append-drop room chunk)) ∙ append_assoc (take room chunk) (drop room chunk) off.0,
+      let many = fed.0 in omega (arith, many, length-append (drop room chunk) off.0, length-drop room chunk),
+    )
 
 -- ---- all of them
 
@@ -81,7 +96,7 @@ come_begun head limit size old new before after come small =
     let within = come.within in (head ++ come.more, come.read, omega (arith, come.count, within, small))
 
 pub come_on : (head : List ℕ) (limit size n : ℕ) (old mid new : Content) (before between after : Option (List ℕ))
-    → (come : HasCome head limit size old mid before between) → HasReadChunk (kind_of mid) (limit - size) between after (head ++ come.more) new (Ok n)
+    → (come : HasCome head limit size old mid before between) → HasReadChunk (kind_of mid) (limit - size) between after (head ++ come.more) new (Ok (Some n))
     → kind_of new ≡ kind_of mid → HasCome head limit (size + n) old new before after
 come_on head limit size n old mid new before between after come chunk same =
     let within = come.within in let few = chunk.2 in record {
@@ -109,8 +124,8 @@ come_stopped head limit size old mid new (Some left) between after s come stoppe
     (subst (λ n. StopsBy (IsVerdictAs (kind_of mid) n ((head ++ come.more) ++ come.off.0)) s) whole its))
 
 pub come_end : (head : List ℕ) (limit size n : ℕ) (old mid new : Content) (before between after : Option (List ℕ))
-    → (come : HasCome head limit size old mid before between) → HasReadChunk (kind_of mid) (limit - size) between after (head ++ come.more) new (Ok n)
-    → n ≡ 0 → HasReadRest (kind_of old) limit before after head new (Ok size)
+    → (come : HasCome head limit size old mid before between) → HasReadChunk (kind_of mid) (limit - size) between after (head ++ come.more) new (Ok (Some n))
+    → n ≡ 0 → HasReadRest (kind_of old) limit before after head new (Ok (Some size))
 come_end head limit size n old mid new before between after come chunk none = (
   come.more,
   come.count,
@@ -132,6 +147,32 @@ come_end head limit size n old mid new before between after come chunk none = (
           off.1 ∙ ap (λ l. come.more ++ l) ended ∙ append-nil come.more,
           last.2 ∙ ap (λ l. Some l) tail,
         )
+
+-- the bytes that were read before, and those that were read since
+goes_after : (room : ℕ) (before between : Option (List ℕ)) (head more : List ℕ) (new : Content) → ReadsOff before between more
+    → GoesOn room between (head ++ more) new → GoesOn (length more + room) before head new
+goes_after room before between head more new off on = (
+  more ++ on.0,
+  length-append more on.0 ∙ ap (λ n. length more + n) on.1,
+  subst (HasReadOf new) (append_assoc head more on.0) on.2,
+  by_before before off,
+)
+  where
+    by_before : (o : Option (List ℕ)) → ReadsOff o between more
+        → IfSome o (λ left. (rest : List ℕ) × (left ≡ (more ++ on.0) ++ rest) × (0 < length rest))
+    by_before None off = tt
+    by_before (Some left) off =
+        let its = subst (λ (o : Option (List ℕ)). IfSome o (λ l. (rest : List ℕ) × (l ≡ on.0 ++ rest) × (0 < length rest))) off.2 on.3 in
+        (its.0, off.1 ∙ ap (λ l. more ++ l) its.1 ∙ sym (append_assoc more on.0 its.0), its.2)
+
+-- more bytes than the file may have
+pub come_past : (head : List ℕ) (limit size : ℕ) (old mid new : Content) (before between after : Option (List ℕ))
+    → (come : HasCome head limit size old mid before between) → HasReadChunk (kind_of mid) (limit - size) between after (head ++ come.more) new (Ok None)
+    → HasReadRest (kind_of old) limit before after head new (Ok None)
+come_past head limit size old mid new before between after come on =
+    let within = come.within in
+    let whole : length come.more + (limit - size) ≡ limit - length head = omega (arith, come.count, within, length-append head come.more) in
+    subst (λ n. GoesOn n before head new) whole (goes_after (limit - size) before between head come.more new come.off on)
 
 -- ---- the verdict on the file
 
@@ -198,6 +239,41 @@ module _ (archive : Bool) (options : ReadOptions) (limit : ℕ) (head : List ℕ
             (as_kind off.0 (known_of left off.0 off.1 short)) s its),
         tt,
       )
+
+  -- more bytes than the file may have
+  past : (before mid after : Option (List ℕ)) (new : Content) (s : MembersStop) → ReadsOff before mid head
+      → (length head < 8 → IfSome before (λ left. left ≡ head)) → GoesOn limit before [] new
+      → ((stream more : List ℕ) → HasReadOf new stream → 0 < length more → StopsBy (IsVerdictAs kind (length stream) (stream ++ more)) s)
+      → ReadsMembers options limit before after (Err s)
+  past None mid after new s off short on stops = tt
+  past (Some left) mid after new s off short on stops =
+      let further = on.3 in
+      let all : on.0 ++ further.0 ≡ head ++ off.0 = sym further.1 ∙ off.1 in
+      let its = subst (λ l. StopsBy (IsVerdictAs kind limit l) s) all
+      (subst (λ n. StopsBy (IsVerdictAs kind n (on.0 ++ further.0)) s) on.1 (stops on.0 further.0 on.2 further.2)) in (
+        subst (λ l. StopsBy (IsVerdict options limit l) s) (sym off.1)
+            (stops_by (IsVerdictAs kind limit (head ++ off.0)) (IsVerdict options limit (head ++ off.0))
+            (as_kind off.0 (known_of left off.0 off.1 short)) s its),
+        tt,
+      )
+
+  -- the first bytes are too many
+  pub head_past : (before mid after : Option (List ℕ)) (new : Content) (s : MembersStop) → ReadsOff before mid head
+      → (length head < 8 → IfSome before (λ left. left ≡ head)) → HasFed kind limit [] head new (Ok false)
+      → ((stream more : List ℕ) → HasReadOf new stream → 0 < length more → StopsBy (IsVerdictAs kind (length stream) (stream ++ more)) s)
+      → ReadsMembers options limit before after (Err s)
+  head_past before mid after new s off short fed stops =
+      past before mid after new s off short (chunk_past kind limit before mid [] head new off fed) stops
+
+  -- too many bytes follow the first ones
+  pub after_past : (before mid after : Option (List ℕ)) (new : Content) (s : MembersStop) → length head ≤ limit → ReadsOff before mid head
+      → (length head < 8 → IfSome before (λ left. left ≡ head)) → GoesOn (limit - length head) mid head new
+      → ((stream more : List ℕ) → HasReadOf new stream → 0 < length more → StopsBy (IsVerdictAs kind (length stream) (stream ++ more)) s)
+      → ReadsMembers options limit before after (Err s)
+  after_past before mid after new s few off short on stops =
+      let whole : length head + (limit - length head) ≡ limit = omega (arith, few) in
+      past before mid after new s off short
+      (subst (λ n. GoesOn n before [] new) whole (goes_after (limit - length head) before mid [] head new off on)) stops
 
   -- the length of the file, and that nothing is left
   whole : (bytes : List ℕ) (after : Option (List ℕ)) (size : ℕ) (result : Result Members MembersStop) → IfOk result (λ r. r.length ≡ size)

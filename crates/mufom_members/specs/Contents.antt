@@ -1,5 +1,6 @@
 -- What reading a file results in, chunk by chunk and from a source.
-use Rattle.std.specs.Prelude.{◌≡◌, ℕ, ◌+◌, ◌≤◌, Bool, true, false, List, [], ◌++◌, length, Option, Some, None, Result, Ok, Err, IfSome}
+use Rattle.std.specs.Prelude.{◌≡◌, ℕ, ◌+◌, ◌-◌, ◌<◌, ◌≤◌, Bool, true, false, List, [], ◌++◌, length, take, Option, Some, None, IfSome}
+use Rattle.std.specs.Prelude.{Result, Ok, Err}
 use Rattle.mufom_records.specs.declared.options.ReadOptions.{ReadOptions}
 use Rattle.mufom_host.specs.World.{ReadsOff}
 use Rattle.mufom_read.specs.declared.state.State.{State}
@@ -41,24 +42,32 @@ plain_of reader = content.Plain reader
 abbrev pub HasBegunWith : ℕ → ℕ → Content → Type 0
 HasBegunWith limit room c = (stream : List ℕ) × HasReadOf c stream × (length stream + room ≤ limit)
 
--- The result of reading a chunk of a file, of which `room` bytes may follow the stream: the content has read the chunk too; or the
--- stop is the verdict on every file that begins with these bytes.
-abbrev pub HasFed : Kind → ℕ → List ℕ → List ℕ → Content → Result (Unit {0}) MembersStop → Type 0
-HasFed kind room stream chunk new (Ok done) = (length chunk ≤ room) × HasReadOf new (stream ++ chunk)
+-- The result of reading a chunk of a file, of which `room` bytes may follow the stream: the content has read the chunk too; or it has
+-- read the bytes of it that may follow, and there are more; or the stop is the verdict on every file that begins with these bytes.
+abbrev pub HasFed : Kind → ℕ → List ℕ → List ℕ → Content → Result Bool MembersStop → Type 0
+HasFed kind room stream chunk new (Ok true) = (length chunk ≤ room) × HasReadOf new (stream ++ chunk)
+HasFed kind room stream chunk new (Ok false) = (room < length chunk) × HasReadOf new (stream ++ take room chunk)
 HasFed kind room stream chunk new (Err s) = (more : List ℕ) → StopsBy (IsVerdictAs kind (length stream + room) (stream ++ (chunk ++ more))) s
 
+-- Of the bytes that were left, the content has read this many after the stream, and there are more.
+abbrev pub GoesOn : ℕ → Option (List ℕ) → List ℕ → Content → Type 0
+GoesOn room before stream new = (front : List ℕ) × (length front ≡ room) × HasReadOf new (stream ++ front)
+    × IfSome before (λ left. (more : List ℕ) × (left ≡ front ++ more) × (0 < length more))
+
 -- The result of one read whose bytes are fed to a content that has read this stream: it has read them too, and there are none only
--- if none were left; or the stop is the verdict on the file.
-abbrev pub HasReadChunk : Kind → ℕ → Option (List ℕ) → Option (List ℕ) → List ℕ → Content → Result ℕ MembersStop → Type 0
-HasReadChunk kind room before after stream new (Ok n) = (chunk : List ℕ) × (length chunk ≡ n) × (n ≤ room) × ReadsOff before after chunk
+-- if none were left; or it has read as many as are allowed, and there are more; or the stop is the verdict on the file.
+abbrev pub HasReadChunk : Kind → ℕ → Option (List ℕ) → Option (List ℕ) → List ℕ → Content → Result (Option ℕ) MembersStop → Type 0
+HasReadChunk kind room before after stream new (Ok None) = GoesOn room before stream new
+HasReadChunk kind room before after stream new (Ok (Some n)) = (chunk : List ℕ) × (length chunk ≡ n) × (n ≤ room) × ReadsOff before after chunk
     × HasReadOf new (stream ++ chunk) × (n ≡ 0 → IfSome before (λ left. left ≡ []))
 HasReadChunk kind room before after stream new (Err s) = IfSome before (λ left. StopsBy (IsVerdictAs kind (length stream + room) (stream ++ left)) s)
 
--- The result of reading to the end: the content has read all that was left, in all at most `limit` bytes; or the stop is the verdict
--- on the file.
-abbrev pub HasReadRest : Kind → ℕ → Option (List ℕ) → Option (List ℕ) → List ℕ → Content → Result ℕ MembersStop → Type 0
-HasReadRest kind limit before after head new (Ok n) = (more : List ℕ) × (length (head ++ more) ≡ n) × (n ≤ limit) × HasReadOf new (head ++ more)
-    × IfSome before (λ left. (left ≡ more) × (after ≡ Some []))
+-- The result of reading to the end: the content has read all that was left, in all at most `limit` bytes; or it has read `limit`
+-- bytes, and there are more; or the stop is the verdict on the file.
+abbrev pub HasReadRest : Kind → ℕ → Option (List ℕ) → Option (List ℕ) → List ℕ → Content → Result (Option ℕ) MembersStop → Type 0
+HasReadRest kind limit before after head new (Ok None) = GoesOn (limit - length head) before head new
+HasReadRest kind limit before after head new (Ok (Some n)) = (more : List ℕ) × (length (head ++ more) ≡ n) × (n ≤ limit)
+    × HasReadOf new (head ++ more) × IfSome before (λ left. (left ≡ more) × (after ≡ Some []))
 HasReadRest kind limit before after head new (Err s) = IfSome before (λ left. StopsBy (IsVerdictAs kind limit (head ++ left)) s)
 
 -- The result of reading a whole file is the verdict on it. If it has modules, its length is returned, and nothing is left.

@@ -1,8 +1,7 @@
 -- What a file has: one module, or those of an archive; or why it is refused.
-use Rattle.std.specs.Prelude.{◌≡◌, ◌⊎◌, ℕ, ◌+◌, ◌-◌, ◌<◌, ◌≤◌, nat_le, ◌&&◌, List, [], ◌∷◌, ◌++◌, length, map, take, drop, Option, Some, None}
-use Rattle.std.specs.Prelude.{is_none, if◌then◌else◌}
+use Rattle.std.specs.Prelude.{◌≡◌, ◌⊎◌, ℕ, ◌+◌, ◌-◌, ◌<◌, ◌≤◌, List, [], ◌∷◌, ◌++◌, length, map, take, drop, Option, Some, None, if◌then◌else◌}
 use Rattle.mufom_archive.specs.declared.listing.BadArchive.{BadArchive}
-use Rattle.mufom_archive.specs.Entries.{BeginsArchive, entry_at}
+use Rattle.mufom_archive.specs.Entries.{BeginsArchive, lacks_header}
 use Rattle.mufom_archive.specs.Listings.{IsListing, Member}
 use Rattle.mufom_numbers.specs.declared.reason.Reason.{Reason}
 use Rattle.mufom_module.specs.declared.module.Parts.{Parts}
@@ -61,21 +60,24 @@ IsArchiveVerdict options bytes (bad_archive offset) = (members : List Member) ×
 IsArchiveVerdict options bytes _ = ⊥
 
 -- The verdict on an archive of which these bytes are only the first, given their verdict as an archive of their own. An error of a
--- member stays one, and so does a header that is complete and is none. No other verdict is one on what follows: the archive is too
--- long, and is not searched further. For example, contents that end after these bytes may be complete, and the table of long names
--- may be behind them.
+-- member is kept, and so is a header that is complete and is none. Any other verdict may change with the bytes that follow, so that
+-- the archive is only too long. For example, contents that end after these bytes may be complete, and the table of long names may
+-- follow.
 abbrev pub verdict_on_prefix : List ℕ → Verdict → Verdict
 verdict_on_prefix bytes (accepted names modules) = past_limit
 verdict_on_prefix bytes (refused offset reason) = refused offset reason
-verdict_on_prefix bytes (bad_archive offset) = if nat_le (offset + 60) (length bytes) && is_none (entry_at bytes offset) then bad_archive offset else past_limit
+verdict_on_prefix bytes (bad_archive offset) = if lacks_header bytes offset then bad_archive offset else past_limit
 verdict_on_prefix bytes past_limit = past_limit
+
+-- The verdict on an archive of which these bytes are only the first.
+abbrev pub IsPrefixVerdict : ReadOptions → List ℕ → Verdict → Type 0
+IsPrefixVerdict options bytes verdict = (first : Verdict) × IsArchiveVerdict options bytes first × (verdict ≡ verdict_on_prefix bytes first)
 
 -- The verdict on an archive that may have at most `limit` bytes: if it has more, its first `limit` bytes may have an error that what
 -- follows cannot mend.
 abbrev pub IsVerdictWithin : ReadOptions → ℕ → List ℕ → Verdict → Type 0
 IsVerdictWithin options limit bytes verdict = ((length bytes ≤ limit) × IsArchiveVerdict options bytes verdict)
-    ⊎ ((limit < length bytes) × ((first : Verdict) × IsArchiveVerdict options (take limit bytes) first
-    × (verdict ≡ verdict_on_prefix (take limit bytes) first)))
+    ⊎ ((limit < length bytes) × IsPrefixVerdict options (take limit bytes) verdict)
 
 -- The verdict on a file that may have at most `limit` bytes.
 abbrev pub IsVerdict : ReadOptions → ℕ → List ℕ → Verdict → Type 0

@@ -30,5 +30,5 @@ is_named table e = is_member e.label && is_some (name_of table e.label)
 
 -- These are the names at the positions of the listing of an archive; there are none if the file is not an archive.
 abbrev pub AreNames : Option Listing → Option (List (List ℕ)) → Type 0
-AreNames listing None = (position : ℕ) → name_at listing position ≡ None
+AreNames listing None = listing ≡ None
 AreNames listing (Some names) = (position : ℕ) → name_at listing position ≡ slice_get names position

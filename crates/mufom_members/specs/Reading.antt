@@ -1,6 +1,6 @@
 -- What it means that the members of an archive were read up to some byte of it.
 use Rattle.std.specs.Prelude.{◌≡◌, ◌⊎◌, ℕ, ◌+◌, ◌*◌, ◌<◌, ◌≤◌, Bool, true, false, nat_lt, if◌then◌else◌, List, [], ◌∷◌, ◌++◌, length, filter}
-use Rattle.std.specs.Prelude.{Option, Some, None}
+use Rattle.std.specs.Prelude.{Option, Some, None, ◌==◌}
 use Rattle.std.specs.List.{AllByRecursion}
 use Rattle.mufom_archive.specs.declared.entry.Entry.{Entry}
 use Rattle.mufom_archive.specs.declared.listing.BadArchive.{BadArchive}
@@ -156,3 +156,16 @@ first_stop None None = None
 first_stop None (Some bad) = Some (stop.BadArchive bad)
 first_stop (Some r) None = Some (stop.Refused r)
 first_stop (Some r) (Some bad) = if nat_lt bad.offset r.offset then Some (stop.BadArchive bad) else Some (stop.Refused r)
+
+-- there is a place, and it is this offset
+abbrev pub is_at : Option ℕ → ℕ → Bool
+is_at None offset = false
+is_at (Some at) offset = at == offset
+
+-- The stop for an archive that goes on after some bytes, given the offset of a header that is complete and is none, and the stop for
+-- these bytes alone.
+abbrev pub prefix_stop : Option ℕ → Option MembersStop → MembersStop
+prefix_stop header None = stop.Limit
+prefix_stop header (Some (stop.Refused r)) = stop.Refused r
+prefix_stop header (Some (stop.BadArchive bad)) = if is_at header bad.offset then stop.BadArchive bad else stop.Limit
+prefix_stop header (Some _) = stop.Limit

@@ -5,10 +5,10 @@ ghost use Rattle.mufom_records.specs.declared.options.ReadOptions.{ReadOptions};
 ghost use Rattle.std.specs.List.{sum_by};
 ghost use Rattle.mufom_module.specs.Written.{weight};
 ghost use Rattle.mufom_archive.specs.Reading.{entries_of, length_of};
-ghost use Rattle.mufom_members.specs.Results.{HasModules};
-ghost use Rattle.mufom_members.specs.Files.{IsArchiveVerdict};
+ghost use Rattle.mufom_members.specs.Results.{HasModules, StopsBy};
+ghost use Rattle.mufom_members.specs.Files.{IsArchiveVerdict, IsPrefixVerdict};
 ghost use Rattle.mufom_members.specs.Names.{is_named};
-ghost use Rattle.mufom_members.specs.Reading.{HasBegun, HasGathered, HasStepped, first_stop};
+ghost use Rattle.mufom_members.specs.Reading.{HasBegun, HasGathered, HasStepped, first_stop, is_at, prefix_stop};
 
 use crate::gathered::Gathered;
 use crate::members::{Members, MembersStop};
@@ -64,6 +64,34 @@ fn first_stop(refusal: Option<ReadRefusal>, error: Option<BadArchive>) -> Option
                 Some(MembersStop::Refused(refusal))
             }
         }
+    }
+}
+
+// Whether there is a place, and it is this offset.
+fn is_at(place: Option<u64>, offset: u64) -> bool
+    ensures { result ≡ is_at place offset }
+{
+    match place {
+        Some(at) => at == offset,
+        None => false,
+    }
+}
+
+// The stop for an archive that goes on after the bytes that were read, given the stop for these bytes alone, and the
+// offset of a header that is complete and is none. What follows may mend any other error of the archive.
+fn prefix_stop(stop: Option<MembersStop>, header: Option<u64>) -> MembersStop
+    ensures { result ≡ prefix_stop header stop }
+{
+    match stop {
+        Some(MembersStop::Refused(refusal)) => MembersStop::Refused(refusal),
+        Some(MembersStop::BadArchive(bad)) => {
+            if is_at(header, bad.offset) {
+                MembersStop::BadArchive(bad)
+            } else {
+                MembersStop::Limit
+            }
+        }
+        _ => MembersStop::Limit,
     }
 }
 
@@ -133,6 +161,21 @@ impl Gatherer {
             return Ok(());
         }
         self.gather(chunk, start)
+    }
+
+    /// Why the archive has no modules, if it goes on after the bytes that were read, and no more are allowed.
+    pub(crate) fn stop(self) -> MembersStop
+        ensures stops { (stream : List ℕ) → HasGathered self stream → StopsBy (IsPrefixVerdict self.gathered.options stream) result }
+        ensures fault { result ≢ MembersStop.Fault }
+    {
+        let Gatherer {
+            archive,
+            done: _,
+            gathered,
+        } = self;
+        let header = archive.bad_header();
+        let listing = archive.finish();
+        prefix_stop(first_stop(gathered.refusal, listing.error), header)
     }
 
     /// The modules of the archive whose bytes were read, all of them, or why it has none. `size` is their number.

@@ -1,17 +1,17 @@
 //! Reads a file as an archive or as one module.
 
-ghost use Rattle.std.specs.Prelude.{◌≡◌, ◌≢◌, ◌+◌, ◌*◌, ◌≤◌, ℕ, Bool, List, [], ◌++◌, length, IfOk, Err};
+ghost use Rattle.std.specs.Prelude.{◌≡◌, ◌≢◌, ◌+◌, ◌*◌, ◌<◌, ◌≤◌, ℕ, Bool, List, [], ◌++◌, length, IfOk, Err};
 ghost use Rattle.std.specs.List.{sum_by};
 ghost use Rattle.mufom_module.specs.Grammar.{file_limit};
 ghost use Rattle.mufom_module.specs.Written.{weight};
 ghost use Rattle.mufom_read.specs.Reader.{options_of, reader_stop, HasRead};
 ghost use Rattle.mufom_members.specs.Contents.{HasBegunWith, HasFed, HasReadOf, IsVerdictAs, archive_of, kind_of, plain_of};
-ghost use Rattle.mufom_members.specs.Results.{HasModules};
+ghost use Rattle.mufom_members.specs.Results.{HasModules, StopsBy};
 ghost use Rattle.mufom_members.specs.Stops.{stop_by};
 
 use crate::archive::Gatherer;
 use crate::members::{Members, MembersStop};
-use crate::slices::first_bytes;
+use crate::slices::{first_bytes, fits};
 use mufom_numbers::{List, NoMemory};
 use mufom_read::{ReadOptions, ReadStop, Reader};
 use std::alloc::Global;
@@ -33,8 +33,8 @@ fn stop_by(stop: ReadStop) -> MembersStop
     }
 }
 
-// Reads a chunk of a file that is not an archive.
-fn feed_plain(reader: &mut Reader, chunk: &[u8], room: u64) -> Result<(), MembersStop>
+// Reads the bytes of a chunk that are allowed, in a file that is not an archive. Returns whether that was all of it.
+fn feed_plain(reader: &mut Reader, chunk: &[u8], room: u64) -> Result<bool, MembersStop>
     ensures fed { (stream : List ℕ) → HasReadOf (plain_of reader.old) stream
         → HasFed (kind_of (plain_of reader.old)) room stream chunk.now (plain_of reader.new) result }
     ensures options { options_of reader.new ≡ options_of reader.old }
@@ -44,25 +44,19 @@ fn feed_plain(reader: &mut Reader, chunk: &[u8], room: u64) -> Result<(), Member
         Ok(()) => {}
         Err(stop) => return Err(stop_by(stop)),
     }
-    if room < chunk.len() as u64 {
-        return Err(MembersStop::Limit);
-    }
-    Ok(())
+    Ok(fits(chunk, room))
 }
 
-// Reads a chunk of an archive.
-fn feed_archive(gatherer: &mut Gatherer, chunk: &[u8], room: u64) -> Result<(), MembersStop>
+// Reads the bytes of a chunk that are allowed, in an archive. Returns whether that was all of it.
+fn feed_archive(gatherer: &mut Gatherer, chunk: &[u8], room: u64) -> Result<bool, MembersStop>
     requires begun { HasBegunWith file_limit room (archive_of gatherer.old) }
     ensures fed { (stream : List ℕ) → HasReadOf (archive_of gatherer.old) stream
         → HasFed (kind_of (archive_of gatherer.old)) room stream chunk.now (archive_of gatherer.new) result }
     ensures options { gatherer.new.gathered.options ≡ gatherer.old.gathered.options }
     ensures fault { result ≢ Err MembersStop.Fault }
 {
-    if room < chunk.len() as u64 {
-        return Err(MembersStop::Limit);
-    }
-    match gatherer.feed(chunk) {
-        Ok(()) => Ok(()),
+    match gatherer.feed(first_bytes(chunk, room)) {
+        Ok(()) => Ok(fits(chunk, room)),
         Err(NoMemory) => Err(MembersStop::NoMemory),
     }
 }
@@ -109,8 +103,9 @@ impl Content {
         }
     }
 
-    /// Reads the next chunk of the file, of which at most `room` bytes are allowed.
-    pub(crate) fn feed(&mut self, chunk: &[u8], room: u64) -> Result<(), MembersStop>
+    /// Reads the next chunk of the file, of which at most `room` bytes are allowed, or those bytes of it. Returns
+    /// whether it was all of it.
+    pub(crate) fn feed(&mut self, chunk: &[u8], room: u64) -> Result<bool, MembersStop>
         requires begun { HasBegunWith file_limit room self.old }
         ensures fed { (stream : List ℕ) → HasReadOf self.old stream → HasFed (kind_of self.old) room stream chunk.now self.new result }
         ensures kind { kind_of self.new ≡ kind_of self.old }
@@ -119,6 +114,18 @@ impl Content {
         match self {
             Content::Archive(gatherer) => feed_archive(gatherer, chunk, room),
             Content::Plain(reader) => feed_plain(reader, chunk, room),
+        }
+    }
+
+    /// Why the file has no modules, if it goes on after the bytes that were read, and no more are allowed.
+    pub(crate) fn stop(self) -> MembersStop
+        ensures stops { (stream more : List ℕ) → HasReadOf self stream → 0 < length more
+            → StopsBy (IsVerdictAs (kind_of self) (length stream) (stream ++ more)) result }
+        ensures fault { result ≢ MembersStop.Fault }
+    {
+        match self {
+            Content::Archive(gatherer) => gatherer.stop(),
+            Content::Plain(_) => MembersStop::Limit,
         }
     }
 

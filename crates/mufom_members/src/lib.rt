@@ -13,6 +13,9 @@ mod members;
 mod slices;
 mod source;
 
-pub use laws::{files_have_a_verdict, files_have_one_verdict};
+pub use laws::{
+    errors_before_the_limit_stay, files_have_a_verdict, files_have_member_names,
+    files_have_one_verdict,
+};
 pub use members::{Members, MembersStop, name_at};
 pub use source::read_members;

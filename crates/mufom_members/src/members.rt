@@ -50,8 +50,8 @@ pub enum MembersStop {
     /// The file begins as an archive, and an entry is invalid.
     #[error(transparent)]
     BadArchive(BadArchive),
-    /// The file has more bytes than may be read. If it is not an archive, those that may be read contain no
-    /// error.
+    /// The file has more bytes than may be read, and those that may be read contain no error, or, in an archive,
+    /// only one that the bytes after them may mend.
     #[error("the file is too long")]
     Limit,
     #[error("the file cannot be read")]

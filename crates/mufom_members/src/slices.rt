@@ -1,18 +1,26 @@
 //! Parts of chunks and of lists.
 
-ghost use Rattle.std.specs.Prelude.{◌≡◌, ◌↔◌, ◌-◌, ◌≤◌, take, drop, slice_get, IsTrue};
+ghost use Rattle.std.specs.Prelude.{◌≡◌, ◌↔◌, ◌-◌, ◌≤◌, length, take, drop, slice_get, IsTrue};
 
 use mufom_archive::Entry;
 
 /// The first `count` bytes, or all if there are fewer.
 pub(crate) fn first_bytes(bytes: &[u8], count: u64) -> &[u8]
-    ensures { result.now ≡ take count bytes.now }
+    ensures front { result.now ≡ take count bytes.now }
+    ensures few { length result.now ≤ count }
 {
     if bytes.len() as u64 <= count {
         bytes
     } else {
         &bytes[..count as usize]
     }
+}
+
+/// Whether a chunk has at most this number of bytes.
+pub(crate) fn fits(chunk: &[u8], room: u64) -> bool
+    ensures { IsTrue result ↔ (length chunk.now ≤ room) }
+{
+    chunk.len() as u64 <= room
 }
 
 // The bytes without the first `count`, or none if there are no more.

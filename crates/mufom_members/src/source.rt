@@ -76,13 +76,14 @@ fn read_head<S: Source>(
     Ok(())
 }
 
-// Reads once from the source, feeds the content, and returns the number of bytes read.
+// Reads once from the source, feeds the content, and returns the number of bytes read. If they are more than are
+// allowed, the content is fed with those, and the result is `None`.
 fn read_chunk<S: Source>(
     source: &mut S,
     content: &mut Content,
     buffer: &mut [u8],
     room: u64,
-) -> Result<usize, MembersStop>
+) -> Result<Option<usize>, MembersStop>
     requires buffer { 0 < length buffer.old }
     requires begun { HasBegunWith file_limit room content.old }
     ensures read { (stream : List ℕ) → HasReadOf content.old stream
@@ -97,19 +98,21 @@ fn read_chunk<S: Source>(
         Err(stop) => return Err(stop),
     };
     match content.feed(&buffer[..count], room) {
-        Ok(()) => Ok(count),
+        Ok(true) => Ok(Some(count)),
+        Ok(false) => Ok(None),
         Err(stop) => Err(stop),
     }
 }
 
-// Reads to the end of the source, and returns the length of the file, of which the content has read the first bytes.
+// Reads to the end of the source, and returns the length of the file, of which the content has read the first bytes. If
+// there are more bytes than are allowed, the content reads those, and the result is `None`.
 fn read_rest<S: Source>(
     source: &mut S,
     content: &mut Content,
     buffer: &mut [u8],
     head: &[u8],
     limit: u64,
-) -> Result<u64, MembersStop>
+) -> Result<Option<u64>, MembersStop>
     requires buffer { 0 < length buffer.old }
     requires small { limit ≤ file_limit }
     requires within { length head.now ≤ limit }
@@ -122,11 +125,12 @@ fn read_rest<S: Source>(
     let mut size = head.len() as u64;
     'chunks: loop {
         let count = match read_chunk(source, content, buffer, limit - size) {
-            Ok(count) => count,
+            Ok(Some(count)) => count,
+            Ok(None) => return Ok(None),
             Err(stop) => return Err(stop),
         };
         if count == 0 {
-            return Ok(size);
+            return Ok(Some(size));
         }
         size += count as u64;
     }
@@ -154,14 +158,16 @@ fn read_after<S: Source>(
         Err(NoMemory) => return Err(MembersStop::NoMemory),
     };
     match content.feed(head, limit) {
-        Ok(()) => {}
+        Ok(true) => {}
+        Ok(false) => return Err(content.stop()),
         Err(stop) => return Err(stop),
     }
     if head.len() < SIGNATURE {
         return content.finish(alloc, head.len() as u64);
     }
     match read_rest(source, &mut content, buffer, head, limit) {
-        Ok(size) => content.finish(alloc, size),
+        Ok(Some(size)) => content.finish(alloc, size),
+        Ok(None) => Err(content.stop()),
         Err(stop) => Err(stop),
     }
 }

@@ -190,6 +190,56 @@ fn all_bytes_of_an_archive_count(rt: HostRuntime) {
 }
 
 #[test]
+fn a_header_past_which_the_archive_goes_on_is_bad(rt: HostRuntime) {
+    let mut bytes = archive(&rt, rt.alloc());
+    add_entry(&rt, &mut bytes, b"c.o/            ", b"4x        ", EVEN);
+    let error = BadArchive { offset: 8 };
+    assert_eq!(rt;
+        stop(&rt, rt.alloc(), &bytes, 68),
+        Some(MembersStop::BadArchive(error))
+    );
+    assert_eq!(rt; stop(&rt, rt.alloc(), &bytes, 67), Some(MembersStop::Limit));
+}
+
+#[test]
+fn a_member_past_which_the_archive_goes_on_is_refused(rt: HostRuntime) {
+    let mut bytes = archive(&rt, rt.alloc());
+    add_entry(
+        &rt,
+        &mut bytes,
+        b"b.o/            ",
+        b"110       ",
+        &ODD[..110],
+    );
+    add_entry(&rt, &mut bytes, b"c.o/            ", b"120       ", EVEN);
+    let refusal = ReadRefusal {
+        offset: 68 + 110,
+        reason: Reason::Truncated,
+    };
+    assert_eq!(rt;
+        stop(&rt, rt.alloc(), &bytes, 178),
+        Some(MembersStop::Refused(refusal))
+    );
+    assert_eq!(rt;
+        stop(&rt, rt.alloc(), &bytes, 177),
+        Some(MembersStop::Limit)
+    );
+}
+
+#[test]
+fn a_table_of_long_names_may_be_past_the_limit(rt: HostRuntime) {
+    let mut bytes = archive(&rt, rt.alloc());
+    add_entry(&rt, &mut bytes, b"/0              ", b"120       ", EVEN);
+    add_entry(&rt, &mut bytes, b"//              ", b"4         ", b"d.o/");
+    assert_eq!(rt;
+        stop(&rt, rt.alloc(), &bytes, 251),
+        Some(MembersStop::Limit)
+    );
+    let members = read(&rt, rt.alloc(), &bytes, 252).expect(&rt, "modules");
+    assert!(rt; has_name(&members, 0, b"d.o"));
+}
+
+#[test]
 fn many_empty_tables_are_read(rt: HostRuntime) {
     let mut bytes = archive(&rt, rt.alloc());
     for _ in 0..100_000 {

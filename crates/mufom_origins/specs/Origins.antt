@@ -10,15 +10,15 @@ use Rattle.mufom_origins.specs.declared.origins.Origin.{Origin}
 use Rattle.mufom_origins.specs.declared.origins.Place.{Place}
 use Rattle.mufom_origins.specs.Places.{capped, ends_from, set_marks}
 
--- a module with the number of its file
+-- a module with its place among all modules that were read, which is also that of its file
 abbrev pub FileModule : Type 0
 FileModule = ℕ × Parts
 
--- the modules of all files, which are numbered from 0
+-- the modules of all files, with their places from 0 on
 abbrev pub numbered : List Parts → List FileModule
 numbered ms = enumerate_from 0 ms
 
--- the modules, without the numbers of their files
+-- the modules, without their places
 abbrev pub modules_of : List FileModule → List Parts
 modules_of files = map (λ f. f.1) files
 

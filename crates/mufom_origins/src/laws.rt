@@ -1,4 +1,4 @@
-//! Laws about places and the numbers of files, each the contract of a function that does nothing.
+//! Laws about places and the files of modules, each the contract of a function that does nothing.
 
 ghost use Rattle.std.specs.Prelude.{◌≡◌, ◌++◌, ℕ, Bool, List, Some, drop, length, map, option_map, position, slice_get, take};
 ghost use Rattle.std.specs.Option.{option_and_then};
@@ -35,7 +35,7 @@ pub fn the_start_comes_from_a_module()
 {}
 
 /// Origins are selected as modules are: if the first modules and the selected members are taken, their
-/// origins are those of the flat list, and each keeps the number of its file.
+/// origins are those of the flat list, and each keeps the place of its file.
 pub fn selected_origins_are_those_of_the_flat_list()
     ensures origins { (ms : List Parts) (roots : ℕ) (chosen : List ℕ) →
         origins_of (with_chosen roots chosen (numbered ms)) ≡ with_chosen roots chosen (origins_of (numbered ms)) }

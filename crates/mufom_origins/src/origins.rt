@@ -14,7 +14,7 @@ use std::marker::Model;
 /// The origin of a module's entries.
 #[derive(Debug, Drop)]
 pub struct Origin {
-    /// The number of the file that the module was read from, among the files of the command.
+    /// The file that the module was read from, by the place of the module among all modules that were read.
     pub file: u32,
     /// The name of the module.
     pub name: Bytes,
@@ -131,7 +131,7 @@ fn place_of(ends: &[usize], number: u32) -> Option<Place>
 
 // ---- modules
 
-// The origin of a module, read from the file with this number.
+// The origin of the module that was read at this place.
 fn origin_of(alloc: Global, file: u32, entry: &Module) -> Result<Origin, NoMemory>
     ensures { IfOk result (λ origin. origin ≡ origin_of (file, entry.now)) }
 {
@@ -272,8 +272,8 @@ impl Origins {
         })
     }
 
-    /// Returns the origins of the modules of a command's files, in order: the number of a module's file is
-    /// its position. Time and memory are proportional to the number of modules and the length of their names.
+    /// Returns the origins of the modules of a command's files, in order: the place of a module is its
+    /// position. Time and memory are proportional to the number of modules and the length of their names.
     pub fn of(alloc: Global, modules: &[Module]) -> Result<Origins, NoMemory>
         requires { length modules.now < 2 ^ 32 }
         ensures { IfOk result (λ origins. origins ≡ origins_of (numbered modules.now)) }

@@ -1,8 +1,8 @@
 //! The words for a module: its position, its name, and the file from which it was read.
 
-ghost use Rattle.std.specs.Prelude.{◌++◌, codes, flat_map, slice_get};
-ghost use Rattle.mufom_text.specs.Words.{quoted, quoted_byte};
-ghost use Rattle.mufom_origins.specs.Words.{all_files, file_name, file_text, module_text, word_at};
+ghost use Rattle.std.specs.Prelude.{◌≡◌, slice_get};
+ghost use Rattle.mufom_text.specs.Words.{quoted};
+ghost use Rattle.mufom_origins.specs.Words.{all_files, file_name, file_text, member_word, module_text, word_at};
 
 use crate::files::{ModuleFiles, ReadFile};
 use mufom_members::name_at;
@@ -19,25 +19,26 @@ pub fn file_name(names: &[Text], number: u32) -> &[u8]
     }
 }
 
-// Puts the name of a member in parentheses.
-fn member_text<K: Output>(out: &mut K, member: &[u8])
-    ensures { K.takes out.old out.new (codes "(" ++ (flat_map quoted_byte member.now ++ codes ")")) }
+// Puts the name of an archive in quotes, with that of a member in parentheses.
+fn member_word<K: Output>(out: &mut K, name: &[u8], member: &[u8])
+    ensures { K.takes out.old out.new (quoted (member_word name.now member.now)) }
 {
+    out.put(b"\"");
+    quoted_bytes(out, name);
     out.put(b"(");
     quoted_bytes(out, member);
-    out.put(b")");
+    out.put(b")\"");
 }
 
 // Puts the name of a file in quotes, with that of the member at a position if the file is an archive.
 fn file_word<K: Output>(out: &mut K, file: &ReadFile, position: usize)
     ensures { K.takes out.old out.new (quoted (word_at file.now.name file.now.listing position)) }
 {
-    out.put(b"\"");
-    quoted_bytes(out, file.name.as_str().as_bytes());
-    if file.listing.is_some() {
-        member_text(out, name_at(&file.listing, position).unwrap_or(&[]));
+    let name = file.name.as_str().as_bytes();
+    match file.listing {
+        None => quoted(out, name),
+        Some(_) => member_word(out, name, name_at(&file.listing, position).unwrap_or(&[])),
     }
-    out.put(b"\"");
 }
 
 // Puts the file of the module at a place, by its number and its name.

@@ -98,13 +98,10 @@ fn module(
 }
 
 // The files of modules `a` and `b`.
-fn files(rt: &impl Abort, alloc: Global) -> Vec<ModuleFile> {
-    let mut files = Vec::new(alloc);
-    for name in ["a.695", "b.695"] {
-        let name = bytes(rt, alloc, name.as_bytes());
-        let number = files.len() as u32;
-        files.push(ModuleFile { number, name }).expect(rt, "memory");
-    }
+fn files(rt: &impl Abort, alloc: Global) -> ModuleFiles {
+    let mut files = ModuleFiles::new(alloc);
+    files.add(alloc, 0, "a.695", None, 1).expect(rt, "memory");
+    files.add(alloc, 1, "b.695", None, 1).expect(rt, "memory");
     files
 }
 

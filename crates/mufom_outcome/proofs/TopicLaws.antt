@@ -56,6 +56,7 @@ reason-topic why.BlockNesting = refl
 reason-topic why.Depth = refl
 reason-topic why.AfterEnd = refl
 reason-topic why.FileLimit = refl
+reason-topic why.BadArchive = refl
 
 defect-topic : (d : Defect) → IsSome (topic_in topics (defect_text d))
 unfolding topics error_lines errors read_errors
@@ -95,6 +96,7 @@ pub each-error : EachErrorHasATopic
 unfolding topics error_lines errors read_errors
 each-error (refusal.Read n r) has = reason-topic r.reason
 each-error (refusal.InputLimit n) has = refl
+each-error (refusal.TooManyModules n) has = refl
 each-error (refusal.TooManyFiles n) has = refl
 each-error (refusal.TooDeep n) has = refl
 each-error (refusal.Plan plan.Syntax) has = refl

@@ -84,6 +84,7 @@ reason_text why.BlockNesting = codes "BlockNesting"
 reason_text why.Depth = codes "Depth"
 reason_text why.AfterEnd = codes "AfterEnd"
 reason_text why.FileLimit = codes "FileLimit"
+reason_text why.BadArchive = codes "BadArchive"
 
 abbrev pub usage_text : UsageFault → Text
 usage_text usage.NoCommand = codes "no command"
@@ -223,6 +224,7 @@ bin_text (bins.Region name) = codes "Region " ++ quoted name
 abbrev pub refusal_text : Refusal → Text
 refusal_text (refusal.Read n r) = codes "file " ++ decimal n ++ codes " at " ++ decimal r.offset ++ codes ": " ++ reason_text r.reason
 refusal_text (refusal.InputLimit n) = codes "file " ++ decimal n ++ codes ": InputLimit"
+refusal_text (refusal.TooManyModules n) = codes "TooManyModules " ++ decimal n
 refusal_text (refusal.TooManyFiles n) = codes "TooManyFiles " ++ decimal n
 refusal_text (refusal.TooDeep n) = codes "TooDeep " ++ decimal n
 refusal_text (refusal.Plan p) = codes "plan: " ++ plan_text p

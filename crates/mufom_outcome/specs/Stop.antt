@@ -9,8 +9,9 @@ use Rattle.mufom_meaning.specs.Facts.{LinkFact, LocateFact}
 use Rattle.mufom_outcome.specs.declared.outcome.BinRefusal.{BinRefusal}
 
 -- An error in the arguments; an error in the plan's file; an error in the file with this number; the file with this number, in which the total length
--- of the files exceeds the limit; a number of modules that is too great; a link error; a name that should be kept and that no public has; a name that a symbol of the plan shares with a public;
--- another error of locating, with the length of an address in units; an error in what `bin` writes; an error in a TI-TXT text; or an error in a listing.
+-- of the files exceeds the limit; a number of modules that is too great; a link error; a name that should be kept and that no public has; a name that a
+-- symbol of the plan shares with a public; another error of locating, with the length of an address in units; an error in what `bin` writes; an error in
+-- a TI-TXT text; or an error in a listing.
 pub data Stop : Type 0 where
   words_refused : WordsStop → Stop
   plan_refused : PlanRefusal → Stop

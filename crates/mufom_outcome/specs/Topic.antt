@@ -79,6 +79,7 @@ bin_name (bins.Region name) = codes "Region"
 abbrev pub refusal_name : Refusal → Text
 refusal_name (refusal.Read n r) = reason_text r.reason
 refusal_name (refusal.InputLimit n) = codes "InputLimit"
+refusal_name (refusal.TooManyModules n) = codes "TooManyModules"
 refusal_name (refusal.TooManyFiles n) = codes "TooManyFiles"
 refusal_name (refusal.TooDeep n) = codes "TooDeep"
 refusal_name (refusal.Plan p) = plan_name p

@@ -60,6 +60,7 @@ pub(crate) fn reason_name(reason: Reason) -> &'static str
         Reason::Depth => "Depth",
         Reason::AfterEnd => "AfterEnd",
         Reason::FileLimit => "FileLimit",
+        Reason::BadArchive => "BadArchive",
     }
 }
 
@@ -97,6 +98,13 @@ fn limit_line(alloc: Global, file: u32) -> Result<String, NoMemory>
     ensures { IfOk result (λ text. string_bytes text ≡ complaint (Outcome.Refused (Refusal.InputLimit file))) }
 {
     Ok(format!(in alloc; "refused: file {file}: InputLimit\n")?)
+}
+
+// The line of files with too many modules.
+fn modules_line(alloc: Global, count: u64) -> Result<String, NoMemory>
+    ensures { IfOk result (λ text. string_bytes text ≡ complaint (Outcome.Refused (Refusal.TooManyModules count))) }
+{
+    Ok(format!(in alloc; "refused: TooManyModules {count}\n")?)
 }
 
 // The error line of arguments with too many files.
@@ -376,6 +384,7 @@ pub fn refusal_line(alloc: Global, refusal: &Refusal) -> Result<Vec<u8>, NoMemor
     match refusal {
         Refusal::Read(file, refusal) => Ok(read_line(alloc, *file, *refusal)?.into_bytes()),
         Refusal::InputLimit(file) => Ok(limit_line(alloc, *file)?.into_bytes()),
+        Refusal::TooManyModules(count) => Ok(modules_line(alloc, *count)?.into_bytes()),
         Refusal::TooManyFiles(count) => Ok(count_line(alloc, *count)?.into_bytes()),
         Refusal::TooDeep(depth) => Ok(depth_line(alloc, *depth)?.into_bytes()),
         Refusal::Plan(refusal) => plan_line(alloc, *refusal),

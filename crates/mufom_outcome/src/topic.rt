@@ -117,6 +117,7 @@ fn refusal_name(refusal: &Refusal) -> &'static str
     match refusal {
         Refusal::Read(_, refusal) => reason_name(refusal.reason),
         Refusal::InputLimit(_) => "InputLimit",
+        Refusal::TooManyModules(_) => "TooManyModules",
         Refusal::TooManyFiles(_) => "TooManyFiles",
         Refusal::TooDeep(_) => "TooDeep",
         Refusal::Plan(refusal) => plan_name(*refusal),

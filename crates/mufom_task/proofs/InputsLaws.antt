@@ -1,5 +1,6 @@
 -- The plan and then the files: what was read, and why not all was.
-use Rattle.std.proofs.Common.{◌≡◌, ℕ, suc, ◌+◌, Bool, true, List, [], ◌∷◌, ◌++◌, length, take, not, Option, Some, None, IfSome, IsSome, OnSome}
+use Rattle.std.proofs.Common.{◌≡◌, ℕ, suc, ◌+◌, ◌<◌, ◌≤◌, Bool, true, List, [], ◌∷◌, ◌++◌, length, take, not, Option, Some, None, IfSome}
+use Rattle.std.proofs.Common.{IsSome, OnSome}
 use Rattle.std.proofs.Common.{option_to_list, refl, sym, ap, subst, ◌∙◌, inl, inr, arith}
 use Rattle.std.proofs.lemmas.List.{append-nil, length-append}
 use Rattle.mufom_host.specs.World.{Faults, Meaning, NamedFile, GrowsBy, OnlyOpens}
@@ -11,8 +12,9 @@ use Rattle.mufom_outcome.specs.declared.outcome.Input.TheVariants as input
 use Rattle.mufom_outcome.specs.declared.outcome.Outcome.{Outcome}
 use Rattle.mufom_outcome.specs.declared.outcome.Outcome.TheVariants as outcome
 use Rattle.mufom_outcome.specs.declared.outcome.Refusal.TheVariants as refusal
-use Rattle.mufom_outcome.specs.Stop.{Stop, plan_refused, file_refused, past_limit}
-use Rattle.mufom_task.specs.Inputs.{ComeTo, accepted}
+use Rattle.mufom_outcome.specs.Stop.{Stop, plan_refused, file_refused, past_limit, too_many_modules}
+use Rattle.mufom_numbers.specs.declared.limits.TheConstants.{MOST_MODULES}
+use Rattle.mufom_task.specs.Inputs.{ComeTo, accepted, root_count}
 use Rattle.mufom_task.specs.Reading.{modules_in, plan_in}
 use Rattle.mufom_task.specs.FilesRead.{FilesStop, IsFileCount, OpensFiles}
 use Rattle.mufom_task.specs.InputsRead.{InputsStop, KeepsPlan, NamesPlan, PlanStops, inputs_in}
@@ -59,13 +61,13 @@ module _ (c : Inputs) (old mid : Meaning) (before between : Faults) (only : Only
 
   -- ---- all was read
 
-  pub inputs-read : (plan : Plan) (ms : List Parts) → planned plan → IfSome mid.files (λ fs. ComeTo c.options fs c.files (accepted ms))
-      → IfSome old.files (λ fs. inputs_in fs c (gives (plan, ms)))
-  inputs-read plan ms is come =
-      known-map (λ fs. plan_in fs c.plan (gives plan) × ComeTo c.options fs c.files (accepted ms)) (λ fs. inputs_in fs c (gives (plan, ms)))
-      old.files (λ fs both. (plan, both.0, (ms, both.1, refl)))
-      (known-both (λ fs. plan_in fs c.plan (gives plan)) (λ fs. ComeTo c.options fs c.files (accepted ms)) old.files is
-      (subst (λ (o : Option (List NamedFile)). IfSome o (λ fs. ComeTo c.options fs c.files (accepted ms))) files-same come))
+  pub inputs-read : (plan : Plan) (ms : List Parts) → planned plan → IfSome mid.files (λ fs. ComeTo c.options (root_count c) fs c.files (accepted ms))
+      → length ms ≤ MOST_MODULES → IfSome old.files (λ fs. inputs_in fs c (gives (plan, ms)))
+  inputs-read plan ms is come few =
+      known-map (λ fs. plan_in fs c.plan (gives plan) × ComeTo c.options (root_count c) fs c.files (accepted ms)) (λ fs. inputs_in fs c (gives (plan, ms)))
+      old.files (λ fs both. (plan, both.0, (ms, (both.1, few), refl)))
+      (known-both (λ fs. plan_in fs c.plan (gives plan)) (λ fs. ComeTo c.options (root_count c) fs c.files (accepted ms)) old.files is
+      (subst (λ (o : Option (List NamedFile)). IfSome o (λ fs. ComeTo c.options (root_count c) fs c.files (accepted ms))) files-same come))
 
   pub all-opened : (new : Meaning) → GrowsBy old.opened mid.opened (option_to_list c.plan) → GrowsBy mid.opened new.opened c.files
       → GrowsBy old.opened new.opened (input_names c)
@@ -89,6 +91,7 @@ module _ (c : Inputs) (old mid : Meaning) (before between : Faults) (only : Only
   plan-stops (outcome.ReadFault (input.File n)) why = absurd why
   plan-stops (outcome.Refused (refusal.Read n r)) why = absurd why
   plan-stops (outcome.Refused (refusal.InputLimit n)) why = absurd why
+  plan-stops (outcome.Refused (refusal.TooManyModules n)) why = absurd why
   plan-stops (outcome.Refused (refusal.TooManyFiles n)) why = absurd why
   plan-stops (outcome.Refused (refusal.TooDeep n)) why = absurd why
   plan-stops (outcome.Refused (refusal.Link l)) why = absurd why
@@ -113,6 +116,7 @@ module _ (c : Inputs) (old mid : Meaning) (before between : Faults) (only : Only
   plan-count (outcome.Refused (refusal.Build r)) why = absurd why
   plan-count (outcome.Refused (refusal.Read n r)) why = absurd why
   plan-count (outcome.Refused (refusal.InputLimit n)) why = absurd why
+  plan-count (outcome.Refused (refusal.TooManyModules n)) why = absurd why
   plan-count (outcome.Refused (refusal.TooManyFiles n)) why = absurd why
   plan-count (outcome.Refused (refusal.TooDeep n)) why = absurd why
   plan-count (outcome.Refused (refusal.Link l)) why = absurd why
@@ -150,6 +154,7 @@ module _ (c : Inputs) (old mid : Meaning) (before between : Faults) (only : Only
   plan-named (outcome.Refused (refusal.Build r)) why = tt
   plan-named (outcome.Refused (refusal.Read n r)) why = tt
   plan-named (outcome.Refused (refusal.InputLimit n)) why = tt
+  plan-named (outcome.Refused (refusal.TooManyModules n)) why = tt
   plan-named (outcome.Refused (refusal.TooManyFiles n)) why = tt
   plan-named (outcome.Refused (refusal.TooDeep n)) why = tt
   plan-named (outcome.Refused (refusal.Link l)) why = tt
@@ -159,7 +164,7 @@ module _ (c : Inputs) (old mid : Meaning) (before between : Faults) (only : Only
   plan-named outcome.WriteFault why = tt
   plan-named outcome.NoMemory why = tt
 
-  pub files-named : (new : Meaning) (now : Faults) (stop : Outcome) → FilesStop c.options c.files (call_between mid new between now) stop
+  pub files-named : (new : Meaning) (now : Faults) (stop : Outcome) → FilesStop c.options (root_count c) c.files (call_between mid new between now) stop
       → NamesPlan c.plan stop
   files-named new now (outcome.Refused (refusal.Plan r)) why = absurd why
   files-named new now (outcome.ReadFault input.Plan) why = absurd why
@@ -171,6 +176,7 @@ module _ (c : Inputs) (old mid : Meaning) (before between : Faults) (only : Only
   files-named new now (outcome.Refused (refusal.Build r)) why = tt
   files-named new now (outcome.Refused (refusal.Read n r)) why = tt
   files-named new now (outcome.Refused (refusal.InputLimit n)) why = tt
+  files-named new now (outcome.Refused (refusal.TooManyModules n)) why = tt
   files-named new now (outcome.Refused (refusal.TooManyFiles n)) why = tt
   files-named new now (outcome.Refused (refusal.TooDeep n)) why = tt
   files-named new now (outcome.Refused (refusal.Link l)) why = tt
@@ -181,7 +187,7 @@ module _ (c : Inputs) (old mid : Meaning) (before between : Faults) (only : Only
   files-named new now outcome.NoMemory why = tt
 
   pub files-keep : (new : Meaning) (now : Faults) (files : Option (List NamedFile)) (text : List ℕ) (stop : Outcome)
-      → FilesStop c.options c.files (call_between mid new between now) stop → KeepsPlan c.plan files text stop
+      → FilesStop c.options (root_count c) c.files (call_between mid new between now) stop → KeepsPlan c.plan files text stop
   files-keep new now files text (outcome.Refused (refusal.Plan r)) why = absurd why
   files-keep new now files text (outcome.ReadFault at) why = tt
   files-keep new now files text (outcome.Refused (refusal.Bin count)) why = tt
@@ -191,6 +197,7 @@ module _ (c : Inputs) (old mid : Meaning) (before between : Faults) (only : Only
   files-keep new now files text (outcome.Refused (refusal.Build r)) why = tt
   files-keep new now files text (outcome.Refused (refusal.Read n r)) why = tt
   files-keep new now files text (outcome.Refused (refusal.InputLimit n)) why = tt
+  files-keep new now files text (outcome.Refused (refusal.TooManyModules n)) why = tt
   files-keep new now files text (outcome.Refused (refusal.TooManyFiles n)) why = tt
   files-keep new now files text (outcome.Refused (refusal.TooDeep n)) why = tt
   files-keep new now files text (outcome.Refused (refusal.Link l)) why = tt
@@ -213,7 +220,14 @@ module _ (c : Inputs) (old mid : Meaning) (before between : Faults) (only : Only
         (known-both (λ fs. plan_in fs c.plan (gives plan)) (λ fs. modules_in fs c (stops s)) old.files is_planned
         (subst (λ (o : Option (List NamedFile)). IfSome o (λ fs. modules_in fs c (stops s))) files-same why))
 
-    pub files-stops : (stop : Outcome) → FilesStop c.options c.files (call_between mid new between now) stop
+    too-many : (n : ℕ) → MOST_MODULES < n → (files : Option (List NamedFile))
+        → IfSome files (λ fs. (ms : List Parts) × ComeTo c.options (root_count c) fs c.files (accepted ms) × (n ≡ length ms))
+        → IfSome files (λ fs. modules_in fs c (stops (too_many_modules n)))
+    too-many n many files them =
+        known-map (λ fs. (ms : List Parts) × ComeTo c.options (root_count c) fs c.files (accepted ms) × (n ≡ length ms))
+        (λ fs. modules_in fs c (stops (too_many_modules n))) files (λ fs is. (is.0, is.1, is.2, many)) them
+
+    pub files-stops : (stop : Outcome) → FilesStop c.options (root_count c) c.files (call_between mid new between now) stop
         → OpensFiles c.files (call_between mid new between now) stop
         → InputsStop c (call_between old new before now) stop
     files-stops (outcome.Refused (refusal.Read n r)) why opens =
@@ -224,17 +238,19 @@ module _ (c : Inputs) (old mid : Meaning) (before between : Faults) (only : Only
       (let same = ap (λ (f : Faults). f.reads) only.1 in let later = only.2 in omega (arith, rose, later)),
       (
         (let exact = opens.exact in let within = opens.within in omega (arith, exact, within)),
-        known-map (λ fs. plan_in fs c.plan (gives plan) × ((ms : List Parts) × ComeTo c.options fs (take n c.files) (accepted ms)))
-            (λ fs. ((p : Plan) × plan_in fs c.plan (gives p)) × ((ms : List Parts) × ComeTo c.options fs (take n c.files) (accepted ms)))
+        known-map (λ fs. plan_in fs c.plan (gives plan) × ((ms : List Parts) × ComeTo c.options (root_count c) fs (take n c.files) (accepted ms)))
+            (λ fs. ((p : Plan) × plan_in fs c.plan (gives p)) × ((ms : List Parts) × ComeTo c.options (root_count c) fs (take n c.files) (accepted ms)))
             old.files (λ fs both. ((plan, both.0), both.1))
             (known-both (λ fs. plan_in fs c.plan (gives plan)) (λ fs. (ms : List Parts)
-            × ComeTo c.options fs (take n c.files) (accepted ms)) old.files is_planned
-            (subst (λ (o : Option (List NamedFile)). IfSome o (λ fs. (ms : List Parts) × ComeTo c.options fs (take n c.files) (accepted ms)))
+            × ComeTo c.options (root_count c) fs (take n c.files) (accepted ms)) old.files is_planned
+            (subst (λ (o : Option (List NamedFile)). IfSome o (λ fs. (ms : List Parts) × ComeTo c.options (root_count c) fs (take n c.files) (accepted ms)))
             files-same them)),
       ),
     )
     files-stops (outcome.ReadFault input.Plan) why opens = absurd why
     files-stops (outcome.Refused (refusal.Plan r)) why opens = absurd why
+    files-stops (outcome.Refused (refusal.TooManyModules n)) why opens =
+        record { stop = too_many_modules n; is = refl; of_inputs = tt; cause = at-files (too_many_modules n) (too-many n why.0 mid.files why.1) }
     files-stops (outcome.Refused (refusal.TooManyFiles n)) why opens = absurd why
     files-stops (outcome.Refused (refusal.TooDeep n)) why opens = absurd why
     files-stops (outcome.Refused (refusal.Link l)) why opens = absurd why
@@ -249,7 +265,7 @@ module _ (c : Inputs) (old mid : Meaning) (before between : Faults) (only : Only
     files-stops (outcome.Refused (refusal.Text r)) why opens = absurd why
     files-stops (outcome.Refused (refusal.Build r)) why opens = absurd why
 
-  files-count : (stop : Outcome) (count : ℕ) → IsFileCount stop count → IsOpenedCount c stop (length (option_to_list c.plan) + count)
+  files-count : (stop : Outcome) (count : ℕ) → IsFileCount c.files stop count → IsOpenedCount c stop (length (option_to_list c.plan) + count)
   files-count (outcome.Refused (refusal.Read n r)) count is = omega (arith, is)
   files-count (outcome.Refused (refusal.InputLimit n)) count is = omega (arith, is)
   files-count (outcome.ReadFault (input.File n)) count is = omega (arith, is)
@@ -260,6 +276,8 @@ module _ (c : Inputs) (old mid : Meaning) (before between : Faults) (only : Only
   files-count (outcome.Refused (refusal.Text r)) count is = absurd is
   files-count (outcome.Refused (refusal.Build r)) count is = absurd is
   files-count (outcome.Refused (refusal.Plan r)) count is = absurd is
+  files-count (outcome.Refused (refusal.TooManyModules n)) count is =
+      let sum = length-append (option_to_list c.plan) c.files in omega (arith, sum, is)
   files-count (outcome.Refused (refusal.TooManyFiles n)) count is = absurd is
   files-count (outcome.Refused (refusal.TooDeep n)) count is = absurd is
   files-count (outcome.Refused (refusal.Link l)) count is = absurd is

@@ -1,4 +1,8 @@
+pub mod FileLaws
+pub mod NameLaws
 pub mod InputLaws
+pub mod ModuleFileLaws
+pub mod RootLaws
 pub mod Verdicts
 pub mod PlanLaws
 pub mod InputsLaws

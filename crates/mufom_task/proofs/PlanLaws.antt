@@ -110,6 +110,7 @@ module _ (name bytes : List ℕ) where
   no-plan old new before now has (outcome.Refused (refusal.Text r)) is = absurd is
   no-plan old new before now has (outcome.Refused (refusal.Build r)) is = absurd is
   no-plan old new before now has (outcome.Refused (refusal.InputLimit n)) is = absurd is
+  no-plan old new before now has (outcome.Refused (refusal.TooManyModules n)) is = absurd is
   no-plan old new before now has (outcome.Refused (refusal.TooManyFiles n)) is = absurd is
   no-plan old new before now has (outcome.Refused (refusal.TooDeep n)) is = absurd is
   no-plan old new before now has (outcome.Refused (refusal.Link l)) is = absurd is
@@ -144,6 +145,7 @@ module _ (name bytes : List ℕ) where
   keeps-plan files has (outcome.Refused (refusal.Text r)) is = tt
   keeps-plan files has (outcome.Refused (refusal.Build r)) is = tt
   keeps-plan files has (outcome.Refused (refusal.InputLimit n)) is = tt
+  keeps-plan files has (outcome.Refused (refusal.TooManyModules n)) is = tt
   keeps-plan files has (outcome.Refused (refusal.TooManyFiles n)) is = tt
   keeps-plan files has (outcome.Refused (refusal.TooDeep n)) is = tt
   keeps-plan files has (outcome.Refused (refusal.Link l)) is = tt

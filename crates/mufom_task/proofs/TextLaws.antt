@@ -18,7 +18,7 @@ use Rattle.mufom_outcome.specs.Stop.{past_limit}
 use Rattle.mufom_task.specs.declared.task.Inputs.{Inputs}
 use Rattle.mufom_task.specs.Calls.{Call, IsOpenedCount, OpensInputs}
 use Rattle.mufom_task.specs.FilesRead.{FileHas}
-use Rattle.mufom_task.specs.Inputs.{ComeTo, accepted}
+use Rattle.mufom_task.specs.Inputs.{ComeTo, accepted, root_count}
 use Rattle.mufom_task.specs.InputsRead.{IsEnoughOf, NamesPlan, TextStop, TextStops}
 use Rattle.mufom_task.specs.Reading.{plan_in, text_in, unless_past_limit}
 use Rattle.mufom_task.specs.Tasks.{input_names}
@@ -74,10 +74,10 @@ no-plan-read : (files : List NamedFile) (plan : Option (List ℕ)) → plan ≡ 
 no-plan-read files None is = (no_regions, refl)
 no-plan-read files (Some name) is = absurd cc
 
-no-files-read : (options : ReadOptions) (files : List NamedFile) (names : List (List ℕ)) (n : ℕ) → n ≡ 0 → (ms : List Parts)
-    × ComeTo options files (take n names) (accepted ms)
-no-files-read options files names n is = subst (λ (k : ℕ). (ms : List Parts)
-    × ComeTo options files (take k names) (accepted ms)) (sym is) ([], ([], none_accepted options files))
+no-files-read : (options : ReadOptions) (roots : ℕ) (files : List NamedFile) (names : List (List ℕ)) (n : ℕ) → n ≡ 0 → (ms : List Parts)
+    × ComeTo options roots files (take n names) (accepted ms)
+no-files-read options roots files names n is = subst (λ (k : ℕ). (ms : List Parts)
+    × ComeTo options roots files (take k names) (accepted ms)) (sym is) ([], ([], none_accepted options roots files))
 
 module _ (c : Inputs) (name : List ℕ) (no_plan : c.plan ≡ None) (one : c.files
     ≡ name ∷ []) (old mid : Meaning) (before between : Faults) where
@@ -104,12 +104,13 @@ module _ (c : Inputs) (name : List ℕ) (no_plan : c.plan ≡ None) (one : c.fil
     (
       (let count = ap (λ (l : List (List ℕ)). length l) one in omega (arith, zero, count)),
       to-all (λ (fs : List NamedFile). ((p : Plan) × plan_in fs c.plan (gives p))
-          × ((ms : List Parts) × ComeTo c.options fs (take n c.files) (accepted ms)))
-          old.files (λ fs. (no-plan-read fs c.plan no_plan, no-files-read c.options fs c.files n zero)),
+          × ((ms : List Parts) × ComeTo c.options (root_count c) fs (take n c.files) (accepted ms)))
+          old.files (λ fs. (no-plan-read fs c.plan no_plan, no-files-read c.options (root_count c) fs c.files n zero)),
     ),
   )
   reading-stops (outcome.ReadFault input.Plan) why = absurd why
   reading-stops (outcome.Refused (refusal.Read n r)) why = absurd why
+  reading-stops (outcome.Refused (refusal.TooManyModules n)) why = absurd why
   reading-stops (outcome.Refused (refusal.TooManyFiles n)) why = absurd why
   reading-stops (outcome.Refused (refusal.TooDeep n)) why = absurd why
   reading-stops (outcome.Refused (refusal.Plan r)) why = absurd why
@@ -130,6 +131,7 @@ module _ (c : Inputs) (name : List ℕ) (no_plan : c.plan ≡ None) (one : c.fil
   text-count (outcome.ReadFault (input.File n)) (zero, rose) = omega (arith, zero, no-plan-count)
   text-count (outcome.ReadFault input.Plan) why = absurd why
   text-count (outcome.Refused (refusal.Read n r)) why = absurd why
+  text-count (outcome.Refused (refusal.TooManyModules n)) why = absurd why
   text-count (outcome.Refused (refusal.TooManyFiles n)) why = absurd why
   text-count (outcome.Refused (refusal.TooDeep n)) why = absurd why
   text-count (outcome.Refused (refusal.Plan r)) why = absurd why
@@ -166,6 +168,7 @@ pub text-names : (plan : Option (List ℕ)) (name : List ℕ) (call : Call) (sto
 text-names plan name told (outcome.Refused (refusal.Plan r)) why = absurd why
 text-names plan name told (outcome.Refused (refusal.Read n r)) why = tt
 text-names plan name told (outcome.Refused (refusal.InputLimit n)) why = tt
+text-names plan name told (outcome.Refused (refusal.TooManyModules n)) why = tt
 text-names plan name told (outcome.Refused (refusal.TooManyFiles n)) why = tt
 text-names plan name told (outcome.Refused (refusal.TooDeep n)) why = tt
 text-names plan name told (outcome.Refused (refusal.Link l)) why = tt

@@ -15,7 +15,8 @@ use Rattle.mufom_outcome.specs.declared.outcome.Outcome.TheVariants as outcome
 use Rattle.mufom_outcome.specs.declared.outcome.Refusal.TheVariants as refusal
 use Rattle.mufom_outcome.specs.LocateRefusals.{locate_refusal}
 use Rattle.mufom_outcome.specs.Outcomes.{stop_answer}
-use Rattle.mufom_outcome.specs.Stop.{Stop, words_refused, plan_refused, file_refused, past_limit, too_many_modules, link_fact, keep_unknown, name_shared, locate_fact, bytes_refused}
+use Rattle.mufom_outcome.specs.Stop.{Stop, words_refused, plan_refused, file_refused, past_limit, too_many_modules, link_fact}
+use Rattle.mufom_outcome.specs.Stop.{keep_unknown, name_shared, locate_fact, bytes_refused}
 use Rattle.mufom_outcome.specs.Stop.{text_refused, listing_refused}
 use Rattle.mufom_task.specs.declared.task.Inputs.{Inputs}
 use Rattle.mufom_task.specs.Inputs.{ComeTo, accepted, root_count}
@@ -49,7 +50,8 @@ IsOfInputs (locate_fact maus f) = f ≢ placement place_refusal.NoMemory
 IsOfInputs _ = Unit {0}
 
 -- The outcome is a refusal that the work can end with. `reads` says whether the work reads files.
-pub record IsStopped {A : Type 0} (reads : Bool) (work : List NamedFile → Work Stop A) (files : Option (List NamedFile)) (result : Outcome) : Type 0 where
+pub record IsStopped {A : Type 0} (reads : Bool) (work : List NamedFile → Work Stop A) (files : Option (List NamedFile))
+    (result : Outcome) : Type 0 where
   pub stop : Stop
   pub is : result ≡ stop_outcome stop
   pub of_inputs : IsOfInputs stop

@@ -9,7 +9,8 @@ use Rattle.mufom_plan.specs.PlanText.{plan_of_text}
 use Rattle.mufom_meaning.specs.Absolute.{no_regions}
 use Rattle.mufom_locating.specs.Plans.{IsReadPlan}
 use Rattle.mufom_groups.specs.Work.{gives, stops, Work, ◌>>=◌, sure, one_with, stop_at, nowhere}
-use Rattle.mufom_outcome.specs.Stop.{Stop, words_refused, plan_refused, file_refused, past_limit, too_many_modules, link_fact, keep_unknown, name_shared, locate_fact, bytes_refused}
+use Rattle.mufom_outcome.specs.Stop.{Stop, words_refused, plan_refused, file_refused, past_limit, too_many_modules, link_fact}
+use Rattle.mufom_outcome.specs.Stop.{keep_unknown, name_shared, locate_fact, bytes_refused}
 use Rattle.mufom_outcome.specs.Stop.{text_refused, listing_refused}
 use Rattle.mufom_task.specs.declared.task.Inputs.{Inputs}
 use Rattle.mufom_task.specs.Inputs.{ComeTo, accepted, refused, root_count, past_limit as past}

@@ -1,110 +1,149 @@
 //! Reads the inputs of a task: its plan, and then its module files in their order.
 
-ghost use Rattle.std.specs.Prelude.{◌≡◌, ◌*◌, ◌<◌, ◌≤◌, ◌^◌, ◌∷◌, [], length, IfErr, IfOk, IfSome, OnSome};
-ghost use Rattle.mufom_module.specs.Defects.{IsValid};
-ghost use Rattle.mufom_module.specs.Written.{weight};
+ghost use Rattle.std.specs.Prelude.{◌≡◌, ◌<◌, ◌≤◌, ◌^◌, ◌++◌, length, IfErr, IfOk, IfSome, OnOk};
 ghost use Rattle.mufom_meaning.specs.Staging.{AreValid};
 ghost use Rattle.mufom_meaning.specs.StagingLaws.{total_weight};
 ghost use Rattle.mufom_host.specs.World.{GrowsBy, OnlyOpens};
 ghost use Rattle.mufom_locating.specs.Plans.{IsReadPlan};
 ghost use Rattle.mufom_groups.specs.Groups.{most_weight};
 ghost use Rattle.mufom_groups.specs.Work.{gives};
-ghost use Rattle.mufom_task.specs.FilesRead.{FileHas, FileStops, FilesStop, HasModule, OpensFiles, outcome_of_source_stop};
-ghost use Rattle.mufom_task.specs.Inputs.{ComeTo, accepted, most_input_bytes};
+ghost use Rattle.mufom_words.specs.Sound.{HasTree};
+ghost use Rattle.mufom_origins.specs.Words.{all_files, own_files};
+ghost use Rattle.mufom_task.specs.FilesRead.{FilesStop, HaveCounts, OpensFiles};
+ghost use Rattle.mufom_task.specs.Inputs.{ComeTo, HaveRoots, accepted, files_from, module_files, root_count};
 ghost use Rattle.mufom_task.specs.InputsRead.{inputs_in, InputsStop, KeepsPlan, NamesPlan};
 ghost use Rattle.mufom_task.specs.Calls.{call_of, OpensInputs};
 ghost use Rattle.mufom_task.specs.Tasks.{input_names};
 
+use crate::module_file::read_file;
 use crate::plan_file::read_plan_of;
 use crate::task::Inputs;
 use crate::unread::Unread;
-use mufom_host::{Failed, Host};
+use mufom_groups::file_count;
+use mufom_host::Host;
+use mufom_members::Members;
 use mufom_module::{Module, a_module_is_valid};
-use mufom_numbers::limits::MOST_FILE_BYTES;
+use mufom_numbers::limits::{MOST_FILE_BYTES, MOST_MODULES};
 use mufom_numbers::{List, NoMemory, Text};
-use mufom_outcome::{Input, Outcome, Refusal};
+use mufom_origins::ModuleFiles;
+use mufom_outcome::{Outcome, Refusal};
 use mufom_plan::Plan;
-use mufom_read::{ReadOptions, SourceStop, read_module};
+use mufom_read::ReadOptions;
 use std::alloc::Global;
 
 // The greatest total length of the module files of a run, in bytes.
 const MOST_INPUT_BYTES: u64 = MOST_FILE_BYTES as u64;
 
-// The outcome if the file with this number could not be read.
-fn outcome_of_source_stop(file: u32, stop: SourceStop) -> Outcome
-    ensures { result ≡ outcome_of_source_stop file stop }
+// Moves the modules of a file to the end of a list.
+fn add_modules(all: &mut List<Module>, own: List<Module>) -> Result<(), NoMemory>
+    ensures added { OnOk result (all.new ≡ all.old ++ own) }
+    ensures valid { OnOk result (AreValid own) }
 {
-    match stop {
-        SourceStop::Refused(refusal) => Outcome::Refused(Refusal::Read(file, refusal)),
-        SourceStop::Limit => Outcome::Refused(Refusal::InputLimit(file)),
-        SourceStop::Fault => Outcome::ReadFault(Input::File(file)),
-        SourceStop::NoMemory => Outcome::NoMemory,
+    for entry in own.into_vec() {
+        a_module_is_valid(&entry);
+        all.push(entry)?;
     }
+    Ok(())
 }
 
-// Opens the file with this name and number, and reads its module, of at most the given number of bytes.
-fn read_file<H: Host>(
+// Moves the modules of a file to the end of a list, and adds their file.
+fn add_file(
     alloc: Global,
+    modules: &mut List<Module>,
+    files: &mut ModuleFiles,
+    number: u32,
     name: &str,
-    file: u32,
-    limit: u64,
-    options: ReadOptions,
-    host: &mut H,
-) -> Result<(Module, u64), Outcome>
-    requires { limit ≤ most_input_bytes }
-    ensures read { IfOk result (λ read. FileHas name.now (H.meaning host.old).files (HasModule options limit read.0 read.1)) }
-    ensures valid { IfOk result (λ read. IsValid read.0) }
-    ensures weighs { IfOk result (λ read. (weight read.0 ≤ 10 * read.1) × (read.1 ≤ limit)) }
-    ensures stops { IfErr result
-        (λ stop. FileStops options name.now file limit (H.meaning host.old).files (H.faults host.old) (H.faults host.new) stop) }
-    ensures opened { OnSome (H.meaning host.new).opened (GrowsBy (H.meaning host.old).opened (H.meaning host.new).opened (name.now ∷ [])) }
-    ensures opens { IfOk result (λ read. GrowsBy (H.meaning host.old).opened (H.meaning host.new).opened (name.now ∷ [])) }
-    ensures only { OnlyOpens (H.meaning host.old) (H.meaning host.new) (H.faults host.old) (H.faults host.new) }
+    read: Members,
+) -> Result<(), NoMemory>
+    ensures modules { OnOk result (modules.new ≡ modules.old ++ read.modules) }
+    ensures files { OnOk result (all_files files.new ≡ all_files files.old
+        ++ own_files (record { number = number; name = name.now; listing = read.listing; modules = length read.modules })) }
+    ensures valid { OnOk result (AreValid read.modules) }
 {
-    let Ok(()) = host.open(name) else {
-        return Err(Outcome::ReadFault(Input::File(file)));
-    };
-    match read_module(alloc, host, limit, options) {
-        Ok((entry, length)) => {
-            a_module_is_valid(&entry);
-            Ok((entry, length))
-        }
-        Err(stop) => Err(outcome_of_source_stop(file, stop)),
-    }
+    files.add(alloc, number, name, read.listing, read.modules.len())?;
+    add_modules(modules, read.modules)
 }
 
-// Reads the modules of the files with these names.
+// Reads the modules of the files with these names, of which the first are roots, as many as are given. Returns
+// them with the file of each.
 fn read_files<H: Host>(
     alloc: Global,
     names: &[Text],
+    roots: usize,
     options: ReadOptions,
     host: &mut H,
-) -> Result<List<Module>, Outcome>
-    requires { length names.now < 2 ^ 32 }
-    ensures read { IfOk result (λ modules. IfSome (H.meaning host.old).files (λ files. ComeTo options files names.now (accepted modules))) }
-    ensures count { IfOk result (λ modules. length modules ≡ length names.now) }
-    ensures all { IfOk result (λ modules. GrowsBy (H.meaning host.old).opened (H.meaning host.new).opened names.now) }
-    ensures valid { IfOk result AreValid }
-    ensures light { IfOk result (λ modules. total_weight modules ≤ most_weight) }
-    ensures stops { IfErr result (λ stop. FilesStop options names.now (call_of H.meaning H.faults host.old host.new) stop) }
+) -> Result<(List<Module>, ModuleFiles), Outcome>
+    requires few { length names.now < 2 ^ 32 }
+    ensures read { IfOk result (λ read. IfSome (H.meaning host.old).files
+        (λ files. ComeTo options roots files names.now (accepted read.0))) }
+    ensures files { IfOk result (λ read. IfSome (H.meaning host.old).files (λ files. all_files read.1 ≡ files_from files roots 0 names.now)) }
+    ensures count { IfOk result (λ read. HaveCounts roots (length names.now) (length read.0)) }
+    ensures all { IfOk result (λ read. GrowsBy (H.meaning host.old).opened (H.meaning host.new).opened names.now) }
+    ensures valid { IfOk result (λ read. AreValid read.0) }
+    ensures light { IfOk result (λ read. total_weight read.0 ≤ most_weight) }
+    ensures stops { IfErr result (λ stop. FilesStop options roots names.now (call_of H.meaning H.faults host.old host.new) stop) }
     ensures opened { IfErr result (λ stop. OpensFiles names.now (call_of H.meaning H.faults host.old host.new) stop) }
     ensures only { OnlyOpens (H.meaning host.old) (H.meaning host.new) (H.faults host.old) (H.faults host.new) }
 {
     let mut modules = List::new(alloc);
+    let mut files = ModuleFiles::new(alloc);
     let mut room = MOST_INPUT_BYTES;
     for number in 0..names.len() {
         let name = names[number].as_str();
-        let (module, length) = match read_file(alloc, name, number as u32, room, options, host) {
+        let is_root = number < roots;
+        let read = match read_file(alloc, name, number as u32, is_root, room, options, host) {
             Ok(read) => read,
             Err(stop) => return Err(stop),
         };
-        room = room.saturating_sub(length);
-        match modules.push(module) {
+        room = room.saturating_sub(read.length);
+        match add_file(alloc, &mut modules, &mut files, number as u32, name, read) {
             Ok(()) => {}
             Err(NoMemory) => return Err(Outcome::NoMemory),
         }
     }
-    Ok(modules)
+    Ok((modules, files))
+}
+
+// The number of roots among the files of a task.
+fn roots_of(inputs: &Inputs) -> usize
+    requires tree { HasTree inputs.now.marks (length inputs.now.files) }
+    ensures { result ≡ root_count inputs.now }
+{
+    file_count(inputs.marks.as_slice())
+}
+
+// Reads the modules of the files of a task, and refuses more of them than a run may have.
+fn read_few<H: Host>(
+    alloc: Global,
+    inputs: &Inputs,
+    host: &mut H,
+) -> Result<(List<Module>, ModuleFiles), Outcome>
+    requires few { length inputs.now.files < 2 ^ 32 }
+    requires tree { HasTree inputs.now.marks (length inputs.now.files) }
+    ensures read { IfOk result (λ read. IfSome (H.meaning host.old).files
+        (λ files. ComeTo inputs.now.options (root_count inputs.now) files inputs.now.files (accepted read.0))) }
+    ensures files { IfOk result (λ read. IfSome (H.meaning host.old).files (λ files. all_files read.1 ≡ module_files files inputs.now)) }
+    ensures count { IfOk result (λ read. HaveRoots inputs.now read.0) }
+    ensures few { IfOk result (λ read. length read.0 ≤ MOST_MODULES) }
+    ensures all { IfOk result (λ read. GrowsBy (H.meaning host.old).opened (H.meaning host.new).opened inputs.now.files) }
+    ensures valid { IfOk result (λ read. AreValid read.0) }
+    ensures light { IfOk result (λ read. total_weight read.0 ≤ most_weight) }
+    ensures stops { IfErr result (λ stop. FilesStop inputs.now.options (root_count inputs.now) inputs.now.files
+        (call_of H.meaning H.faults host.old host.new) stop) }
+    ensures opened { IfErr result (λ stop. OpensFiles inputs.now.files (call_of H.meaning H.faults host.old host.new) stop) }
+    ensures only { OnlyOpens (H.meaning host.old) (H.meaning host.new) (H.faults host.old) (H.faults host.new) }
+{
+    let roots = roots_of(inputs);
+    let names = inputs.files.as_slice();
+    let (modules, files) = match read_files(alloc, names, roots, inputs.options, host) {
+        Ok(read) => read,
+        Err(stop) => return Err(stop),
+    };
+    let count = modules.len() as u64;
+    if count > MOST_MODULES as u64 {
+        return Err(Outcome::Refused(Refusal::TooManyModules(count)));
+    }
+    Ok((modules, files))
 }
 
 /// What was read of the inputs of a task.
@@ -126,7 +165,8 @@ pub fn read_or_unread<H: Host>(
     inputs: &Inputs,
     host: &mut H,
 ) -> Result<Loaded, Unread>
-    requires { length inputs.now.files < 2 ^ 32 }
+    requires few { length inputs.now.files < 2 ^ 32 }
+    requires tree { HasTree inputs.now.marks (length inputs.now.files) }
     ensures read { IfOk result (λ loaded. IfSome (H.meaning host.old).files
         (λ files. inputs_in files inputs.now (gives (loaded.plan, loaded.modules)))) }
     ensures sound { IfOk result (λ loaded. IsReadPlan loaded.plan) }
@@ -146,8 +186,12 @@ pub fn read_or_unread<H: Host>(
         Ok(plan) => plan,
         Err(unread) => return Err(unread),
     };
-    match read_files(alloc, inputs.files.as_slice(), inputs.options, host) {
-        Ok(modules) => Ok(Loaded { plan, modules }),
+    match read_few(alloc, inputs, host) {
+        Ok((modules, files)) => Ok(Loaded {
+            plan,
+            modules,
+            files,
+        }),
         Err(stop) => Err(Unread::without_plan(alloc, stop)),
     }
 }
@@ -155,7 +199,8 @@ pub fn read_or_unread<H: Host>(
 /// Reads the inputs of a task: its plan, and then its files in their order. Returns the outcome of the run if
 /// one of them is refused or cannot be read, or if memory runs out; then no further input was opened.
 pub fn read_inputs<H: Host>(alloc: Global, inputs: &Inputs, host: &mut H) -> Result<Loaded, Outcome>
-    requires { length inputs.now.files < 2 ^ 32 }
+    requires few { length inputs.now.files < 2 ^ 32 }
+    requires tree { HasTree inputs.now.marks (length inputs.now.files) }
     ensures read { IfOk result (λ loaded. IfSome (H.meaning host.old).files
         (λ files. inputs_in files inputs.now (gives (loaded.plan, loaded.modules)))) }
     ensures sound { IfOk result (λ loaded. IsReadPlan loaded.plan) }

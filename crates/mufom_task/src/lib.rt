@@ -7,6 +7,7 @@
 #![tactic(auto)]
 
 mod inputs;
+mod module_file;
 mod plan_file;
 mod task;
 mod text_file;
