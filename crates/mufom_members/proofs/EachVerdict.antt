@@ -51,7 +51,7 @@ plain_many options limit bytes fits many (refusal offset reason) (inr is) = (
   ),
 )
 
-pub each_plain : (options : ReadOptions) (limit : ℕ) (bytes : List ℕ) → AreBytes bytes → (v : Verdict) × IsPlainVerdict options limit bytes v
+each_plain : (options : ReadOptions) (limit : ℕ) (bytes : List ℕ) → AreBytes bytes → (v : Verdict) × IsPlainVerdict options limit bytes v
 each_plain options limit bytes fits = by_length (le_or_above (length bytes) limit) where
   by_length : (length bytes ≤ limit) ⊎ (limit + 1 ≤ length bytes) → (v : Verdict) × IsPlainVerdict options limit bytes v
   by_length (inl few) = let j = judgment options bytes fits in plain_few options limit bytes few j.0 j.1

@@ -1,14 +1,22 @@
 -- Files that exist have a result when they are read in order: each file has a verdict.
-use Rattle.std.proofs.Common.{◌≡◌, ℕ, inl, inr, Bool, true, false, nat_lt, List, [], ◌∷◌, ◌++◌, length, Option, Some, None, IsSome, refl, sym, subst}
-use Rattle.std.proofs.Common.{append-nil, append_assoc, ltb-true, ltb-false, true≢false}
+use Rattle.std.proofs.Common.{◌≡◌, ℕ, ◌<◌, ◌≤◌, inl, inr, Bool, true, false, nat_lt, List, [], ◌∷◌, ◌++◌, length, take, Option, Some, None}
+use Rattle.std.proofs.Common.{IsSome, refl, sym, subst, append-nil, append_assoc, ltb-true, ltb-false, true≢false}
 use Rattle.std.specs.List.{AllByRecursion}
 use Rattle.mufom_numbers.specs.declared.reason.Reason.TheVariants as why
 use Rattle.mufom_numbers.specs.Spelling.{AreBytes}
+use Rattle.mufom_numbers.proofs.SpellingLaws.{AreBytes-take}
 use Rattle.mufom_host.specs.World.{HoldBytes, NamedFile, file_named}
 use Rattle.mufom_records.specs.declared.options.ReadOptions.{ReadOptions}
 use Rattle.mufom_module.specs.declared.module.Parts.{Parts}
+use Rattle.mufom_read.specs.Judging.{IsJudged, Judgment, module_of, refusal}
+use Rattle.mufom_read.specs.Laws.{HasJudgment}
+use Rattle.mufom_read.proofs.ended.Prefix.{ended_prefix}
+use Rattle.mufom_read.proofs.judged.PrefixJudged.{has_judgment}
+use Rattle.mufom_read.proofs.spelled.Judged.{judgments_exclude_each_other}
+use Rattle.mufom_read.proofs.weighing.Files.{files_weigh}
 use Rattle.mufom_members.specs.Files as one
-use Rattle.mufom_members.proofs.EachVerdict.{each_plain, each_verdict}
+use Rattle.mufom_members.specs.Files.{IsPlainVerdict}
+use Rattle.mufom_members.proofs.EachVerdict.{each_verdict}
 use Rattle.mufom_task.specs.Inputs.{AreAccepted, ComeTo, IsFileVerdict, Verdict, accepted, past_limit, refused, room_after}
 use Rattle.mufom_task.proofs.FileLaws.{modules-of, verdict-fits}
 use Rattle.mufom_task.proofs.InputLaws.{none_accepted, one_accepted}
@@ -22,9 +30,38 @@ use Rattle.mufom_run_laws.specs.Exist.{FilesHaveAVerdict, ReadingHasAResult}
 
 -- ---- one file
 
+has-judgment : HasJudgment
+has-judgment = has_judgment (ended_prefix files_weigh)
+
+-- the verdict on a root, whose length is within the limit or not
+module _ (options : ReadOptions) (limit : ℕ) (bytes : List ℕ) where
+  abbrev HasPlain : Type 0
+  HasPlain = (v : one.Verdict) × IsPlainVerdict options limit bytes v
+
+  within : length bytes ≤ limit → (j : Judgment) → IsJudged options bytes j → HasPlain
+  within fits (module_of m) is = (one.accepted None (m ∷ []), (is, fits))
+  within fits (refusal offset reason) is = (one.refused offset reason, inr (fits, is))
+
+  beyond : AreBytes bytes → limit < length bytes → (j : Judgment) → IsJudged options (take limit bytes) j → HasPlain
+  beyond are less (module_of m) is =
+      let exclude = judgments_exclude_each_other options (take limit bytes) (AreBytes-take limit bytes are) in
+      (one.past_limit, (less, λ offset reason bad. exclude.not_module m offset reason is bad))
+  beyond are less (refusal offset reason) (inl is) = (one.refused offset reason, inl is)
+  beyond are less (refusal offset reason) (inr (cause, cut)) =
+      let exclude = judgments_exclude_each_other options (take limit bytes) (AreBytes-take limit bytes are) in
+      (one.past_limit, (less, λ other because bad. exclude.not_cut other because cut bad))
+
+  plain-verdict : AreBytes bytes → HasPlain
+  plain-verdict are = by (nat_lt limit (length bytes)) refl where
+    by : (b : Bool) → nat_lt limit (length bytes) ≡ b → HasPlain
+    by true is =
+        let (j, judged) = has-judgment options (take limit bytes) (AreBytes-take limit bytes are) in
+        beyond are (ltb-true limit (length bytes) is) j judged
+    by false is = let (j, judged) = has-judgment options bytes are in within (ltb-false limit (length bytes) is) j judged
+
 file-verdict : (options : ReadOptions) (root : Bool) (limit : ℕ) (bytes : List ℕ) → AreBytes bytes
     → (v : one.Verdict) × IsFileVerdict options root limit bytes v
-file-verdict options true limit bytes are = each_plain options limit bytes are
+file-verdict options true limit bytes are = plain-verdict options limit bytes are
 file-verdict options false limit bytes are = each_verdict options limit bytes are
 
 -- ---- files in order
