@@ -47,7 +47,7 @@ module _ (options : ReadOptions) (limit : ℕ) (bytes : List ℕ) where
       let exclude = judgments_exclude_each_other options (take limit bytes) (AreBytes-take limit bytes are) in
       (one.past_limit, (less, λ offset reason bad. exclude.not_module m offset reason is bad))
   beyond are less (refusal offset reason) (inl is) = (one.refused offset reason, inl is)
-  beyond are less (refusal offset reason) (inr (cause, cut)) =
+  beyond are less (refusal offset reason) (inr (cause, there, cut)) =
       let exclude = judgments_exclude_each_other options (take limit bytes) (AreBytes-take limit bytes are) in
       (one.past_limit, (less, λ other because bad. exclude.not_cut other because cut bad))
 
