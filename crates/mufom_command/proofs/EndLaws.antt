@@ -30,7 +30,7 @@ use Rattle.mufom_outcome.specs.declared.outcome.Outcome.{Outcome}
 use Rattle.mufom_outcome.specs.declared.outcome.Outcome.TheVariants as outcome
 use Rattle.mufom_outcome.specs.declared.outcome.Refusal.TheVariants as refusal
 use Rattle.mufom_outcome.specs.Stop.{Stop, words_refused, plan_refused, file_refused, past_limit, link_fact, keep_unknown, name_shared, locate_fact, bytes_refused}
-use Rattle.mufom_outcome.specs.Stop.{text_refused, listing_refused}
+use Rattle.mufom_outcome.specs.Stop.{text_refused, listing_refused, too_many_modules}
 use Rattle.mufom_command.specs.Works.{located, located_unless, maus_of, stop_of, work_of}
 use Rattle.mufom_task.specs.declared.task.Inputs.{Inputs}
 use Rattle.mufom_task.specs.declared.task.Task.{Task}
@@ -177,6 +177,7 @@ ended-stop t (words_refused w) old mid before between is cause = absurd is
 ended-stop t (plan_refused r) old mid before between is cause = absurd is
 ended-stop t (file_refused n r) old mid before between is cause = absurd is
 ended-stop t (past_limit n) old mid before between is cause = absurd is
+ended-stop t (too_many_modules n) old mid before between is cause = absurd is
 
 -- ---- the end of a task
 
@@ -233,6 +234,7 @@ ended-count c (words_refused s) is = absurd is
 ended-count c (plan_refused r) is = absurd is
 ended-count c (file_refused n r) is = absurd is
 ended-count c (past_limit n) is = absurd is
+ended-count c (too_many_modules n) is = absurd is
 
 pub ends-count : {A : Type 0} (c : Inputs) (part : Work Stop A) (o : Outcome) → EndsAt part o → IsOpenedCount c o (length (input_names c))
 ends-count c part o (inl is) = subst (λ (x : Outcome). IsOpenedCount c x (length (input_names c))) (sym is) tt
@@ -252,6 +254,7 @@ ended-names plan (words_refused s) is = absurd is
 ended-names plan (plan_refused r) is = absurd is
 ended-names plan (file_refused n r) is = absurd is
 ended-names plan (past_limit n) is = absurd is
+ended-names plan (too_many_modules n) is = absurd is
 
 pub ends-names : {A : Type 0} (plan : Option (List ℕ)) (part : Work Stop A) (o : Outcome) → EndsAt part o → NamesPlan plan o
 ends-names plan part o (inl is) = subst (λ (x : Outcome). NamesPlan plan x) (sym is) tt

@@ -23,7 +23,7 @@ use Rattle.mufom_outcome.specs.declared.outcome.Outcome.TheVariants as outcome
 use Rattle.mufom_outcome.specs.declared.outcome.Refusal.TheVariants as refusal
 use Rattle.mufom_outcome.specs.Outcomes.{stop_answer}
 use Rattle.mufom_outcome.specs.Stop.{Stop, words_refused, plan_refused, file_refused, past_limit, link_fact, keep_unknown, name_shared, locate_fact, bytes_refused}
-use Rattle.mufom_outcome.specs.Stop.{text_refused, listing_refused}
+use Rattle.mufom_outcome.specs.Stop.{text_refused, listing_refused, too_many_modules}
 use Rattle.mufom_task.specs.declared.task.Inputs.{Inputs}
 use Rattle.mufom_task.specs.declared.task.Request.{Request}
 use Rattle.mufom_task.specs.declared.task.Request.TheVariants as request
@@ -51,11 +51,12 @@ use Rattle.mufom_command.proofs.ExplainLaws.{lacking-explains, opens-later, some
 
 -- ---- how reading ends
 
--- an input was refused, or a text is wrong
+-- an input was refused, there are too many modules, or a text is wrong
 abbrev pub IsOfReading : Stop → Type 0
 IsOfReading (plan_refused r) = Unit {0}
 IsOfReading (file_refused n r) = Unit {0}
 IsOfReading (past_limit n) = Unit {0}
+IsOfReading (too_many_modules n) = Unit {0}
 IsOfReading (text_refused r) = Unit {0}
 IsOfReading (listing_refused r) = Unit {0}
 IsOfReading _ = ⊥
@@ -72,6 +73,7 @@ plan-ends files (Some name) s (inr (bytes, there, ends)) = plan_by-ends (plan_of
 pub modules-end : (files : List NamedFile) (c : Inputs) (s : Stop) → modules_in files c (stops s) → IsOfReading s
 modules-end files c (file_refused n r) ends = tt
 modules-end files c (past_limit n) ends = tt
+modules-end files c (too_many_modules n) ends = tt
 modules-end files c (words_refused s) ends = absurd ends
 modules-end files c (plan_refused r) ends = absurd ends
 modules-end files c (link_fact f) ends = absurd ends
@@ -167,6 +169,7 @@ module _ {A : Type 0} (t : Task) (reading : List NamedFile → Work Stop A) (end
         record { there = file-there c n opens.count opens.exact opens.within; are = is }
     stop-details (past_limit n) opens named of_inputs keeps cause details is =
         record { there = file-there c n opens.count opens.exact opens.within; are = is }
+    stop-details (too_many_modules n) opens named of_inputs keeps cause details is = is
     stop-details (text_refused r) opens named of_inputs keeps cause details is = record { there = some; are = is }
     stop-details (listing_refused r) opens named of_inputs keeps cause details is = record { there = some; are = is }
     stop-details (link_fact f) opens named of_inputs keeps cause details is =

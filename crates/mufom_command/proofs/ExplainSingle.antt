@@ -16,13 +16,15 @@ use Rattle.mufom_groups.specs.Refusals.{link_refusal}
 use Rattle.mufom_groups.specs.Work.{IsSingle, Reached, Work, ◌>>=◌, gives, one_with, stops, sure}
 use Rattle.mufom_groups.proofs.Works.{one_with-single, stop_at-single, sure-single, then-single, value-same}
 use Rattle.mufom_origins.specs.Origins.{FileModule, modules_of}
+use Rattle.mufom_origins.specs.Words.{ModuleFiles}
 use Rattle.mufom_explain.specs.Details.{link_details, locate_details, name_details, shared_details}
 use Rattle.mufom_explain.specs.Lines.{file_line}
 use Rattle.mufom_text.specs.Words.{Text}
 use Rattle.mufom_outcome.specs.Stop.{Stop, words_refused, plan_refused, file_refused, past_limit, link_fact, keep_unknown, name_shared, locate_fact, bytes_refused}
-use Rattle.mufom_outcome.specs.Stop.{text_refused, listing_refused}
+use Rattle.mufom_outcome.specs.Stop.{text_refused, listing_refused, too_many_modules}
 use Rattle.mufom_command.specs.Roots.{roots_by}
 use Rattle.mufom_command.specs.Works.{Kept, Output, kept_of, printed, work_by}
+use Rattle.mufom_task.specs.Inputs.{module_files}
 use Rattle.mufom_task.specs.Reading.{modules_in, plan_in}
 use Rattle.mufom_command.specs.Contract.{run_by, run_of, work_with}
 use Rattle.mufom_task.specs.declared.task.Inputs.{Inputs}
@@ -76,19 +78,23 @@ module _ (c : Inputs) (ms : List Parts) (f : LinkFact) where
 -- ---- lines
 
 module _ (files : List NamedFile) (bytes : HoldBytes files) (c : Inputs) (keep : List (List ℕ)) where
+  -- the files of the modules
+  abbrev names : ModuleFiles
+  names = module_files files c
+
   link-single : (f : LinkFact) → IsSingle (lines_of_link files c f)
   link-single f =
-      then-single (modules_in files c) (λ ms. one_with (IsRefusedFlat c ms f) >>= λ flat. sure (link_details c.files flat (link_refusal f)))
+      then-single (modules_in files c) (λ ms. one_with (IsRefusedFlat c ms f) >>= λ flat. sure (link_details names flat (link_refusal f)))
       (modules_in-single files bytes c) λ ms.
-      then-single (one_with (IsRefusedFlat c ms f)) (λ flat. sure (link_details c.files flat (link_refusal f)))
-      (one_with-single (IsRefusedFlat c ms f) (flat-single c ms f)) λ flat. sure-single (link_details c.files flat (link_refusal f))
+      then-single (one_with (IsRefusedFlat c ms f)) (λ flat. sure (link_details names flat (link_refusal f)))
+      (one_with-single (IsRefusedFlat c ms f) (flat-single c ms f)) λ flat. sure-single (link_details names flat (link_refusal f))
 
   name-single : (name : List ℕ) → IsSingle (lines_of_name files c name)
   name-single name =
-      then-single (modules_in files c) (λ ms. one_with (AreFlatFiles (tree_of c.marks) ms) >>= λ flat. sure (name_details c.files flat name))
+      then-single (modules_in files c) (λ ms. one_with (AreFlatFiles (tree_of c.marks) ms) >>= λ flat. sure (name_details names flat name))
       (modules_in-single files bytes c) λ ms.
-      then-single (one_with (AreFlatFiles (tree_of c.marks) ms)) (λ flat. sure (name_details c.files flat name))
-      (flat-files-single (tree_of c.marks) ms) λ flat. sure-single (name_details c.files flat name)
+      then-single (one_with (AreFlatFiles (tree_of c.marks) ms)) (λ flat. sure (name_details names flat name))
+      (flat-files-single (tree_of c.marks) ms) λ flat. sure-single (name_details names flat name)
 
   -- there is one module that is located for what is kept
   object-single : (rest : Option Remains) (ms : List Parts) (a b : Parts) → IsObjectBy rest ms a → IsObjectBy rest ms b → a ≡ b
@@ -102,7 +108,7 @@ module _ (files : List NamedFile) (bytes : HoldBytes files) (c : Inputs) (keep :
 
   abbrev object-lines : Plan → List FileModule → ℕ → LocateFact → Kept → Parts → Work Stop Text
   object-lines plan flat maus f kept own =
-      one_with (IsObjectOf plan kept) >>= λ object. sure (locate_details (explained_by c plan flat kept object own maus) (locate_refusal f))
+      one_with (IsObjectOf plan kept) >>= λ object. sure (locate_details (explained_by names plan flat kept object own maus) (locate_refusal f))
 
   abbrev own-lines : Plan → List FileModule → ℕ → LocateFact → Kept → Work Stop Text
   own-lines plan flat maus f kept = one_with (IsObjectBy kept.rest kept.modules) >>= λ own. object-lines plan flat maus f kept own
@@ -122,18 +128,18 @@ module _ (files : List NamedFile) (bytes : HoldBytes files) (c : Inputs) (keep :
       (kept_of-single (roots_by keep plan) (modules_of flat)) λ kept.
       then-single (one_with (IsObjectBy kept.rest kept.modules)) (λ own. object-lines plan flat maus f kept own)
       (one_with-single (IsObjectBy kept.rest kept.modules) (object-single kept.rest kept.modules)) λ own.
-      then-single (one_with (IsObjectOf plan kept)) (λ object. sure (locate_details (explained_by c plan flat kept object own maus) (locate_refusal f)))
+      then-single (one_with (IsObjectOf plan kept)) (λ object. sure (locate_details (explained_by names plan flat kept object own maus) (locate_refusal f)))
       (one_with-single (IsObjectOf plan kept) (planned-single plan.symbols plan kept)) λ object.
-      sure-single (locate_details (explained_by c plan flat kept object own maus) (locate_refusal f))
+      sure-single (locate_details (explained_by names plan flat kept object own maus) (locate_refusal f))
 
   shared-single : (name : List ℕ) → IsSingle (lines_of_shared files c name)
   shared-single name =
       then-single (plan_in files c.plan) (λ plan. modules_in files c >>= λ ms. one_with (AreFlatFiles (tree_of c.marks) ms) >>= λ flat.
-      sure (shared_details c.files flat plan name ++ plan_lines c.plan)) (plan_in-single files c.plan) λ plan.
+      sure (shared_details names flat plan name ++ plan_lines c.plan)) (plan_in-single files c.plan) λ plan.
       then-single (modules_in files c) (λ ms. one_with (AreFlatFiles (tree_of c.marks) ms) >>= λ flat.
-      sure (shared_details c.files flat plan name ++ plan_lines c.plan)) (modules_in-single files bytes c) λ ms.
-      then-single (one_with (AreFlatFiles (tree_of c.marks) ms)) (λ flat. sure (shared_details c.files flat plan name ++ plan_lines c.plan))
-      (flat-files-single (tree_of c.marks) ms) λ flat. sure-single (shared_details c.files flat plan name ++ plan_lines c.plan)
+      sure (shared_details names flat plan name ++ plan_lines c.plan)) (modules_in-single files bytes c) λ ms.
+      then-single (one_with (AreFlatFiles (tree_of c.marks) ms)) (λ flat. sure (shared_details names flat plan name ++ plan_lines c.plan))
+      (flat-files-single (tree_of c.marks) ms) λ flat. sure-single (shared_details names flat plan name ++ plan_lines c.plan)
 
   lines-by-single : (b : Bool) (name text : List ℕ) (r : PlanRefusal) (x y : Text) → AreLinesBy b name text r x → AreLinesBy b name text r y → x ≡ y
   lines-by-single true name text r x y (m, is_m, are) (n, is_n, also) = are ∙ (ap (plan_line_at name) (syntax-line-single text m n is_m is_n) ∙ sym also)
@@ -156,6 +162,7 @@ module _ (files : List NamedFile) (bytes : HoldBytes files) (c : Inputs) (keep :
   details-single (plan_refused r) a b one other = plan-lines-single r a b one other
   details-single (file_refused n r) a b one other = file-line-single n a b one other
   details-single (past_limit n) a b one other = file-line-single n a b one other
+  details-single (too_many_modules n) a b one other = one ∙ sym other
   details-single (text_refused r) a b one other = file-line-single 0 a b one other
   details-single (listing_refused r) a b one other = file-line-single 0 a b one other
   details-single (link_fact f) a b one other = value-same a b (link-single f (gives a) (gives b) one other)

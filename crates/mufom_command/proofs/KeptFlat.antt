@@ -24,6 +24,7 @@ use Rattle.mufom_groups.proofs.RefusedLaws.{numbers-count}
 use Rattle.mufom_groups.proofs.Singles.{flat_list-single}
 use Rattle.mufom_origins.specs.declared.origins.Origin.{Origin}
 use Rattle.mufom_origins.specs.Origins.{FileModule, modules_of, numbered, origins_of}
+use Rattle.mufom_origins.specs.Words.{ModuleFiles}
 use Rattle.mufom_origins.specs.Places.{at_positions, with_chosen}
 use Rattle.mufom_origins.proofs.FlatLaws.{chosen-map, members-chosen, modules-numbered}
 use Rattle.mufom_command.specs.declared.locating.TracedModule.{TracedModule}
@@ -99,9 +100,9 @@ module _ (tree : Forest) (ms : List Parts) (places : Places) (has : HasPlaces tr
       (places.chosen, has.selected, ap modules_of are ∙ flat-modules tree ms places.chosen)
       ((linked-flat answers_are_facts link_facts_grow tree ms list).0 is_linked).0
 
-  linked-with : (files : Option (List NamedFile)) (inputs : Inputs) → tree_of inputs.marks ≡ tree → (plan : Plan) → AreReadFrom files inputs plan ms
-      → AreLinkedFlat files inputs plan ms flat
-  linked-with files inputs same plan read = record {
+  linked-with : (files : Option (List NamedFile)) (inputs : Inputs) → tree_of inputs.marks ≡ tree → (names : ModuleFiles) (plan : Plan)
+      → AreReadFrom files inputs names plan ms → AreLinkedFlat files inputs names plan ms flat
+  linked-with files inputs same names plan read = record {
     read = read;
     are = subst (λ (t : Forest). AreFlatFiles t ms flat) (sym same) (places.chosen, has.selected, are);
     links = subst (λ (t : Forest). linked t ms (gives (modules_of flat))) (sym same)
@@ -170,9 +171,10 @@ module _ (tree : Forest) (first : leaves tree ≡ numbers_from 0 (length (leaves
       link.from ∙ ap (λ (n : ℕ). with_chosen n places.chosen (origins_of (numbered ms))) link.has.counted
       ∙ origins-with tree first ms places.chosen ∙ ap origins_of (sym are)
 
-  pub told-flat : (files : Option (List NamedFile)) (inputs : Inputs) → tree_of inputs.marks ≡ tree → (plan : Plan) → AreReadFrom files inputs plan ms
-      → AreLinkedFlat files inputs plan ms flat
-  told-flat files inputs same plan read = linked-with tree ms places link.has flat are link.links.0 link.links.1 files inputs same plan read
+  pub told-flat : (files : Option (List NamedFile)) (inputs : Inputs) → tree_of inputs.marks ≡ tree → (names : ModuleFiles) (plan : Plan)
+      → AreReadFrom files inputs names plan ms → AreLinkedFlat files inputs names plan ms flat
+  told-flat files inputs same names plan read =
+      linked-with tree ms places link.has flat are link.links.0 link.links.1 files inputs same names plan read
 
   -- what is kept of the link is kept of the flat list, or means the same
   pub told-kept : (plan : Plan) (part : TracedModule) → IsKeptPart keep whole part → (kept : Kept) × IsKeptFlat keep flat part.object part.origins kept

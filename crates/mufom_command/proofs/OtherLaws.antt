@@ -14,7 +14,7 @@ use Rattle.mufom_groups.specs.Work.{Work, gives, stops}
 use Rattle.mufom_outcome.specs.declared.outcome.Outcome.{Outcome}
 use Rattle.mufom_outcome.specs.declared.outcome.Outcome.TheVariants as outcome
 use Rattle.mufom_outcome.specs.Stop.{Stop, words_refused, plan_refused, file_refused, past_limit, link_fact, keep_unknown, name_shared, locate_fact, bytes_refused}
-use Rattle.mufom_outcome.specs.Stop.{text_refused, listing_refused}
+use Rattle.mufom_outcome.specs.Stop.{text_refused, listing_refused, too_many_modules}
 use Rattle.mufom_task.specs.declared.task.Inputs.{Inputs}
 use Rattle.mufom_task.specs.declared.task.Product.{Product}
 use Rattle.mufom_task.specs.declared.task.Task.{Task}
@@ -63,6 +63,7 @@ build-end text (words_refused w) ends = absurd ends
 build-end text (plan_refused r) ends = absurd ends
 build-end text (file_refused n r) ends = absurd ends
 build-end text (past_limit n) ends = absurd ends
+build-end text (too_many_modules n) ends = absurd ends
 
 module-ends : (parts_of : List ℕ → Work Stop Parts) → ((text : List ℕ) (s : Stop) → parts_of text (stops s) → IsOfReading s) → (out : List ℕ)
     (files : List NamedFile) (c : Inputs) (s : Stop) → module_of_text parts_of out files c (stops s) → IsOfReading s
@@ -149,6 +150,7 @@ keeps-none plan none files (outcome.Refused (refusal.SharedName shared)) = tt
 keeps-none plan none files (outcome.Refused (refusal.Text r)) = tt
 keeps-none plan none files (outcome.Refused (refusal.Build r)) = tt
 keeps-none plan none files (outcome.Refused (refusal.InputLimit n)) = tt
+keeps-none plan none files (outcome.Refused (refusal.TooManyModules n)) = tt
 keeps-none plan none files (outcome.Refused (refusal.TooManyFiles n)) = tt
 keeps-none plan none files (outcome.Refused (refusal.TooDeep n)) = tt
 keeps-none plan none files (outcome.Refused (refusal.Link l)) = tt
@@ -168,6 +170,7 @@ unread-none c host_tells none (outcome.Refused (refusal.SharedName shared)) deta
 unread-none c host_tells none (outcome.Refused (refusal.Text r)) details is = is
 unread-none c host_tells none (outcome.Refused (refusal.Build r)) details is = is
 unread-none c host_tells none (outcome.Refused (refusal.InputLimit n)) details is = is
+unread-none c host_tells none (outcome.Refused (refusal.TooManyModules n)) details is = is
 unread-none c host_tells none (outcome.Refused (refusal.TooManyFiles n)) details is = is
 unread-none c host_tells none (outcome.Refused (refusal.TooDeep n)) details is = is
 unread-none c host_tells none (outcome.Refused (refusal.Link l)) details is = is

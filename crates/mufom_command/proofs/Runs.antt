@@ -1,6 +1,6 @@
 -- A run comes to one end at most, since each of its parts does.
-use Rattle.std.proofs.Common.{◌≡◌, ◌⊎◌, ℕ, ◌*◌, List, ◌∷◌, Option, Some, None, Result, Ok, Err, IfSome, not, Bool, false, true, nat_lt, length}
-use Rattle.std.proofs.Common.{unwrap_or, [], refl, sym, ap, subst, ◌∙◌, flat_map, inl, inr}
+use Rattle.std.proofs.Common.{◌≡◌, ◌⊎◌, ℕ, ◌*◌, ◌<◌, List, ◌∷◌, Option, Some, None, Result, Ok, Err, IfSome, not, Bool, false, true, nat_lt, length}
+use Rattle.std.proofs.Common.{◌≤◌, unwrap_or, [], refl, sym, ap, subst, ◌∙◌, flat_map, inl, inr, if◌then◌else◌}
 use Rattle.mufom_host.specs.World.{HoldBytes, NamedFile, file_named}
 use Rattle.mufom_words.specs.declared.command.Command.{Command}
 use Rattle.mufom_words.specs.declared.stop.WordsStop.{WordsStop}
@@ -37,7 +37,7 @@ use Rattle.mufom_groups.proofs.Singles.{joined-single, linked-single}
 use Rattle.mufom_groups.proofs.Works.{sure-single, stop_at-single, one_with-single, nowhere-single, stops-single, then-single}
 use Rattle.mufom_words.specs.Explain.{explained}
 use Rattle.mufom_outcome.specs.Stop.{Stop, words_refused, plan_refused, file_refused, past_limit, link_fact, keep_unknown, name_shared, locate_fact, bytes_refused}
-use Rattle.mufom_outcome.specs.Stop.{text_refused, listing_refused}
+use Rattle.mufom_outcome.specs.Stop.{text_refused, listing_refused, too_many_modules}
 use Rattle.mufom_build.specs.declared.refusal.BuildRefusal.TheVariants as build
 use Rattle.mufom_build.proofs.Excluded.{built_not_refused, defect_not_built, defect_not_refused, one_defect}
 use Rattle.mufom_build.proofs.OneModule.{one_listing}
@@ -47,9 +47,9 @@ use Rattle.mufom_build.specs.Refusals.{HasDefect, IsRefusedAt}
 use Rattle.mufom_build_text.specs.declared.refusal.BuildReason.{BuildReason}
 use Rattle.mufom_module.specs.declared.module.Defect.{Defect}
 use Rattle.mufom_build.proofs.OneRefusal.{one_refusal}
-use Rattle.mufom_task.specs.Inputs.{HaveOneVerdict, Verdict, accepted, refused, past_limit as past, ComeTo}
+use Rattle.mufom_task.specs.Inputs.{HaveOneVerdict, Verdict, accepted, refused, past_limit as past, ComeTo, module_files, root_count}
 use Rattle.mufom_command.specs.Text.{Text, check_text, hit_text}
-use Rattle.mufom_numbers.specs.declared.limits.TheConstants.{MOST_FILE_BYTES}
+use Rattle.mufom_numbers.specs.declared.limits.TheConstants.{MOST_FILE_BYTES, MOST_MODULES}
 use Rattle.mufom_addr.specs.AddressHit.{hit_at}
 use Rattle.mufom_write.specs.Raw.{raw_image}
 use Rattle.mufom_meaning.specs.AddressMap.{AreRunsOf}
@@ -87,23 +87,39 @@ use Rattle.mufom_map.specs.MapText.{view_text}
 use Rattle.mufom_origins.specs.Words.{ModuleFiles}
 use Rattle.mufom_command.specs.FlatFiles.{AreFlatFiles}
 use Rattle.mufom_command.proofs.MapLaws.{flat-files-single}
+use Rattle.mufom_command.proofs.WorkLaws.{few-by, many-by}
 use Rattle.mufom_task.proofs.Verdicts.{one_verdict}
 
 -- ---- the inputs
 
+-- the modules, unless they are too many
+abbrev few_or_none : List Parts → Reached Stop (List Parts)
+few_or_none ms = if nat_lt MOST_MODULES (length ms) then stops (too_many_modules (length ms)) else gives ms
+
 -- what reading the files comes to, by what they come to
 abbrev reached_by : Verdict → Reached Stop (List Parts)
-reached_by (accepted ms) = gives ms
+reached_by (accepted ms) = few_or_none ms
 reached_by (refused n r) = stops (file_refused n r)
 reached_by (past n) = stops (past_limit n)
 
 abbrev ByVerdict : List NamedFile → Inputs → Reached Stop (List Parts) → Type 0
-ByVerdict files c x = (v : Verdict) × ComeTo c.options files c.files v × (reached_by v ≡ x)
+ByVerdict files c x = (v : Verdict) × ComeTo c.options (root_count c) files c.files v × (reached_by v ≡ x)
 
 by_verdict : (files : List NamedFile) (c : Inputs) (x : Reached Stop (List Parts)) → modules_in files c x → ByVerdict files c x
-by_verdict files c (gives ms) is = (accepted ms, is, refl)
+by_verdict files c (gives ms) (comes, few) = (
+  accepted ms,
+  comes,
+  ap (λ (b : Bool). if b then stops (too_many_modules (length ms)) else gives ms) (few-by MOST_MODULES (length ms) few),
+)
 by_verdict files c (stops (file_refused n r)) is = (refused n r, is, refl)
 by_verdict files c (stops (past_limit n)) is = (past n, is, refl)
+by_verdict files c (stops (too_many_modules n)) (ms, comes, same, many) = (
+  accepted ms,
+  comes,
+  ap (λ (b : Bool). if b then stops (too_many_modules (length ms)) else gives ms)
+      (many-by MOST_MODULES (length ms) (subst (λ (k : ℕ). MOST_MODULES < k) same many))
+      ∙ ap (λ (k : ℕ). stops (too_many_modules k)) (sym same),
+)
 by_verdict files c (stops (words_refused s)) is = absurd is
 by_verdict files c (stops (plan_refused r)) is = absurd is
 by_verdict files c (stops (link_fact f)) is = absurd is
@@ -122,7 +138,7 @@ pub modules_in-single : (files : List NamedFile) → HoldBytes files → (c : In
 modules_in-single files bytes c x y is_x is_y =
     let (v, comes_v, is_v) = by_verdict files c x is_x in
     let (w, comes_w, is_w) = by_verdict files c y is_y in
-    let same : v ≡ w = one-verdict c.options files c.files v w bytes comes_v comes_w in
+    let same : v ≡ w = one-verdict c.options (root_count c) files c.files v w bytes comes_v comes_w in
     sym is_v ∙ (ap reached_by same ∙ is_w)
 
 -- ---- the outputs
@@ -245,6 +261,7 @@ by_listing text (stops (words_refused s)) is = absurd is
 by_listing text (stops (plan_refused r)) is = absurd is
 by_listing text (stops (file_refused n r)) is = absurd is
 by_listing text (stops (past_limit n)) is = absurd is
+by_listing text (stops (too_many_modules n)) is = absurd is
 by_listing text (stops (link_fact f)) is = absurd is
 by_listing text (stops (keep_unknown name)) is = absurd is
 by_listing text (stops (locate_fact maus f)) is = absurd is
@@ -302,9 +319,10 @@ module _ (files : List NamedFile) (bytes : HoldBytes files) where
   work_of-single (task.Link inputs name out) =
       linking-single inputs (λ ms plan flat. linked_file name out flat) (λ ms plan flat. linked_file-single name out flat)
   work_of-single (task.Locate inputs keep p) =
-      linking-single inputs (λ ms plan flat. locating_kept (producing p inputs.files (tree_of inputs.marks) ms plan) (roots_by keep plan) plan flat)
-      (λ ms plan flat. locating_kept-single (roots_by keep plan) plan flat (producing p inputs.files (tree_of inputs.marks) ms plan)
-      (producing-single p inputs.files (tree_of inputs.marks) ms plan))
+      let names = module_files files inputs in
+      linking-single inputs (λ ms plan flat. locating_kept (producing p names (tree_of inputs.marks) ms plan) (roots_by keep plan) plan flat)
+      (λ ms plan flat. locating_kept-single (roots_by keep plan) plan flat (producing p names (tree_of inputs.marks) ms plan)
+      (producing-single p names (tree_of inputs.marks) ms plan))
   work_of-single (task.FromTxt inputs maus out) = module_of_text-single (parts_of_txt maus) (parts_of_txt-single maus) out files inputs
   work_of-single (task.Build inputs out) = module_of_text-single parts_of_listing parts_of_listing-single out files inputs
   work_of-single (task.Make count) = then-single (located (made_plan count) (made_modules count)) (λ r. prints (summary count r))

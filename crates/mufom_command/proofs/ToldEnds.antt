@@ -32,12 +32,13 @@ use Rattle.mufom_groups.specs.Refusals.{link_refusal}
 use Rattle.mufom_groups.specs.Work.{gives, stops}
 use Rattle.mufom_origins.specs.declared.origins.Origin.{Origin}
 use Rattle.mufom_origins.specs.Origins.{FileModule, modules_of, origins_of}
+use Rattle.mufom_origins.specs.Words.{ModuleFiles}
 use Rattle.mufom_outcome.specs.declared.outcome.Outcome.{Outcome}
 use Rattle.mufom_outcome.specs.declared.outcome.Outcome.TheVariants as outcome
 use Rattle.mufom_outcome.specs.declared.outcome.Refusal.TheVariants as refusal
 use Rattle.mufom_outcome.specs.LocateRefusals.{locate_refusal}
 use Rattle.mufom_outcome.specs.Stop.{Stop, words_refused, plan_refused, file_refused, past_limit, link_fact, keep_unknown, name_shared, locate_fact, bytes_refused}
-use Rattle.mufom_outcome.specs.Stop.{text_refused, listing_refused}
+use Rattle.mufom_outcome.specs.Stop.{text_refused, listing_refused, too_many_modules}
 use Rattle.mufom_task.specs.declared.task.Inputs.{Inputs}
 use Rattle.mufom_task.specs.declared.task.Product.{Product}
 use Rattle.mufom_task.specs.declared.task.Task.{Task}
@@ -52,7 +53,7 @@ use Rattle.mufom_command.specs.HasDetails.{IsObjectWith, IsRefusedFlat, lines_of
 use Rattle.mufom_command.specs.InputLines.{untried_lines}
 use Rattle.mufom_command.specs.Locations.{AreMapped, shown_of}
 use Rattle.mufom_command.specs.Ready.{ready_output}
-use Rattle.mufom_command.specs.RunParts.{AreReadFrom, AreUnkept, AreUnlocated, EndsOver, IsLocatedAs, IsLocatedWith, LinksLists, MakesLink}
+use Rattle.mufom_command.specs.RunParts.{AreReadFrom, AreReadOver, AreUnkept, AreUnlocated, EndsOver, IsLocatedAs, IsLocatedWith, LinksLists, MakesLink}
 use Rattle.mufom_command.specs.Roots.{roots_by}
 use Rattle.mufom_command.specs.Works.{Kept, Output, kept_of, located, made, maus_of, product_of, work_of}
 use Rattle.mufom_command.specs.WorkEnds.{EndsAt, IsOfModules}
@@ -98,12 +99,12 @@ fact-named c name ms (link.Duplicate own) memory (f, is, inr (flat, links, never
 fact-named c name ms link.DuplicateStart memory (f, is, inl ends) = (f, is, ends)
 fact-named c name ms link.DuplicateStart memory (f, is, inr (flat, links, never)) = absurd never
 
-module _ (files : Option (List NamedFile)) (t : Task) (c : Inputs) (name : Option (List ℕ)) (links : LinksLists t c name) (plan : Plan) (ms : List Parts)
-    (read : AreReadFrom files c plan ms) (flat : List FileModule) (details : List ℕ) where
+module _ (files : Option (List NamedFile)) (t : Task) (c : Inputs) (name : Option (List ℕ)) (links : LinksLists t c name) (names : ModuleFiles)
+    (plan : Plan) (ms : List Parts) (read : AreReadFrom files c names plan ms) (flat : List FileModule) (details : List ℕ) where
   abbrev inputs : List NamedFile → Type 0
-  inputs fs = inputs_in fs c (gives (plan, ms))
+  inputs fs = AreReadOver fs c names plan ms
 
-  fact-over : (f : LinkFact) → linked (tree_of c.marks) ms (stops f) → IsRefusedFlat c ms f flat → details ≡ link_details c.files flat (link_refusal f)
+  fact-over : (f : LinkFact) → linked (tree_of c.marks) ms (stops f) → IsRefusedFlat c ms f flat → details ≡ link_details names flat (link_refusal f)
       → EndsOver files t (outcome.Refused (refusal.Link (link_refusal f))) details
   fact-over f ends refused are = (
     record {
@@ -111,32 +112,36 @@ module _ (files : Option (List NamedFile)) (t : Task) (c : Inputs) (name : Optio
       is = refl;
       of_inputs = tt;
       cause = over-map (links-read t c name links).0 inputs (λ fs. work_of t fs (stops (link_fact f))) files
-          (λ fs is. fact-stops t c name links plan ms fs is f ends) read;
+          (λ fs is. fact-stops t c name links plan ms fs is.read f ends) read;
     },
     tt,
     subst (λ (i : Inputs). IfSome files (λ fs. lines_of_link fs i f (gives details))) (sym (links-read t c name links).1)
-        (known-map inputs (λ fs. lines_of_link fs c f (gives details)) files (λ fs is. (ms, inputs-modules fs c plan ms is, (flat, refused, are))) read),
+        (known-map inputs (λ fs. lines_of_link fs c f (gives details)) files (λ fs is. (
+          ms,
+          inputs-modules fs c plan ms is.read,
+          (flat, refused, are ∙ ap (λ (l : ModuleFiles). link_details l flat (link_refusal f)) is.named),
+        )) read),
   )
 
   pub unlinked-over : (r : LinkRefusal) → r ≢ link.NoMemory → StopsWork (linked_module (tree_of c.marks) name ms) r
-      → ((f : LinkFact) → linked (tree_of c.marks) ms (stops f) → IsRefusedFlat c ms f flat) → details ≡ link_details c.files flat r
+      → ((f : LinkFact) → linked (tree_of c.marks) ms (stops f) → IsRefusedFlat c ms f flat) → details ≡ link_details names flat r
       → EndsOver files t (outcome.Refused (refusal.Link r)) details
   unlinked-over r memory why refused are =
       let (f, named, ends) = fact-named c name ms r memory why in
       subst (λ (x : LinkRefusal). EndsOver files t (outcome.Refused (refusal.Link x)) details) (sym named)
-      (fact-over f ends (refused f ends) (are ∙ ap (link_details c.files flat) named))
+      (fact-over f ends (refused f ends) (are ∙ ap (link_details names flat) named))
 
 -- a link is done
-pub link-over : (files : Option (List NamedFile)) (c : Inputs) (name : Option (List ℕ)) (out : List ℕ) (plan : Plan) (ms : List Parts)
-    → AreReadFrom files c plan ms → (ready : Ready) → MakesLink (tree_of c.marks) name out ms ready
+pub link-over : (files : Option (List NamedFile)) (c : Inputs) (name : Option (List ℕ)) (out : List ℕ) (names : ModuleFiles) (plan : Plan)
+    (ms : List Parts) → AreReadFrom files c names plan ms → (ready : Ready) → MakesLink (tree_of c.marks) name out ms ready
     → EndsOver files (task.Link c name out) outcome.Done (untried_lines (Some out))
-link-over files c name out plan ms read ready makes = (
+link-over files c name out names plan ms read ready makes = (
   (
     made out (written makes.object),
     record {
       place = refl;
-      cause = known-map (λ fs. inputs_in fs c (gives (plan, ms))) (λ fs. work_of (task.Link c name out) fs (gives (made out (written makes.object)))) files
-          (λ fs is. link-gives c plan ms fs is name out makes.object makes.links makes.held) read;
+      cause = known-map (λ fs. AreReadOver fs c names plan ms) (λ fs. work_of (task.Link c name out) fs (gives (made out (written makes.object)))) files
+          (λ fs is. link-gives c plan ms fs is.read name out makes.object makes.links makes.held) read;
     },
   ),
   refl,
@@ -205,64 +210,78 @@ met-linked part object plan same r other met =
 
 -- ---- a name that no public has
 
-module _ (files : Option (List NamedFile)) (c : Inputs) (keep : List (List ℕ)) (p : Product) (plan : Plan) (ms : List Parts) where
+module _ (files : Option (List NamedFile)) (c : Inputs) (names : ModuleFiles) (keep : List (List ℕ)) (p : Product) (plan : Plan) (ms : List Parts) where
   abbrev t : Task
   t = task.Locate c keep p
 
   abbrev read_in : List NamedFile → Type 0
-  read_in fs = inputs_in fs c (gives (plan, ms))
+  read_in fs = AreReadOver fs c names plan ms
 
   module _ (flat : List FileModule) where
-    pub unknown-over : (name details : List ℕ) → AreUnkept files c keep plan ms flat name → details ≡ name_details c.files flat name
+    pub unknown-over : (name details : List ℕ) → AreUnkept files c names keep plan ms flat name → details ≡ name_details names flat name
         → EndsOver files t (outcome.Refused (refusal.Keep name)) details
     unknown-over name details is are = both is.ends where
       by : (s : Stop) → IsOfModules s → outcome.Refused (refusal.Keep name) ≡ stop_outcome s → kept_of (roots_by keep plan) (modules_of flat) (stops s)
           → EndsOver files t (outcome.Refused (refusal.Keep name)) details
-      by (keep_unknown other) of_modules names ends =
-          let own : outcome.Refused (refusal.Keep name) ≡ outcome.Refused (refusal.Keep other) = names in
-          let same : name ≡ other = cc in (
+      by (keep_unknown other) of_modules same ends =
+          let own : outcome.Refused (refusal.Keep name) ≡ outcome.Refused (refusal.Keep other) = same in
+          let equal : name ≡ other = cc in (
             record {
               stop = keep_unknown other;
-              is = names;
+              is = same;
               of_inputs = tt;
               cause = known-map read_in (λ fs. work_of t fs (stops (keep_unknown other))) files
-                  (λ fs there. locating-stops c plan ms fs there keep p (keep_unknown other) (inr (modules_of flat, is.linked.links, inl ends)))
+                  (λ fs there. locating-stops c plan ms fs there.read keep p (keep_unknown other) (inr (modules_of flat, is.linked.links, inl ends)))
                   is.linked.read;
             },
             tt,
             known-map read_in (λ fs. lines_of_name fs c other (gives details)) files
-                (λ fs there. (ms, inputs-modules fs c plan ms there, (flat, is.linked.are, are ∙ ap (name_details c.files flat) same))) is.linked.read,
+                (λ fs there. (
+                  ms,
+                  inputs-modules fs c plan ms there.read,
+                  (flat, is.linked.are, are ∙ (λ i. name_details (there.named i) flat (equal i))),
+                )) is.linked.read,
           )
-      by (link_fact f) of_modules names ends = absurd cc
-      by (locate_fact maus f) of_modules names ends = absurd cc
-      by (bytes_refused b) of_modules names ends = absurd cc
-      by (name_shared name) of_modules names ends = absurd cc
-      by (text_refused r) of_modules names ends = absurd cc
-      by (listing_refused r) of_modules names ends = absurd cc
-      by (words_refused w) of_modules names ends = absurd of_modules
-      by (plan_refused r) of_modules names ends = absurd of_modules
-      by (file_refused n r) of_modules names ends = absurd of_modules
-      by (past_limit n) of_modules names ends = absurd of_modules
+      by (link_fact f) of_modules same ends = absurd cc
+      by (locate_fact maus f) of_modules same ends = absurd cc
+      by (bytes_refused b) of_modules same ends = absurd cc
+      by (name_shared name) of_modules same ends = absurd cc
+      by (text_refused r) of_modules same ends = absurd cc
+      by (listing_refused r) of_modules same ends = absurd cc
+      by (words_refused w) of_modules same ends = absurd of_modules
+      by (plan_refused r) of_modules same ends = absurd of_modules
+      by (file_refused n r) of_modules same ends = absurd of_modules
+      by (past_limit n) of_modules same ends = absurd of_modules
+      by (too_many_modules n) of_modules same ends = absurd of_modules
 
       both : EndsAt (kept_of (roots_by keep plan) (modules_of flat)) (outcome.Refused (refusal.Keep name)) → EndsOver files t (outcome.Refused (refusal.Keep name)) details
       both (inl same) = absurd cc
-      both (inr (s, of_modules, names, ends)) = by s of_modules names ends
+      both (inr (s, of_modules, same, ends)) = by s of_modules same ends
 
     -- ---- a locate fact
 
     module _ (part : Parts) (origins : List Origin) where
       -- what a fact against the module that is located is explained by
       abbrev own_explained : Parts → Explained
-      own_explained object = record { names = c.files; flat = flat; origins = origins; maus = object.maus; modules = object ∷ []; object = object; own = part; plan = plan }
+      own_explained object = record {
+        names = names;
+        flat = flat;
+        origins = origins;
+        maus = object.maus;
+        modules = object ∷ [];
+        object = object;
+        own = part;
+        plan = plan;
+      }
 
-      module _ (is : AreUnlocated files c keep plan ms flat part origins) (symbols : HasSoundSymbols plan) where
+      module _ (is : AreUnlocated files c names keep plan ms flat part origins) (symbols : HasSoundSymbols plan) where
         abbrev alike : AreLocatedAlike (part ∷ []) is.kept.modules plan
         alike = is.keeps.same.alike plan symbols
 
         -- an end of the location of the part is one of the run
         end-stops : (s : Stop) → located plan (part ∷ []) (stops s) → IfSome files (λ fs. work_of t fs (stops s))
         end-stops s ends = known-map read_in (λ fs. work_of t fs (stops s)) files
-            (λ fs there. locating-stops c plan ms fs there keep p s
+            (λ fs there. locating-stops c plan ms fs there.read keep p s
             (inr (
               modules_of flat,
               is.linked.links,
@@ -272,7 +291,7 @@ module _ (files : Option (List NamedFile)) (c : Inputs) (keep : List (List ℕ))
         -- ---- a name that the plan shares
 
         pub shared-over : (name : List ℕ) → planned_answer (part ∷ []) plan ≡ Some (shared_name name) → (details : List ℕ)
-            → details ≡ shared_details c.files flat plan name ++ plan_lines c.plan → EndsOver files t (outcome.Refused (refusal.SharedName name)) details
+            → details ≡ shared_details names flat plan name ++ plan_lines c.plan → EndsOver files t (outcome.Refused (refusal.SharedName name)) details
         shared-over name met details are = (
           record {
             stop = name_shared name;
@@ -282,7 +301,15 @@ module _ (files : Option (List NamedFile)) (c : Inputs) (keep : List (List ℕ))
           },
           tt,
           known-map read_in (λ fs. lines_of_shared fs c name (gives details)) files
-              (λ fs there. (plan, inputs-planned fs c plan ms there, (ms, inputs-modules fs c plan ms there, (flat, is.linked.are, are)))) is.linked.read,
+              (λ fs there. (
+                plan,
+                inputs-planned fs c plan ms there.read,
+                (
+                  ms,
+                  inputs-modules fs c plan ms there.read,
+                  (flat, is.linked.are, are ∙ ap (λ (l : ModuleFiles). shared_details l flat plan name ++ plan_lines c.plan) there.named),
+                ),
+              )) is.linked.read,
         )
 
         -- ---- a fact about the list with the plan's symbols
@@ -329,10 +356,10 @@ module _ (files : Option (List NamedFile)) (c : Inputs) (keep : List (List ℕ))
                 known-map read_in (λ fs. lines_of_locate fs c keep part.maus f (gives details)) files
                     (λ fs there. (
                       plan,
-                      inputs-planned fs c plan ms there,
+                      inputs-planned fs c plan ms there.read,
                       (
                         ms,
-                        inputs-modules fs c plan ms there,
+                        inputs-modules fs c plan ms there.read,
                         (
                           flat,
                           is.linked.are,
@@ -347,6 +374,7 @@ module _ (files : Option (List NamedFile)) (c : Inputs) (keep : List (List ℕ))
                                 object-with plan.symbols refl is_object,
                                 are ∙ explained-with plan.symbols refl is_object (locate_refusal f)
                                     ∙ (λ i. locate_details (record (own_explained object) {
+                                      names = there.named i;
                                       maus = units i;
                                       modules = shown_list is.kept.modules plan;
                                       origins = is.keeps.from i;
@@ -389,36 +417,36 @@ module _ (files : Option (List NamedFile)) (c : Inputs) (keep : List (List ℕ))
 
   -- ---- a location
 
-  module _ (read : AreReadFrom files c plan ms) (m : Location) (are : AreMapped (tree_of c.marks) (roots_by keep plan) plan ms m) where
+  module _ (read : AreReadFrom files c names plan ms) (m : Location) (are : AreMapped (tree_of c.marks) (roots_by keep plan) plan ms m) where
     -- what is made of it
-    pub product-over : (ready : Ready) → product_of p c.files (shown_of m) m.located (gives (ready_output ready))
+    pub product-over : (ready : Ready) → product_of p names (shown_of m) m.located (gives (ready_output ready))
         → EndsOver files t outcome.Done (untried_lines (file_of p))
     product-over ready puts = (
       (
         ready_output ready,
         record {
-          place = product-place p c.files (shown_of m) m.located (ready_output ready) puts;
+          place = product-place p names (shown_of m) m.located (ready_output ready) puts;
           cause = known-map read_in (λ fs. work_of t fs (gives (ready_output ready))) files
-              (λ fs there. product-comes c plan ms fs there keep p m are (gives (ready_output ready)) puts) read;
+              (λ fs there. product-comes c plan ms fs there.read keep p names there.named m are (gives (ready_output ready)) puts) read;
         },
       ),
       refl,
     )
 
     -- or why nothing is
-    pub unmade-over : (answer : Outcome) → EndsAt (product_of p c.files (shown_of m) m.located) answer → (answer ≡ outcome.NoMemory) ⊎ EndsOver files t answer []
+    pub unmade-over : (answer : Outcome) → EndsAt (product_of p names (shown_of m) m.located) answer → (answer ≡ outcome.NoMemory) ⊎ EndsOver files t answer []
     unmade-over answer (inl lacks) = inl lacks
-    unmade-over answer (inr (s, of_modules, names, ends)) =
-        let (refused, same) = product-stops p c.files (shown_of m) m.located s ends in
-        let long : product_of p c.files (shown_of m) m.located (stops (bytes_refused refused))
-        = subst (λ (x : Stop). product_of p c.files (shown_of m) m.located (stops x)) same ends in
-        inr (subst (λ (o : Outcome). EndsOver files t o []) (sym (names ∙ ap stop_outcome same)) (
+    unmade-over answer (inr (s, of_modules, shown, ends)) =
+        let (refused, same) = product-stops p names (shown_of m) m.located s ends in
+        let long : product_of p names (shown_of m) m.located (stops (bytes_refused refused))
+        = subst (λ (x : Stop). product_of p names (shown_of m) m.located (stops x)) same ends in
+        inr (subst (λ (o : Outcome). EndsOver files t o []) (sym (shown ∙ ap stop_outcome same)) (
           record {
             stop = bytes_refused refused;
             is = refl;
             of_inputs = tt;
             cause = known-map read_in (λ fs. work_of t fs (stops (bytes_refused refused))) files
-                (λ fs there. product-comes c plan ms fs there keep p m are (stops (bytes_refused refused)) long) read;
+                (λ fs there. product-comes c plan ms fs there.read keep p names there.named m are (stops (bytes_refused refused)) long) read;
           },
           tt,
           refl,

@@ -1,6 +1,6 @@
 -- What the work of a task comes to, from what its inputs and their modules come to.
 use Rattle.std.proofs.Common.{◌≡◌, ◌<◌, ◌≤◌, ℕ, Bool, false, true, nat_lt, arith, rules, length, List, Option, Some, None, refl, sym, ap, subst}
-use Rattle.std.proofs.Common.{◌∙◌, ◌⊎◌, inl, inr, if◌then◌else◌}
+use Rattle.std.proofs.Common.{◌∙◌, ◌⊎◌, IfSome, inl, inr, if◌then◌else◌}
 use Rattle.std.proofs.lemmas.Bool.{ltb-true}
 use Rattle.mufom_numbers.specs.declared.limits.TheConstants.{MOST_FILE_BYTES}
 use Rattle.mufom_host.specs.World.{NamedFile}
@@ -10,6 +10,7 @@ use Rattle.mufom_module.specs.declared.module.Parts.{Parts}
 use Rattle.mufom_module.specs.Written.{written}
 use Rattle.mufom_plan.specs.declared.plan.Plan.{Plan}
 use Rattle.mufom_meaning.specs.declared.located.LocatedParts.{LocatedParts}
+use Rattle.mufom_words.specs.Sound.{HasTree}
 use Rattle.mufom_words.specs.Tree.{tree_of}
 use Rattle.mufom_write.specs.Raw.{raw_image}
 use Rattle.mufom_groups.specs.Linked.{linked_module}
@@ -24,14 +25,17 @@ use Rattle.mufom_outcome.specs.Stop.{Stop, link_fact, bytes_refused}
 use Rattle.mufom_task.specs.declared.task.Inputs.{Inputs}
 use Rattle.mufom_task.specs.declared.task.Product.{Product}
 use Rattle.mufom_task.specs.declared.task.Product.TheVariants as product
+use Rattle.mufom_task.specs.Inputs.{module_files}
 use Rattle.mufom_task.specs.Reading.{modules_in, plan_in}
 use Rattle.mufom_task.specs.InputsRead.{inputs_in}
 use Rattle.mufom_task.specs.Tasks.{file_of}
+use Rattle.mufom_task.proofs.InputsLaws.{known-both, known-map}
 use Rattle.mufom_command.specs.declared.locating.Location.{Location}
-use Rattle.mufom_command.specs.Locations.{AreMapped, shown_of}
+use Rattle.mufom_command.specs.Locations.{AreLinkable, AreMapped, shown_of}
+use Rattle.mufom_command.specs.RunParts.{AreReadFrom, AreReadOver}
 use Rattle.mufom_command.specs.Run.{file_name}
 use Rattle.mufom_command.specs.Roots.{roots_by}
-use Rattle.mufom_command.specs.Works.{IsHeld, Output, linked_file, linking, listing, locating, made, printed, product_of}
+use Rattle.mufom_command.specs.Works.{IsHeld, Output, linked_file, linking, listing, locating, locating_kept, made, printed, producing, product_of}
 use Rattle.mufom_command.specs.Works.{bytes_unless, length_fact, region_fact, region_image, region_named}
 use Rattle.mufom_command.specs.Text.{Text}
 use Rattle.mufom_command.specs.WorkEnds.{EndsAt, location_of}
@@ -44,6 +48,11 @@ linking-begins output c files s (inl is) = inl is
 linking-begins output c files s (inr (plan, planned, inl is)) = inr (plan, planned, inl is)
 linking-begins output c files s (inr (plan, planned, inr (ms, read, never))) = absurd never
 
+pub locating-begins : (keep : List (List ℕ)) (p : Product) (c : Inputs) (files : List NamedFile) (s : Stop) → inputs_in files c (stops s)
+    → locating keep p files c (stops s)
+locating-begins keep p c files =
+    linking-begins (λ ms plan flat. locating_kept (producing p (module_files files c) (tree_of c.marks) ms plan) (roots_by keep plan) plan flat) c files
+
 no-plan-stops : (files : List NamedFile) (name : Option (List ℕ)) (s : Stop) → name ≡ None → plan_in files name (stops s) → ⊥
 no-plan-stops files None s none is = is
 no-plan-stops files (Some name) s none is = absurd cc
@@ -55,6 +64,18 @@ listing-begins text c none files s (inr (plan, planned, inl is)) = inl is
 listing-begins text c none files s (inr (plan, planned, inr (ms, read, never))) = absurd never
 
 -- ---- the inputs were read
+
+-- their modules can be linked by their tree, whose files are the first ones
+pub linkable-tree : (c : Inputs) (ms : List Parts) → AreLinkable c ms → HasTree c.marks (length ms)
+linkable-tree c ms is = record { spelled = is.sound.tree.spelled; numbered = is.sound.tree.numbered; within = is.count.within }
+
+-- what was read, with the files of the modules
+pub read-from : (files : Option (List NamedFile)) (c : Inputs) (names : ModuleFiles) (plan : Plan) (ms : List Parts)
+    → IfSome files (λ fs. inputs_in fs c (gives (plan, ms))) → IfSome files (λ fs. names ≡ module_files fs c) → AreReadFrom files c names plan ms
+read-from files c names plan ms read named =
+    known-map (λ fs. inputs_in fs c (gives (plan, ms)) × (names ≡ module_files fs c)) (λ fs. AreReadOver fs c names plan ms) files
+    (λ fs both. record { read = both.0; named = both.1 })
+    (known-both (λ fs. inputs_in fs c (gives (plan, ms))) (λ fs. names ≡ module_files fs c) files read named)
 
 -- the two parts of what was read
 pub inputs-planned : (files : List NamedFile) (c : Inputs) (plan : Plan) (ms : List Parts) → inputs_in files c (gives (plan, ms))
@@ -104,10 +125,9 @@ module _ (c : Inputs) (plan : Plan) (ms : List Parts) (files : List NamedFile) (
         inr (plan, inputs-planned files c plan ms is, inr (ms, inputs-modules files c plan ms is, inr (flat, is_linked, inr (kept, is_kept, inl ends))))
 
     -- what is made of the location, or why nothing is
-    pub product-comes : (m : Location) → AreMapped (tree_of c.marks) (roots_by keep plan) plan ms m → (x : Reached Stop Output)
-        → product_of p c.files (shown_of m) m.located x
-        → locating keep p files c x
-    product-comes m are (gives o) puts = (
+    product-there : (m : Location) → AreMapped (tree_of c.marks) (roots_by keep plan) plan ms m → (x : Reached Stop Output)
+        → product_of p (module_files files c) (shown_of m) m.located x → locating keep p files c x
+    product-there m are (gives o) puts = (
       plan,
       inputs-planned files c plan ms is,
       (
@@ -122,13 +142,17 @@ module _ (c : Inputs) (plan : Plan) (ms : List Parts) (files : List NamedFile) (
             (
               m.located,
               are.location,
-              (are.flat, are.files, subst (λ (shown : Mapped). product_of p c.files shown m.located (gives o)) are.shows puts),
+              (
+                are.flat,
+                are.files,
+                subst (λ (shown : Mapped). product_of p (module_files files c) shown m.located (gives o)) are.shows puts,
+              ),
             ),
           ),
         ),
       ),
     )
-    product-comes m are (stops s) ends = inr (
+    product-there m are (stops s) ends = inr (
       plan,
       inputs-planned files c plan ms is,
       inr (
@@ -143,27 +167,45 @@ module _ (c : Inputs) (plan : Plan) (ms : List Parts) (files : List NamedFile) (
             inr (
               m.located,
               are.location,
-              inr (are.flat, are.files, subst (λ (shown : Mapped). product_of p c.files shown m.located (stops s)) are.shows ends),
+              inr (
+                are.flat,
+                are.files,
+                subst (λ (shown : Mapped). product_of p (module_files files c) shown m.located (stops s)) are.shows ends,
+              ),
             ),
           ),
         ),
       ),
     )
 
+    -- the same for the files of the modules, as they were found in reading
+    pub product-comes : (names : ModuleFiles) → names ≡ module_files files c → (m : Location)
+        → AreMapped (tree_of c.marks) (roots_by keep plan) plan ms m → (x : Reached Stop Output) → product_of p names (shown_of m) m.located x
+        → locating keep p files c x
+    product-comes names named m are x is =
+        product-there m are x (subst (λ (l : ModuleFiles). product_of p l (shown_of m) m.located x) named is)
+
 -- ---- what is made of a location
 
 is-less : {n m : ℕ} → n < m → nat_lt n m ≡ true
 is-less {n = n} {m = m} less = search rules
 
+-- the test of a limit
+pub many-by : (most count : ℕ) → most < count → nat_lt most count ≡ true
+many-by most count past = is-less past
+
+pub few-by : (most count : ℕ) → count ≤ most → nat_lt most count ≡ false
+few-by most count few = by (nat_lt most count) refl where
+  by : (b : Bool) → nat_lt most count ≡ b → nat_lt most count ≡ false
+  by true is = absurd (omega (arith, few, ltb-true most count is))
+  by false is = is
+
 -- there are too many bytes, or not
 pub too-many : (count : ℕ) → MOST_FILE_BYTES < count → length_fact count ≡ Some (bins.TooLong count)
-too-many count past = ap (λ b. if b then Some (bins.TooLong count) else None) (is-less past)
+too-many count past = ap (λ b. if b then Some (bins.TooLong count) else None) (many-by MOST_FILE_BYTES count past)
 
 pub not-too-many : (count : ℕ) → count ≤ MOST_FILE_BYTES → length_fact count ≡ None
-not-too-many count few = by (nat_lt MOST_FILE_BYTES count) refl where
-  by : (b : Bool) → nat_lt MOST_FILE_BYTES count ≡ b → (if b then Some (bins.TooLong count) else None) ≡ None
-  by true is = absurd (omega (arith, few, ltb-true MOST_FILE_BYTES count is))
-  by false is = refl
+not-too-many count few = ap (λ b. if b then Some (bins.TooLong count) else None) (few-by MOST_FILE_BYTES count few)
 
 -- bytes that are refused are not put out, and others are
 pub bytes-stop : (o : Option BinRefusal) (b : BinRefusal) → o ≡ Some b → (name bytes : List ℕ) → bytes_unless o name bytes (stops (bytes_refused b))
@@ -188,7 +230,8 @@ bytes-ends (Some b) name bytes s is = (b, is)
 bytes-ends None name bytes s is = absurd is
 
 -- a file has the name that is given
-pub product-place : (p : Product) (names : ModuleFiles) (shown : Mapped) (r : LocatedParts) (o : Output) → product_of p names shown r (gives o) → file_name o ≡ file_of p
+pub product-place : (p : Product) (names : ModuleFiles) (shown : Mapped) (r : LocatedParts) (o : Output) → product_of p names shown r (gives o)
+    → file_name o ≡ file_of p
 product-place (product.Absolute out) names shown r o (held, is) = ap file_name is
 product-place (product.Raw fill out) names shown r o is = bytes-place (length_fact (length (raw_image fill r.runs))) out (raw_image fill r.runs) o is
 product-place (product.Region name fill out) names shown r o is =

@@ -23,8 +23,8 @@ use Rattle.mufom_outcome.specs.declared.outcome.Input.TheVariants as input
 use Rattle.mufom_outcome.specs.declared.outcome.Outcome.{Outcome}
 use Rattle.mufom_outcome.specs.declared.outcome.Outcome.TheVariants as outcome
 use Rattle.mufom_outcome.specs.declared.outcome.Refusal.TheVariants as refusal
-use Rattle.mufom_outcome.specs.Stop.{Stop, words_refused, plan_refused, file_refused, past_limit, too_many_modules, link_fact, keep_unknown, name_shared, locate_fact, bytes_refused}
-use Rattle.mufom_outcome.specs.Stop.{text_refused, listing_refused}
+use Rattle.mufom_outcome.specs.Stop.{Stop, words_refused, plan_refused, file_refused, past_limit, link_fact, keep_unknown, name_shared, locate_fact, bytes_refused}
+use Rattle.mufom_outcome.specs.Stop.{text_refused, listing_refused, too_many_modules}
 use Rattle.mufom_prune.specs.Pruned.{Remains}
 use Rattle.mufom_command.specs.Roots.{roots_by}
 use Rattle.mufom_command.specs.Works.{Kept, kept_of, kept_origins}
@@ -87,8 +87,8 @@ pub record HasPlanLines (files : Option (List NamedFile)) (c : Inputs) (r : Plan
 abbrev pub files_at : List Parts → List ℕ → List FileModule
 files_at ms files = at_positions (numbered ms) files
 
--- The modules of the list that cannot be linked because of this error, with their places among all that were read. In the lines that follow, modules are counted in that list:
--- if a group cannot be linked, in the group, not in the whole tree.
+-- The modules of the list that cannot be linked because of this error, with their places among all that were read. In the lines that follow,
+-- modules are counted in that list: if a group cannot be linked, in the group, not in the whole tree.
 abbrev pub IsRefusedFlat : Inputs → List Parts → LinkFact → List FileModule → Type 0
 IsRefusedFlat c ms f flat = (files : List ℕ) × IsRefusedList (tree_of c.marks) ms files f × (flat ≡ files_at ms files)
 

@@ -3,6 +3,7 @@ use Rattle.std.specs.Prelude.{◌≡◌, flat_map, length}
 use Rattle.mufom_host.specs.World.{OnlyPrints}
 use Rattle.mufom_map.specs.MapText.{view_text}
 use Rattle.mufom_module.specs.Written.{written}
+use Rattle.mufom_origins.specs.Words.{all_files}
 use Rattle.mufom_outcome.specs.declared.outcome.Outcome.{Outcome}
 use Rattle.mufom_task.specs.Calls.{Call}
 use Rattle.mufom_text.specs.Image.{image_text}
@@ -26,7 +27,7 @@ ready_output (ready.Raw out fill r) = made out.now (raw_image fill r.runs)
 ready_output (ready.Range out fill from count r) = made out.now (range_image fill from count r.runs)
 ready_output (ready.TiTxt out r) = made out.now (txt_text r.runs)
 ready_output (ready.Image r) = printed (image_text r)
-ready_output (ready.Map names at m) = printed (view_text names.now at (shown_of m))
+ready_output (ready.Map names at m) = printed (view_text (all_files names) at (shown_of m))
 
 -- there is one module whose text is printed, and a map is of a module that is located
 abbrev pub IsReady : Ready → Type 0

@@ -19,6 +19,7 @@ use Rattle.mufom_groups.specs.Work.{gives}
 use Rattle.mufom_command.specs.Same.{AreSame}
 use Rattle.mufom_origins.specs.declared.origins.Origin.{Origin}
 use Rattle.mufom_origins.specs.Origins.{FileModule, modules_of, origins_of}
+use Rattle.mufom_origins.specs.Words.{ModuleFiles}
 use Rattle.mufom_outcome.specs.declared.outcome.Outcome.{Outcome}
 use Rattle.mufom_outcome.specs.declared.outcome.Outcome.TheVariants as outcome
 use Rattle.mufom_outcome.specs.declared.outcome.Refusal.TheVariants as refusal
@@ -31,6 +32,7 @@ use Rattle.mufom_task.specs.declared.task.Task.{Task}
 use Rattle.mufom_task.specs.declared.task.Task.TheVariants as task
 use Rattle.mufom_task.specs.Calls.{Call, NoneFalls, OpensInputs}
 use Rattle.mufom_task.specs.Ends.{IsInputReached, IsStopped}
+use Rattle.mufom_task.specs.Inputs.{module_files}
 use Rattle.mufom_task.specs.InputsRead.{NamesPlan, inputs_in}
 use Rattle.mufom_task.specs.Tasks.{input_names, inputs_of, keep_of, out_of, reads_files, request_of}
 use Rattle.mufom_command.specs.declared.ready.Ready.{Ready}
@@ -114,13 +116,19 @@ pub record Explains (words : List (List ℕ)) (call : Call) (result : Outcome) :
 
 -- ---- explaining a task whose inputs were read
 
--- these are the inputs, if the files are known
-abbrev pub AreReadFrom : Option (List NamedFile) → Inputs → Plan → List Parts → Type 0
-AreReadFrom files inputs plan ms = IfSome files (λ fs. inputs_in fs inputs (gives (plan, ms)))
+-- these are the inputs over these files, and the files of their modules
+pub record AreReadOver (files : List NamedFile) (inputs : Inputs) (names : ModuleFiles) (plan : Plan) (ms : List Parts) : Type 0 where
+  pub read : inputs_in files inputs (gives (plan, ms))
+  pub named : names ≡ module_files files inputs
+
+-- the same, if the files are known
+abbrev pub AreReadFrom : Option (List NamedFile) → Inputs → ModuleFiles → Plan → List Parts → Type 0
+AreReadFrom files inputs names plan ms = IfSome files (λ fs. AreReadOver fs inputs names plan ms)
 
 -- These are the inputs, and this is their flat list, which can be linked.
-pub record AreLinkedFlat (files : Option (List NamedFile)) (inputs : Inputs) (plan : Plan) (ms : List Parts) (flat : List FileModule) : Type 0 where
-  pub read : AreReadFrom files inputs plan ms
+pub record AreLinkedFlat (files : Option (List NamedFile)) (inputs : Inputs) (names : ModuleFiles) (plan : Plan) (ms : List Parts)
+    (flat : List FileModule) : Type 0 where
+  pub read : AreReadFrom files inputs names plan ms
   pub are : AreFlatFiles (tree_of inputs.marks) ms flat
   pub links : linked (tree_of inputs.marks) ms (gives (modules_of flat))
 
@@ -133,21 +141,21 @@ pub record IsKeptFlat (keep : Option Roots) (flat : List FileModule) (object : P
   pub from : origins ≡ kept_origins kept.rest (origins_of flat)
 
 -- nothing is kept of such a list for this reason
-pub record AreRefusedKept (files : Option (List NamedFile)) (inputs : Inputs) (keep : List (List ℕ)) (plan : Plan) (ms : List Parts)
-    (flat : List FileModule) (r : PruneRefusal) : Type 0 where
-  pub linked : AreLinkedFlat files inputs plan ms flat
+pub record AreRefusedKept (files : Option (List NamedFile)) (inputs : Inputs) (names : ModuleFiles) (keep : List (List ℕ)) (plan : Plan)
+    (ms : List Parts) (flat : List FileModule) (r : PruneRefusal) : Type 0 where
+  pub linked : AreLinkedFlat files inputs names plan ms flat
   pub ends : EndsAt (kept_of (roots_by keep plan) (modules_of flat)) (outcome_of_prune r)
 
 -- none of its publics has this name, which should be kept
-pub record AreUnkept (files : Option (List NamedFile)) (inputs : Inputs) (keep : List (List ℕ)) (plan : Plan) (ms : List Parts)
-    (flat : List FileModule) (name : List ℕ) : Type 0 where
-  pub linked : AreLinkedFlat files inputs plan ms flat
+pub record AreUnkept (files : Option (List NamedFile)) (inputs : Inputs) (names : ModuleFiles) (keep : List (List ℕ)) (plan : Plan)
+    (ms : List Parts) (flat : List FileModule) (name : List ℕ) : Type 0 where
+  pub linked : AreLinkedFlat files inputs names plan ms flat
   pub ends : EndsAt (kept_of (roots_by keep plan) (modules_of flat)) (outcome.Refused (refusal.Keep name))
 
 -- the module with these origins is located instead of what is kept of it
-pub record AreUnlocated (files : Option (List NamedFile)) (inputs : Inputs) (keep : List (List ℕ)) (plan : Plan) (ms : List Parts)
-    (flat : List FileModule) (object : Parts) (origins : List Origin) : Type 0 where
-  pub linked : AreLinkedFlat files inputs plan ms flat
+pub record AreUnlocated (files : Option (List NamedFile)) (inputs : Inputs) (names : ModuleFiles) (keep : List (List ℕ)) (plan : Plan)
+    (ms : List Parts) (flat : List FileModule) (object : Parts) (origins : List Origin) : Type 0 where
+  pub linked : AreLinkedFlat files inputs names plan ms flat
   pub kept : Kept
   pub keeps : IsKeptFlat (roots_by keep plan) flat object origins kept
 

@@ -199,9 +199,9 @@ abbrev pub bytes_unless : Option BinRefusal → (name bytes : List ℕ) → Work
 bytes_unless None name bytes = writes name bytes
 bytes_unless (Some b) name bytes = stop_at (bytes_refused b)
 
--- What is made of a location, and of what a map of it shows, given the files of all modules that were read: the file of the absolute module, of the raw image, of the
--- bytes of a region or of the TI-TXT text; the text of the image or of the map; the lines of an address of the map; or the lines of the function and
--- the source line at an address.
+-- What is made of a location, and of what a map of it shows, given the files of all modules that were read: the file of the absolute module, of the
+-- raw image, of the bytes of a region or of the TI-TXT text; the text of the image or of the map; the lines of an address of the map; or the lines of
+-- the function and the source line at an address.
 abbrev pub product_of : Product → ModuleFiles → Mapped → LocatedParts → Work Stop Output
 product_of (product.Absolute out) names shown r = writes_module out (absolute_of r)
 product_of (product.Raw fill out) names shown r = bytes_unless (length_fact (length (raw_image fill r.runs))) out (raw_image fill r.runs)

@@ -13,6 +13,7 @@ ghost use Rattle.mufom_names.specs.Names.{names_of, AreDistinct};
 ghost use Rattle.mufom_module.specs.Written.{weight};
 ghost use Rattle.mufom_plan.specs.declared.plan.Plan.{Plan as Planned};
 ghost use Rattle.mufom_origins.specs.declared.origins.Origin.{Origin};
+ghost use Rattle.mufom_origins.specs.Words.{all_files};
 ghost use Rattle.mufom_meaning.specs.Absolute.{absolute_of};
 ghost use Rattle.mufom_meaning.specs.Facts.{LinkFact};
 ghost use Rattle.mufom_explain.specs.Flat.{flat_of};
@@ -51,6 +52,7 @@ use mufom_link::LinkRefusal;
 use mufom_locating::{PlannedRefusal, with_plan_symbols};
 use mufom_module::Module;
 use mufom_numbers::{Bytes, List, NoMemory, Text};
+use mufom_origins::ModuleFiles;
 use mufom_outcome::{Cause, Outcome};
 use mufom_plan::Plan;
 use mufom_prune::PruneRefusal;
@@ -59,7 +61,7 @@ use std::alloc::Global;
 
 // ---- lists that cannot be linked
 
-// The modules of the list that cannot be linked, with their files.
+// The modules of the list that cannot be linked, with their places among all modules that were read.
 fn refused_list<'a>(
     alloc: Global,
     inputs: &Inputs,
@@ -70,15 +72,16 @@ fn refused_list<'a>(
         → IsRefusedFlat inputs.now modules.now f (flat_of flat.items)) }
     ensures few { IfOk result (λ flat. length flat.items < 2 ^ 32) }
 {
-    let files = refused_files(alloc, inputs.marks.as_slice(), modules)?;
-    flat_modules(alloc, modules, files.as_slice())
+    let places = refused_files(alloc, inputs.marks.as_slice(), modules)?;
+    flat_modules(alloc, modules, places.as_slice())
 }
 
-// Explains that modules cannot be linked.
+// Explains that modules cannot be linked; `names` are their files.
 fn explain_refused<H: Host>(
     alloc: Global,
     words: &[String],
     inputs: &Inputs,
+    names: &ModuleFiles,
     modules: &[Module],
     refusal: &LinkRefusal,
     host: &mut H,
@@ -86,14 +89,14 @@ fn explain_refused<H: Host>(
     requires linkable { AreLinkable inputs.now modules.now }
     requires memory { refusal.now ≢ LinkRefusal.NoMemory }
     ensures { (files : option (list NamedFile)) (plan : Planned) (task : Tasks) (name : option (list ℕ))
-        → AreReadFrom files inputs.now plan modules.now → LinksLists task inputs.now name
+        → AreReadFrom files inputs.now (all_files names.now) plan modules.now → LinksLists task inputs.now name
         → StopsWork (linked_module (tree_of inputs.now.marks) name modules.now) refusal.now
         → Tells (map (λ word. string_bytes word) words.now) task files (call_of H.meaning H.faults host.old host.new) result }
 {
     let Ok(flat) = refused_list(alloc, inputs, modules) else {
         return Outcome::NoMemory;
     };
-    match link_details(alloc, inputs.files.as_slice(), &flat, refusal) {
+    match link_details(alloc, names, &flat, refusal) {
         Ok(details) => print_explanation(
             alloc,
             words,
@@ -110,25 +113,26 @@ fn explain_unlinked<H: Host>(
     alloc: Global,
     words: &[String],
     inputs: &Inputs,
+    names: &ModuleFiles,
     modules: &[Module],
     refusal: &LinkRefusal,
     host: &mut H,
 ) -> Outcome
     requires linkable { AreLinkable inputs.now modules.now }
     ensures { (files : option (list NamedFile)) (plan : Planned) (task : Tasks) (name : option (list ℕ))
-        → AreReadFrom files inputs.now plan modules.now → LinksLists task inputs.now name
+        → AreReadFrom files inputs.now (all_files names.now) plan modules.now → LinksLists task inputs.now name
         → StopsWork (linked_module (tree_of inputs.now.marks) name modules.now) refusal.now
         → Tells (map (λ word. string_bytes word) words.now) task files (call_of H.meaning H.faults host.old host.new) result }
 {
     match refusal {
         LinkRefusal::NoMemory => Outcome::NoMemory,
-        _ => explain_refused(alloc, words, inputs, modules, refusal, host),
+        _ => explain_refused(alloc, words, inputs, names, modules, refusal, host),
     }
 }
 
 // ---- what is kept
 
-// The modules of the flat list, with their files.
+// The modules of the flat list, with their places among all modules that were read.
 fn flat_list<'a>(
     alloc: Global,
     inputs: &Inputs,
@@ -140,26 +144,26 @@ fn flat_list<'a>(
     ensures flat { IfOk result (λ flat. flat_of flat.items ≡ files_with (tree_of inputs.now.marks) modules.now places.now.chosen) }
     ensures few { IfOk result (λ flat. length flat.items < 2 ^ 32) }
 {
-    let files = flat_files(alloc, places.roots, places.chosen.as_slice())?;
-    flat_modules(alloc, modules, files.as_slice())
+    let places = flat_files(alloc, places.roots, places.chosen.as_slice())?;
+    flat_modules(alloc, modules, places.as_slice())
 }
 
 // Explains that no public symbol has the name that should be kept.
 fn explain_unknown<H: Host>(
     alloc: Global,
     words: &[String],
-    inputs: &Inputs,
+    names: &ModuleFiles,
     flat: &[FlatModule<'_>],
     name: &Bytes,
     host: &mut H,
 ) -> Outcome
     requires few { length flat.now < 2 ^ 32 }
-    ensures { (files : option (list NamedFile)) (plan : Planned) (ms : list Parts) (keep : list (list ℕ)) (made : Made)
-        → AreUnkept files inputs.now keep plan ms (flat_of flat.now) name.now
-        → Tells (map (λ word. string_bytes word) words.now) (task_variants.Locate inputs.now keep made) files
+    ensures { (files : option (list NamedFile)) (inputs : Reads) (plan : Planned) (ms : list Parts) (keep : list (list ℕ)) (made : Made)
+        → AreUnkept files inputs (all_files names.now) keep plan ms (flat_of flat.now) name.now
+        → Tells (map (λ word. string_bytes word) words.now) (task_variants.Locate inputs keep made) files
         (call_of H.meaning H.faults host.old host.new) result }
 {
-    match explain_name(alloc, inputs.files.as_slice(), flat, name.as_slice()) {
+    match explain_name(alloc, names, flat, name.as_slice()) {
         Ok(details) => print_explanation(
             alloc,
             words,
@@ -175,19 +179,19 @@ fn explain_unknown<H: Host>(
 fn explain_unkept<H: Host>(
     alloc: Global,
     words: &[String],
-    inputs: &Inputs,
+    names: &ModuleFiles,
     flat: &[FlatModule<'_>],
     refusal: &PruneRefusal,
     host: &mut H,
 ) -> Outcome
     requires few { length flat.now < 2 ^ 32 }
-    ensures { (files : option (list NamedFile)) (plan : Planned) (ms : list Parts) (keep : list (list ℕ)) (made : Made)
-        → AreRefusedKept files inputs.now keep plan ms (flat_of flat.now) refusal.now
-        → Tells (map (λ word. string_bytes word) words.now) (task_variants.Locate inputs.now keep made) files
+    ensures { (files : option (list NamedFile)) (inputs : Reads) (plan : Planned) (ms : list Parts) (keep : list (list ℕ)) (made : Made)
+        → AreRefusedKept files inputs (all_files names.now) keep plan ms (flat_of flat.now) refusal.now
+        → Tells (map (λ word. string_bytes word) words.now) (task_variants.Locate inputs keep made) files
         (call_of H.meaning H.faults host.old host.new) result }
 {
     match refusal {
-        PruneRefusal::Unknown(name) => explain_unknown(alloc, words, inputs, flat, name, host),
+        PruneRefusal::Unknown(name) => explain_unknown(alloc, words, names, flat, name, host),
         PruneRefusal::NoMemory => Outcome::NoMemory,
     }
 }
@@ -199,6 +203,7 @@ fn explain_shared_name<H: Host>(
     alloc: Global,
     words: &[String],
     inputs: &Inputs,
+    names: &ModuleFiles,
     flat: &[FlatModule<'_>],
     plan: &Plan,
     name: &Bytes,
@@ -207,12 +212,12 @@ fn explain_shared_name<H: Host>(
     requires few { length flat.now < 2 ^ 32 }
     requires plan { IsReadPlan plan.now }
     ensures { (files : option (list NamedFile)) (ms : list Parts) (keep : list (list ℕ)) (made : Made) (part : Parts) (origins : list Origin)
-        → AreUnlocated files inputs.now keep plan.now ms (flat_of flat.now) part origins
+        → AreUnlocated files inputs.now (all_files names.now) keep plan.now ms (flat_of flat.now) part origins
         → planned_answer (part ∷ []) plan.now ≡ Some (shared_name name.now)
         → Tells (map (λ word. string_bytes word) words.now) (task_variants.Locate inputs.now keep made) files
         (call_of H.meaning H.faults host.old host.new) result }
 {
-    match explain_shared(alloc, inputs.files.as_slice(), flat, plan, name.as_slice()) {
+    match explain_shared(alloc, names, flat, plan, name.as_slice()) {
         Ok(details) => print_explanation(
             alloc,
             words,
@@ -231,7 +236,7 @@ fn explain_shared_name<H: Host>(
 fn explain_fact<H: Host>(
     alloc: Global,
     words: &[String],
-    inputs: &Inputs,
+    names: &ModuleFiles,
     flat: &[FlatModule<'_>],
     part: &TracedModule,
     object: &Module,
@@ -244,15 +249,15 @@ fn explain_fact<H: Host>(
     requires plan { IsReadPlan plan.now }
     requires met { IsMet (copied_answer (object.now ∷ []) plan.now) refusal.now }
     requires memory { refusal.now ≢ LocateRefusal.NoMemory }
-    ensures { (files : option (list NamedFile)) (ms : list Parts) (keep : list (list ℕ)) (made : Made)
-        → AreUnlocated files inputs.now keep plan.now ms (flat_of flat.now) part.now.object part.now.origins
+    ensures { (files : option (list NamedFile)) (inputs : Reads) (ms : list Parts) (keep : list (list ℕ)) (made : Made)
+        → AreUnlocated files inputs (all_files names.now) keep plan.now ms (flat_of flat.now) part.now.object part.now.origins
         → IsLocatedAs part.now.object plan.now object.now
         → IsMetBy (planned_answer (part.now.object ∷ []) plan.now) (PlannedRefusal.Locate refusal.now)
-        → Tells (map (λ word. string_bytes word) words.now) (task_variants.Locate inputs.now keep made) files
+        → Tells (map (λ word. string_bytes word) words.now) (task_variants.Locate inputs keep made) files
         (call_of H.meaning H.faults host.old host.new) result }
 {
     let context = LocateContext {
-        names: inputs.files.as_slice(),
+        names,
         flat,
         origins: &part.origins,
         object,
@@ -276,7 +281,7 @@ fn explain_fact<H: Host>(
 fn explain_with_symbols<H: Host>(
     alloc: Global,
     words: &[String],
-    inputs: &Inputs,
+    names: &ModuleFiles,
     flat: &[FlatModule<'_>],
     part: &TracedModule,
     plan: &Plan,
@@ -290,14 +295,14 @@ fn explain_with_symbols<H: Host>(
     requires some { plan.now.symbols ≢ [] }
     requires met { IsMetBy (planned_answer (part.now.object ∷ []) plan.now) (PlannedRefusal.Locate refusal.now) }
     requires memory { refusal.now ≢ LocateRefusal.NoMemory }
-    ensures { (files : option (list NamedFile)) (ms : list Parts) (keep : list (list ℕ)) (made : Made)
-        → AreUnlocated files inputs.now keep plan.now ms (flat_of flat.now) part.now.object part.now.origins
-        → Tells (map (λ word. string_bytes word) words.now) (task_variants.Locate inputs.now keep made) files
+    ensures { (files : option (list NamedFile)) (inputs : Reads) (ms : list Parts) (keep : list (list ℕ)) (made : Made)
+        → AreUnlocated files inputs (all_files names.now) keep plan.now ms (flat_of flat.now) part.now.object part.now.origins
+        → Tells (map (λ word. string_bytes word) words.now) (task_variants.Locate inputs keep made) files
         (call_of H.meaning H.faults host.old host.new) result }
 {
     match with_plan_symbols(alloc, &part.object, plan) {
         Ok(object) => explain_fact(
-            alloc, words, inputs, flat, part, &object, plan, refusal, host,
+            alloc, words, names, flat, part, &object, plan, refusal, host,
         ),
         Err(NoMemory) => Outcome::NoMemory,
     }
@@ -307,7 +312,7 @@ fn explain_with_symbols<H: Host>(
 fn explain_planned<H: Host>(
     alloc: Global,
     words: &[String],
-    inputs: &Inputs,
+    names: &ModuleFiles,
     flat: &[FlatModule<'_>],
     part: &TracedModule,
     plan: &Plan,
@@ -320,18 +325,16 @@ fn explain_planned<H: Host>(
     requires plan { IsReadPlan plan.now }
     requires met { IsMetBy (planned_answer (part.now.object ∷ []) plan.now) (PlannedRefusal.Locate refusal.now) }
     requires memory { refusal.now ≢ LocateRefusal.NoMemory }
-    ensures { (files : option (list NamedFile)) (ms : list Parts) (keep : list (list ℕ)) (made : Made)
-        → AreUnlocated files inputs.now keep plan.now ms (flat_of flat.now) part.now.object part.now.origins
-        → Tells (map (λ word. string_bytes word) words.now) (task_variants.Locate inputs.now keep made) files
+    ensures { (files : option (list NamedFile)) (inputs : Reads) (ms : list Parts) (keep : list (list ℕ)) (made : Made)
+        → AreUnlocated files inputs (all_files names.now) keep plan.now ms (flat_of flat.now) part.now.object part.now.origins
+        → Tells (map (λ word. string_bytes word) words.now) (task_variants.Locate inputs keep made) files
         (call_of H.meaning H.faults host.old host.new) result }
 {
     if plan.symbols.is_empty() {
         let object = &part.object;
-        return explain_fact(
-            alloc, words, inputs, flat, part, object, plan, refusal, host,
-        );
+        return explain_fact(alloc, words, names, flat, part, object, plan, refusal, host);
     }
-    explain_with_symbols(alloc, words, inputs, flat, part, plan, refusal, host)
+    explain_with_symbols(alloc, words, names, flat, part, plan, refusal, host)
 }
 
 // Explains why what is kept is not located: it cannot be, or memory ran out.
@@ -339,6 +342,7 @@ fn explain_unlocated<H: Host>(
     alloc: Global,
     words: &[String],
     inputs: &Inputs,
+    names: &ModuleFiles,
     flat: &[FlatModule<'_>],
     part: &TracedModule,
     plan: &Plan,
@@ -351,17 +355,17 @@ fn explain_unlocated<H: Host>(
     requires plan { IsReadPlan plan.now }
     requires met { IsMetBy (planned_answer (part.now.object ∷ []) plan.now) refusal.now }
     ensures { (files : option (list NamedFile)) (ms : list Parts) (keep : list (list ℕ)) (made : Made)
-        → AreUnlocated files inputs.now keep plan.now ms (flat_of flat.now) part.now.object part.now.origins
+        → AreUnlocated files inputs.now (all_files names.now) keep plan.now ms (flat_of flat.now) part.now.object part.now.origins
         → Tells (map (λ word. string_bytes word) words.now) (task_variants.Locate inputs.now keep made) files
         (call_of H.meaning H.faults host.old host.new) result }
 {
     match refusal {
         PlannedRefusal::SharedName(name) => {
-            explain_shared_name(alloc, words, inputs, flat, plan, name, host)
+            explain_shared_name(alloc, words, inputs, names, flat, plan, name, host)
         }
         PlannedRefusal::Locate(LocateRefusal::NoMemory) => Outcome::NoMemory,
         PlannedRefusal::Locate(refusal) => {
-            explain_planned(alloc, words, inputs, flat, part, plan, refusal, host)
+            explain_planned(alloc, words, names, flat, part, plan, refusal, host)
         }
     }
 }
@@ -372,20 +376,21 @@ fn explain_obstacle<H: Host>(
     words: &[String],
     inputs: &Inputs,
     keep: &List<Bytes>,
+    names: &ModuleFiles,
     modules: &[Module],
     obstacle: &Obstacle,
     host: &mut H,
 ) -> Outcome
     requires linkable { AreLinkable inputs.now modules.now }
     requires obstacle { IsObstacle (tree_of inputs.now.marks) keep.now modules.now obstacle.now }
-    ensures { (files : option (list NamedFile)) (plan : Planned) (made : Made) → AreReadFrom files inputs.now plan modules.now
+    ensures { (files : option (list NamedFile)) (plan : Planned) (made : Made) → AreReadFrom files inputs.now (all_files names.now) plan modules.now
         → HasPlan plan obstacle.now
         → Tells (map (λ word. string_bytes word) words.now) (task_variants.Locate inputs.now keep.now made) files
         (call_of H.meaning H.faults host.old host.new) result }
 {
     match obstacle {
         Obstacle::Unlinked(refusal) => {
-            explain_unlinked(alloc, words, inputs, modules, refusal, host)
+            explain_unlinked(alloc, words, inputs, names, modules, refusal, host)
         }
         Obstacle::Unkept {
             refusal,
@@ -395,7 +400,7 @@ fn explain_obstacle<H: Host>(
             let Ok(flat) = flat_list(alloc, inputs, modules, places) else {
                 return Outcome::NoMemory;
             };
-            explain_unkept(alloc, words, inputs, &flat, refusal, host)
+            explain_unkept(alloc, words, names, &flat, refusal, host)
         }
         Obstacle::Unlocated {
             refusal,
@@ -406,29 +411,31 @@ fn explain_obstacle<H: Host>(
             let Ok(flat) = flat_list(alloc, inputs, modules, places) else {
                 return Outcome::NoMemory;
             };
-            explain_unlocated(alloc, words, inputs, &flat, part, plan, refusal, host)
+            explain_unlocated(
+                alloc, words, inputs, names, &flat, part, plan, refusal, host,
+            )
         }
     }
 }
 
-// Explains what is made of a location.
+// Explains what is made of a location; `names` are the files of all modules that were read.
 fn explain_product<H: Host>(
     alloc: Global,
     words: &[String],
-    inputs: &Inputs,
     product: &Product,
+    names: ModuleFiles,
     location: Location,
     host: &mut H,
 ) -> Outcome
     requires located { AreLocated location }
     requires light { weight (absolute_of location.located) < 2 ^ 32 }
-    ensures { (files : option (list NamedFile)) (keep : list (list ℕ)) (plan : Planned) (ms : list Parts)
-        → AreReadFrom files inputs.now plan ms → AreMapped (tree_of inputs.now.marks) (roots_by keep plan) plan ms location
-        → Tells (map (λ word. string_bytes word) words.now) (task_variants.Locate inputs.now keep product.now) files
+    ensures { (files : option (list NamedFile)) (inputs : Reads) (keep : list (list ℕ)) (plan : Planned) (ms : list Parts)
+        → AreReadFrom files inputs (all_files names) plan ms → AreMapped (tree_of inputs.marks) (roots_by keep plan) plan ms location
+        → Tells (map (λ word. string_bytes word) words.now) (task_variants.Locate inputs keep product.now) files
         (call_of H.meaning H.faults host.old host.new) result }
 {
     let out = file_of(product);
-    match ready_of(alloc, product, inputs.files.as_slice(), location) {
+    match ready_of(alloc, product, names, location) {
         Ok(_) => print_done(alloc, words, out, host),
         Err(answer) => print_explanation(
             alloc,
@@ -453,23 +460,23 @@ fn explain_loaded<H: Host>(
 ) -> Outcome
     requires linkable { AreLinkable inputs.now loaded.modules }
     requires plan { IsReadPlan loaded.plan }
-    ensures { (files : option (list NamedFile)) → AreReadFrom files inputs.now loaded.plan loaded.modules
+    ensures { (files : option (list NamedFile)) → AreReadFrom files inputs.now (all_files loaded.files) loaded.plan loaded.modules
         → Tells (map (λ word. string_bytes word) words.now) (task_variants.Locate inputs.now keep.now product.now) files
         (call_of H.meaning H.faults host.old host.new) result }
 {
-    let Loaded { plan, modules } = loaded;
+    let Loaded {
+        plan,
+        modules,
+        files,
+    } = loaded;
     let Ok(spare) = copies(alloc, modules.as_slice()) else {
         return Outcome::NoMemory;
     };
-    let spare = Loaded {
-        plan,
-        modules: spare,
-    };
-    match locate_modules(alloc, inputs, keep, spare) {
-        Ok(location) => explain_product(alloc, words, inputs, product, location, host),
+    match locate_modules(alloc, inputs, keep, plan, spare) {
+        Ok(location) => explain_product(alloc, words, product, files, location, host),
         Err(obstacle) => {
             let modules = modules.as_slice();
-            explain_obstacle(alloc, words, inputs, keep, modules, &obstacle, host)
+            explain_obstacle(alloc, words, inputs, keep, &files, modules, &obstacle, host)
         }
     }
 }
@@ -511,21 +518,25 @@ fn explain_linked<H: Host>(
     inputs: &Inputs,
     name: &Option<Bytes>,
     out: &Text,
-    modules: &[Module],
+    loaded: &Loaded,
     host: &mut H,
 ) -> Outcome
-    requires linkable { AreLinkable inputs.now modules.now }
+    requires linkable { AreLinkable inputs.now loaded.now.modules }
     requires short { IfSome name.now (λ given. length given < 2 ^ 16) }
-    ensures { (files : option (list NamedFile)) (plan : Planned) → AreReadFrom files inputs.now plan modules.now
+    ensures { (files : option (list NamedFile)) → AreReadFrom files inputs.now (all_files loaded.now.files) loaded.now.plan loaded.now.modules
         → Tells (map (λ word. string_bytes word) words.now) (task_variants.Link inputs.now name.now out.now) files
         (call_of H.meaning H.faults host.old host.new) result }
 {
+    let modules = loaded.modules.as_slice();
     let Ok(spare) = copies(alloc, modules) else {
         return Outcome::NoMemory;
     };
     match link_file(alloc, inputs, name, out, spare) {
         Ok(_) => print_done(alloc, words, Some(out), host),
-        Err(refusal) => explain_unlinked(alloc, words, inputs, modules, &refusal, host),
+        Err(refusal) => {
+            let names = &loaded.files;
+            explain_unlinked(alloc, words, inputs, names, modules, &refusal, host)
+        }
     }
 }
 
@@ -545,10 +556,7 @@ pub(crate) fn explain_link<H: Host>(
     ensures { Explains (map (λ word. string_bytes word) words.now) (call_of H.meaning H.faults host.old host.new) result }
 {
     match read_or_unread(alloc, inputs, host) {
-        Ok(loaded) => {
-            let modules = loaded.modules.as_slice();
-            explain_linked(alloc, words, inputs, name, out, modules, host)
-        }
+        Ok(loaded) => explain_linked(alloc, words, inputs, name, out, &loaded, host),
         Err(unread) => {
             let told = host.cause();
             let Ok(details) = unread_details(alloc, inputs, told, &unread) else {

@@ -1,5 +1,5 @@
-//! The modules of the files of a run, prepared for explaining: copies to link, and lists of modules with
-//! their files.
+//! The modules of a run, prepared for explaining: copies to link, and lists of modules with their places among
+//! all that were read.
 
 ghost use Rattle.std.specs.Prelude.{◌≡◌, ◌++◌, ◌+◌, ◌≤◌, ◌∷◌, [], length, option_map, option_to_list, slice_get, IfOk, OnOk};
 ghost use Rattle.mufom_origins.specs.Origins.{numbered};
@@ -23,14 +23,14 @@ pub(crate) fn copies(alloc: Global, modules: &[Module]) -> Result<List<Module>, 
     Ok(copies)
 }
 
-// The module of the file with a number, if there is one.
+// The module at a place, if there is one.
 fn module_at(modules: &[Module], file: u32) -> Option<&Module>
     ensures { option_map (λ m. m.now) result ≡ slice_get modules.now file }
 {
     modules.get(file as usize)
 }
 
-// Appends a module, which was read from the file with this number.
+// Appends a module with its place.
 fn push_module<'a>(
     flat: &mut Vec<FlatModule<'a>>,
     file: u32,
@@ -46,7 +46,7 @@ fn push_module<'a>(
     Ok(())
 }
 
-// Appends a module, if there is one, which was read from the file with this number.
+// Appends a module with its place, if there is one.
 fn push_file<'a>(
     flat: &mut Vec<FlatModule<'a>>,
     file: u32,
@@ -62,7 +62,7 @@ fn push_file<'a>(
     }
 }
 
-/// The modules of the files with these numbers.
+/// The modules at these places.
 pub(crate) fn flat_modules<'a>(
     alloc: Global,
     modules: &'a [Module],

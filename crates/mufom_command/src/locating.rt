@@ -25,24 +25,25 @@ use mufom_origins::Origins;
 use mufom_outcome::{Outcome, outcome_of_link, outcome_of_planned, outcome_of_prune};
 use mufom_plan::Plan;
 use mufom_prune::{PruneRefusal, Pruned, prune_for};
-use mufom_task::{Inputs, Loaded};
+use mufom_task::Inputs;
 use std::alloc::Global;
 
 /// A module with the origins of its entries.
 #[derive(Drop)]
 pub(crate) struct TracedModule {
-    /// The modules of the flat list, with their files and the numbers of their entries that the module has.
+    /// The modules of the flat list, with their places among all modules that were read, and the numbers of
+    /// their entries that the module has.
     pub(crate) origins: Origins,
     /// The link of the flat list, or what is kept of it.
     pub(crate) object: Module,
 }
 
-/// The files of a flat list.
+/// The places of the modules of a flat list, among all modules that were read.
 #[derive(Drop)]
 pub(crate) struct Places {
-    /// The number of files of the tree, which come first.
+    /// The number of modules of the tree, which come first.
     pub(crate) roots: usize,
-    /// The positions of the members that were selected, among the files after those of the tree.
+    /// The positions of the members that were selected, among the modules after those of the tree.
     pub(crate) chosen: List<u32>,
 }
 
@@ -90,8 +91,8 @@ pub(crate) fn outcome_of_obstacle(obstacle: Obstacle) -> Outcome
     }
 }
 
-// Links the modules of a task into one, and returns it with the origins of its entries and the places of its
-// files.
+// Links the modules of a task into one, and returns it with the origins of its entries and the places of the
+// modules of its flat list.
 fn traced_link(
     alloc: Global,
     inputs: &Inputs,
@@ -218,21 +219,22 @@ fn locate_part(
 }
 
 /// Links the modules of a task, and locates the link, or what remains of it if public symbols are named that
-/// should be kept. The plan's names of sections say which sections then stay too. Returns the location, or what keeps the modules from having one.
+/// should be kept. The plan's names of sections say which sections then stay too. Returns the location, or what
+/// keeps the modules from having one.
 pub(crate) fn locate_modules(
     alloc: Global,
     inputs: &Inputs,
     keep: &List<Bytes>,
-    loaded: Loaded,
+    plan: Plan,
+    modules: List<Module>,
 ) -> Result<Location, Obstacle>
-    requires linkable { AreLinkable inputs.now loaded.modules }
-    requires plan { IsReadPlan loaded.plan }
-    ensures ok { IfOk result (AreMapped (tree_of inputs.now.marks) (roots_by keep.now loaded.plan) loaded.plan loaded.modules) }
+    requires linkable { AreLinkable inputs.now modules }
+    requires plan { IsReadPlan plan }
+    ensures ok { IfOk result (AreMapped (tree_of inputs.now.marks) (roots_by keep.now plan) plan modules) }
     ensures light { IfOk result (λ location. weight (absolute_of location.located) < 2 ^ 32) }
-    ensures obstacle { IfErr result (IsObstacle (tree_of inputs.now.marks) keep.now loaded.modules) }
-    ensures planned { IfErr result (HasPlan loaded.plan) }
+    ensures obstacle { IfErr result (IsObstacle (tree_of inputs.now.marks) keep.now modules) }
+    ensures planned { IfErr result (HasPlan plan) }
 {
-    let Loaded { plan, modules } = loaded;
     let (whole, places) = match traced_link(alloc, inputs, modules) {
         Ok(link) => link,
         Err(refusal) => return Err(Obstacle::Unlinked(refusal)),

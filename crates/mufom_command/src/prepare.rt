@@ -28,7 +28,7 @@ use mufom_link::LinkRefusal;
 use mufom_module::{Module, a_module_is_valid};
 use mufom_numbers::{Bytes, List, NoMemory, Text};
 use mufom_outcome::{Outcome, outcome_of_link};
-use mufom_task::{Inputs, Product, Task, read_inputs, read_text};
+use mufom_task::{Inputs, Loaded, Product, Task, read_inputs, read_text};
 use mufom_text::TextForm;
 use std::alloc::Global;
 
@@ -134,7 +134,7 @@ fn prepare_link<'a, H: Host>(
 // Reads, links and locates the files of whose location something is made.
 fn prepare_location<'a, H: Host>(
     alloc: Global,
-    inputs: &'a Inputs,
+    inputs: &Inputs,
     keep: &List<Bytes>,
     product: &'a Product,
     host: &mut H,
@@ -149,11 +149,16 @@ fn prepare_location<'a, H: Host>(
         Ok(loaded) => loaded,
         Err(stop) => return Err(stop),
     };
-    let location = match locate_modules(alloc, inputs, keep, loaded) {
+    let Loaded {
+        plan,
+        modules,
+        files,
+    } = loaded;
+    let location = match locate_modules(alloc, inputs, keep, plan, modules) {
         Ok(location) => location,
         Err(obstacle) => return Err(outcome_of_obstacle(obstacle)),
     };
-    match ready_of(alloc, product, inputs.files.as_slice(), location) {
+    match ready_of(alloc, product, files, location) {
         Ok(ready) => Ok(ready),
         Err(stop) => Err(stop),
     }

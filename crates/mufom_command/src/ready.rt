@@ -4,6 +4,7 @@ ghost use Rattle.std.specs.Prelude.{◌≡◌, ◌⊎◌, ◌<◌, ◌^◌, Some
 ghost use Rattle.mufom_host.specs.World.{OnlyPrints};
 ghost use Rattle.mufom_map.specs.MapText.{address_text, map_text, view_text};
 ghost use Rattle.mufom_module.specs.Written.{weight};
+ghost use Rattle.mufom_origins.specs.Words.{all_files};
 ghost use Rattle.mufom_meaning.specs.Absolute.{absolute_of};
 ghost use Rattle.mufom_text.specs.Image.{image_text};
 ghost use Rattle.mufom_text.specs.Show.{text_of};
@@ -30,6 +31,7 @@ use mufom_map::{print_address, print_map};
 use mufom_module::{Module, a_module_is_valid};
 use mufom_numbers::limits::MOST_FILE_BYTES;
 use mufom_numbers::{Bytes, List, NoMemory, Text};
+use mufom_origins::ModuleFiles;
 use mufom_outcome::{BinRefusal, Outcome, Refusal};
 use mufom_plan::Region;
 use mufom_task::Product;
@@ -76,9 +78,10 @@ pub(crate) enum Ready<'a> {
     },
     /// The text of an image.
     Image(Located),
-    /// The text of a map, or the lines of one address of it. `names` are the names of all files.
+    /// The text of a map, or the lines of one address of it. `names` are the files of all modules that were
+    /// read.
     Map {
-        names: &'a [Text],
+        names: ModuleFiles,
         at: Option<u64>,
         location: Location,
     },
@@ -176,18 +179,18 @@ fn region_file<'a>(
 
 /// What is made of a location, complete up to the calls that print or write it; or the outcome of the run, if
 /// there is no region with the name that is given, if there are too many bytes, or if memory runs out. `names`
-/// are the names of all files.
+/// are the files of all modules that were read; only a map shows them.
 pub(crate) fn ready_of<'a>(
     alloc: Global,
     product: &'a Product,
-    names: &'a [Text],
+    names: ModuleFiles,
     location: Location,
 ) -> Result<Ready<'a>, Outcome>
     requires located { AreLocated location }
     requires light { weight (absolute_of location.located) < 2 ^ 32 }
-    ensures ok { IfOk result (λ ready. product_of product.now names.now (shown_of location) location.located (gives (ready_output ready))) }
+    ensures ok { IfOk result (λ ready. product_of product.now (all_files names) (shown_of location) location.located (gives (ready_output ready))) }
     ensures ready { IfOk result IsReady }
-    ensures stops { IfErr result (EndsAt (product_of product.now names.now (shown_of location) location.located)) }
+    ensures stops { IfErr result (EndsAt (product_of product.now (all_files names) (shown_of location) location.located)) }
 {
     match product {
         Product::Absolute { out } => absolute_file(alloc, out, location.located),
@@ -252,12 +255,12 @@ fn print_located<H: Host>(alloc: Global, located: &Located, host: &mut H) -> Out
 // Prints the whole map of a location.
 fn print_whole_map<H: Host>(
     alloc: Global,
-    names: &[Text],
+    names: &ModuleFiles,
     location: &Location,
     host: &mut H,
 ) -> Outcome
     requires { AreLocated location.now }
-    ensures answer { IsPrinted (map_text names.now (shown_of location.now)) (call_of H.meaning H.faults host.old host.new) result }
+    ensures answer { IsPrinted (map_text (all_files names.now) (shown_of location.now)) (call_of H.meaning H.faults host.old host.new) result }
     ensures only { OnlyPrints (H.meaning host.old) (H.meaning host.new) (H.faults host.old) (H.faults host.new) }
 {
     let Location {
@@ -319,13 +322,13 @@ fn print_spot<H: Host>(alloc: Global, address: u64, location: &Location, host: &
 // Prints the map of a location, or the lines of one address of it.
 fn print_mapped<H: Host>(
     alloc: Global,
-    names: &[Text],
+    names: &ModuleFiles,
     at: Option<u64>,
     location: &Location,
     host: &mut H,
 ) -> Outcome
     requires { AreLocated location.now }
-    ensures answer { IsPrinted (view_text names.now at (shown_of location.now)) (call_of H.meaning H.faults host.old host.new) result }
+    ensures answer { IsPrinted (view_text (all_files names.now) at (shown_of location.now)) (call_of H.meaning H.faults host.old host.new) result }
     ensures only { OnlyPrints (H.meaning host.old) (H.meaning host.new) (H.faults host.old) (H.faults host.new) }
 {
     match at {

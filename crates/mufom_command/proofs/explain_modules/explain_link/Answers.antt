@@ -1,15 +1,14 @@
-use Rattle.std.proofs.Common.{List, arith, map, refl, subst, sym, ℕ}
+use Rattle.std.proofs.Common.{List, arith, map, refl, ℕ}
 use Rattle.std.specs.String.{string_bytes}
 use Rattle.mufom_host.specs.World.{OnlyPrints}
 use Rattle.mufom_command.proofs.ExplainReading.{inputs-end, task-opens, unread-explains, untold-explains}
 use Rattle.mufom_command.proofs.ToldLaws.{told-all}
-use Rattle.mufom_command.proofs.WorkLaws.{linking-begins}
-use Rattle.mufom_command.specs.RunParts.{AreReadFrom}
+use Rattle.mufom_command.proofs.WorkLaws.{linking-begins, read-from}
 use Rattle.mufom_command.specs.Told.{told_text}
 use Rattle.mufom_command.specs.Works.{linked_file}
-use Rattle.mufom_module.specs.declared.module.Parts.{Parts}
 use Rattle.mufom_task.specs.InputsRead.{inputs_in}
 use Rattle.mufom_task.specs.declared.task.Task.TheVariants as task
+use Rattle.mufom_origins.specs.Words.{all_files}
 use Rattle.mufom_command.proofs.explain_modules.explain_link.Goals as goal
 
 pub returns-in-Ok : goal.returns-in-Ok
@@ -20,8 +19,8 @@ returns-in-Ok g c =
     let new = g.H.World.meaning c.explain_linked.new.host in let now = g.H.World.faults c.explain_linked.new.host in
     let read = c.in-Ok.ensures in let inputs = c.args.inputs.now in let name = c.args.name.now in let out = c.args.out.now in
     told-all words (task.Link inputs name out) c.requires.asks old mid new before between now read.only read.all c.explain_linked.result
-    (c.explain_linked.ensures old.files c.in-Ok.loaded.plan
-    (subst (λ (l : List Parts). AreReadFrom old.files inputs c.in-Ok.loaded.plan l) (sym c.as_slice-modules.ensures) read.read))
+    (c.explain_linked.ensures old.files
+    (read-from old.files inputs (all_files c.in-Ok.loaded.files) c.in-Ok.loaded.plan c.in-Ok.loaded.modules read.read read.files))
 
 pub returns-in-Ok-unread_details : goal.returns-in-Ok-unread_details
 returns-in-Ok-unread_details g c =

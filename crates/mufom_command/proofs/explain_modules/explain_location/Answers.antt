@@ -3,13 +3,11 @@ use Rattle.std.specs.String.{string_bytes}
 use Rattle.mufom_host.specs.World.{OnlyPrints}
 use Rattle.mufom_command.proofs.ExplainReading.{inputs-end, task-opens, unread-explains, untold-explains}
 use Rattle.mufom_command.proofs.ToldLaws.{told-all}
-use Rattle.mufom_command.proofs.WorkLaws.{linking-begins}
+use Rattle.mufom_command.proofs.WorkLaws.{locating-begins, read-from}
 use Rattle.mufom_command.specs.Told.{told_text}
-use Rattle.mufom_command.specs.Roots.{roots_by}
-use Rattle.mufom_command.specs.Works.{locating_kept, producing}
 use Rattle.mufom_task.specs.InputsRead.{inputs_in}
-use Rattle.mufom_words.specs.Tree.{tree_of}
 use Rattle.mufom_task.specs.declared.task.Task.TheVariants as task
+use Rattle.mufom_origins.specs.Words.{all_files}
 use Rattle.mufom_command.proofs.explain_modules.explain_location.Goals as goal
 
 pub returns-in-Ok : goal.returns-in-Ok
@@ -20,7 +18,8 @@ returns-in-Ok g c =
     let new = g.H.World.meaning c.explain_loaded.new.host in let now = g.H.World.faults c.explain_loaded.new.host in
     let read = c.in-Ok.ensures in let inputs = c.args.inputs.now in let keep = c.args.keep.now in let p = c.args.product.now in
     told-all words (task.Locate inputs keep p) c.requires.asks old mid new before between now read.only read.all c.explain_loaded.result
-    (c.explain_loaded.ensures old.files read.read)
+    (c.explain_loaded.ensures old.files
+    (read-from old.files inputs (all_files c.in-Ok.loaded.files) c.in-Ok.loaded.plan c.in-Ok.loaded.modules read.read read.files))
 
 pub returns-in-Ok-unread_details : goal.returns-in-Ok-unread_details
 returns-in-Ok-unread_details g c =
@@ -32,8 +31,7 @@ returns-in-Ok-unread_details g c =
     let put = c.print_explanation.ensures in let some = c.requires.sound.some in let within = c.requires.sound.tree.within in
     unread-explains words (task.Locate inputs keep p) c.requires.asks old mid before between read.only new now put.only (λ fs. inputs_in fs inputs)
     (inputs-end inputs)
-    (linking-begins (λ ms plan flat. locating_kept (producing p inputs.files (tree_of inputs.marks) ms plan) (roots_by keep plan) plan flat) inputs)
-    refl (omega (arith, some, within)) c.in-Err.unread.outcome
+    (locating-begins keep p inputs) refl (omega (arith, some, within)) c.in-Err.unread.outcome
     read.stops read.opened read.named c.cause-told.result c.in-Err.unread.plan.items (told_text c.in-Ok-unread_details.details) read.text c.in-Ok-unread_details.ensures
     c.print_explanation.result put.answer put.told
 

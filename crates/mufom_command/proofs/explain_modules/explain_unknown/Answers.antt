@@ -1,4 +1,4 @@
-use Rattle.std.proofs.Common.{List, map, ℕ, ◌∙◌}
+use Rattle.std.proofs.Common.{List, ap, map, ℕ, ◌∙◌}
 use Rattle.std.specs.String.{string_bytes}
 use Rattle.mufom_command.proofs.ToldEnds.{unknown-over}
 use Rattle.mufom_command.proofs.ToldLaws.{told-printed}
@@ -8,16 +8,16 @@ use Rattle.mufom_explain.specs.Flat.{flat_of}
 use Rattle.mufom_outcome.specs.declared.outcome.Refusal.TheVariants as refusal
 use Rattle.mufom_outcome.specs.declared.outcome.Outcome.TheVariants as outcome
 use Rattle.mufom_task.specs.declared.task.Task.TheVariants as task
+use Rattle.mufom_origins.specs.Words.{all_files}
 use Rattle.mufom_command.proofs.explain_modules.explain_unknown.Goals as goal
 
 pub returns-in-Ok : goal.returns-in-Ok
-returns-in-Ok g c = λ files plan ms keep made is.
+returns-in-Ok g c = λ files inputs plan ms keep made is.
     let words : List (List ℕ) = map (λ word. string_bytes word) c.args.words.now in
     let old = g.H.World.meaning c.args.host.now in let new = g.H.World.meaning c.print_explanation.new.host in
     let before = g.H.World.faults c.args.host.now in let now = g.H.World.faults c.print_explanation.new.host in
-    let inputs = c.args.inputs.now in let name = c.args.name.now in
+    let names = all_files c.args.names.now in let name = c.args.name.now in
     let flat = flat_of c.args.flat.now in let text : List ℕ = name_text c.in-Ok.details in
     told-printed words (task.Locate inputs keep made) files old new before now c.print_explanation.ensures.only (outcome.Refused (refusal.Keep name)) text
     c.print_explanation.result c.print_explanation.ensures.answer
-    (unknown-over files inputs keep made plan ms flat name text is
-    (c.in-Ok.ensures ∙ (λ i. name_details (c.as_slice.ensures i) flat (c.as_slice-2.ensures i))))
+    (unknown-over files inputs names keep made plan ms flat name text is (c.in-Ok.ensures ∙ ap (name_details names flat) c.as_slice.ensures))

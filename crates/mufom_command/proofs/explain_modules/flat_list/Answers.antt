@@ -20,7 +20,7 @@ flat_files-requires-clause-members c =
     let size = length-drop (length (leaves tree)) ms in
     subst (All (λ position. places.roots + position < 2 ^ 32)) (sym c.as_slice.ensures)
     (selected-after (roots tree ms) (members tree ms) places.chosen c.requires.places.selected places.roots (2 ^ 32)
-    (omega (arith, size, c.requires.places.counted, linkable.count, linkable.sound.few, linkable.sound.tree.within)))
+    (omega (arith, size, c.requires.places.counted, linkable.few, linkable.count.within)))
 
 pub returns-clause-flat : goal.returns-clause-flat
 returns-clause-flat c =
@@ -28,7 +28,7 @@ returns-clause-flat c =
     let first : leaves tree ≡ numbers_from 0 places.roots
     = c.requires.linkable.sound.tree.numbered ∙ ap (λ (n : ℕ). numbers_from 0 n) (sym c.requires.places.counted) in
     let files = c.as_slice-2.ensures
-    ∙ c.in_ok-files.ensures ∙ ap (λ (l : List ℕ). numbers_from 0 places.roots ++ map (λ position. places.roots + position) l) c.as_slice.ensures in
+    ∙ c.in_ok-places.ensures ∙ ap (λ (l : List ℕ). numbers_from 0 places.roots ++ map (λ position. places.roots + position) l) c.as_slice.ensures in
     if-ok-map c.flat_modules.result (λ flat. flat_of flat.items ≡ at_positions (numbered ms) c.as_slice-2.result.now)
     (λ flat. flat_of flat.items ≡ files_with tree ms places.chosen)
     (λ flat is. is ∙ ap (at_positions (numbered ms)) files ∙ flat-positions tree ms places.chosen places.roots first) c.flat_modules.ensures.flat
@@ -37,7 +37,7 @@ pub returns-clause-few : goal.returns-clause-few
 returns-clause-few c =
     let tree = tree_of c.args.inputs.now.marks in let ms = c.args.modules.now in let linkable = c.requires.linkable in let places = c.args.places.now in
     let own = ap (λ (l : List ℕ). length l) c.as_slice-2.ensures in
-    let files = ap (λ (l : List ℕ). length l) c.in_ok-files.ensures in
+    let files = ap (λ (l : List ℕ). length l) c.in_ok-places.ensures in
     let chosen = ap (λ (l : List ℕ). length l) c.as_slice.ensures in
     let sum = length-append (numbers_from 0 places.roots) (map (λ position. places.roots + position) c.as_slice.result.now) in
     let first = numbers-count 0 places.roots in
@@ -57,7 +57,6 @@ returns-clause-few c =
       few,
       size,
       c.requires.places.counted,
-      linkable.count,
-      linkable.sound.few,
-      linkable.sound.tree.within,
+      linkable.few,
+      linkable.count.within,
     )) c.flat_modules.ensures.count

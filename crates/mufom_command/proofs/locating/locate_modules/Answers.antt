@@ -9,11 +9,11 @@ use Rattle.mufom_command.proofs.locating.locate_modules.Goals as goal
 
 pub kept_part-requires-clause-names : goal.kept_part-requires-clause-names
 kept_part-requires-clause-names c =
-    link-names (tree_of c.args.inputs.now.marks) c.args.loaded.modules c.requires.linkable.valid c.in-Ok.link.0.object c.in-Ok.ensures.ok.links
+    link-names (tree_of c.args.inputs.now.marks) c.args.modules c.requires.linkable.valid c.in-Ok.link.0.object c.in-Ok.ensures.ok.links
 
 pub returns-in-Ok-kept_part-clause-ok : goal.returns-in-Ok-kept_part-clause-ok
 returns-in-Ok-kept_part-clause-ok c =
-    let tree = tree_of c.args.inputs.now.marks in let keep = roots_by c.args.keep.now c.args.loaded.plan in let plan = c.args.loaded.plan in let ms = c.args.loaded.modules in
+    let tree = tree_of c.args.inputs.now.marks in let keep = roots_by c.args.keep.now c.args.plan in let plan = c.args.plan in let ms = c.args.modules in
     let whole = c.in-Ok.link.0 in let places = c.in-Ok.link.1 in let part = c.in-Ok-kept_part.part in
     let same : roots_with c.as_slice.result.now c.as_slice-2.result.now ≡ keep = λ i. roots_with (c.as_slice.ensures i) (c.as_slice-2.ensures i) in
     if-ok-map c.locate_part.result (LocatesPart part plan) (AreMapped tree keep plan ms)
@@ -22,7 +22,7 @@ returns-in-Ok-kept_part-clause-ok c =
 
 pub returns-in-Ok-kept_part-clause-obstacle : goal.returns-in-Ok-kept_part-clause-obstacle
 returns-in-Ok-kept_part-clause-obstacle c =
-    let tree = tree_of c.args.inputs.now.marks in let names = c.args.keep.now in let plan = c.args.loaded.plan in let ms = c.args.loaded.modules in
+    let tree = tree_of c.args.inputs.now.marks in let names = c.args.keep.now in let plan = c.args.plan in let ms = c.args.modules in
     let whole = c.in-Ok.link.0 in let places = c.in-Ok.link.1 in let part = c.in-Ok-kept_part.part in
     let same : roots_with c.as_slice.result.now c.as_slice-2.result.now ≡ roots_by names plan
     = λ i. roots_with (c.as_slice.ensures i) (c.as_slice-2.ensures i) in

@@ -1,4 +1,5 @@
-use Rattle.std.proofs.Common.{List, None, ap, length, subst, ◌∙◌, ◌≡◌}
+use Rattle.std.proofs.Common.{List, None, ap, length, subst, sym, ◌∙◌, ◌≡◌}
+use Rattle.mufom_command.proofs.WorkLaws.{linkable-tree}
 use Rattle.mufom_groups.specs.Groups.{StopsWork}
 use Rattle.mufom_groups.specs.Linked.{linked_module, members, roots}
 use Rattle.mufom_groups.specs.Work.{gives}
@@ -6,9 +7,15 @@ use Rattle.mufom_meaning.specs.Selection.{IsSelected}
 use Rattle.mufom_module.specs.declared.module.Parts.{Parts}
 use Rattle.mufom_origins.specs.Origins.{numbered, origins_of}
 use Rattle.mufom_origins.specs.Places.{with_chosen}
+use Rattle.mufom_words.specs.Sound.{HasTree}
 use Rattle.mufom_words.specs.Tree.{leaves, tree_of}
 use Rattle.mufom_words.specs.declared.command.Mark.{Mark}
 use Rattle.mufom_command.proofs.locating.traced_link.Goals as goal
+
+pub link_with_members-requires-clause-tree : goal.link_with_members-requires-clause-tree
+link_with_members-requires-clause-tree c =
+    subst (λ (marks : List Mark). HasTree marks (length c.args.modules)) (sym c.as_slice-2.ensures)
+    (linkable-tree c.args.inputs.now c.args.modules c.requires.linkable)
 
 pub returns-in-Err-clause-refused : goal.returns-in-Err-clause-refused
 returns-in-Err-clause-refused c =

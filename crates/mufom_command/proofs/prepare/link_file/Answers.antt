@@ -1,10 +1,17 @@
-use Rattle.std.proofs.Common.{List, refl, subst}
+use Rattle.std.proofs.Common.{List, length, refl, subst, sym}
+use Rattle.mufom_command.proofs.WorkLaws.{linkable-tree}
 use Rattle.mufom_groups.specs.Groups.{StopsWork}
 use Rattle.mufom_groups.specs.Linked.{linked_module}
 use Rattle.mufom_groups.specs.Work.{gives}
+use Rattle.mufom_words.specs.Sound.{HasTree}
 use Rattle.mufom_words.specs.Tree.{tree_of}
 use Rattle.mufom_words.specs.declared.command.Mark.{Mark}
 use Rattle.mufom_command.proofs.prepare.link_file.Goals as goal
+
+pub link_modules-requires-clause-tree : goal.link_modules-requires-clause-tree
+link_modules-requires-clause-tree c =
+    subst (λ (marks : List Mark). HasTree marks (length c.args.modules)) (sym c.as_slice.ensures)
+    (linkable-tree c.args.inputs.now c.args.modules c.requires.linkable)
 
 pub returns-in-Ok-clause-ok : goal.returns-in-Ok-clause-ok
 returns-in-Ok-clause-ok c = record {

@@ -18,6 +18,7 @@ pub link_file-requires-clause-linkable : goal.link_file-requires-clause-linkable
 link_file-requires-clause-linkable g c = record {
   sound = c.requires.sound;
   count = c.in-Ok.ensures.count;
+  few = c.in-Ok.ensures.few;
   valid = c.in-Ok.ensures.valid;
   light = c.in-Ok.ensures.light;
 }

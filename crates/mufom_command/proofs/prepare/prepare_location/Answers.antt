@@ -1,23 +1,30 @@
-use Rattle.std.proofs.Common.{List, ℕ, refl, subst, sym}
+use Rattle.std.proofs.Common.{List, refl, subst, sym}
+use Rattle.mufom_host.specs.World.{NamedFile}
 use Rattle.mufom_command.proofs.MapLaws.{obstacle-ends}
 use Rattle.mufom_command.proofs.PrepareLaws.{ended, readied, unread}
-use Rattle.mufom_command.proofs.WorkLaws.{linking-begins, locating-stops, product-comes, product-place}
+use Rattle.mufom_command.proofs.WorkLaws.{locating-begins, locating-stops, product-comes, product-place, read-from}
 use Rattle.mufom_command.specs.Locations.{shown_of}
 use Rattle.mufom_command.specs.Ready.{ready_output}
 use Rattle.mufom_command.specs.WorkEnds.{EndsAt, location_of}
 use Rattle.mufom_command.specs.Roots.{roots_by}
-use Rattle.mufom_command.specs.Works.{locating_kept, producing, product_of}
-use Rattle.mufom_groups.specs.Work.{gives, stops}
+use Rattle.mufom_command.specs.RunParts.{AreReadOver}
+use Rattle.mufom_command.specs.Works.{product_of}
+use Rattle.mufom_groups.specs.Work.{Work, gives, stops}
+use Rattle.mufom_module.specs.declared.module.Parts.{Parts}
+use Rattle.mufom_plan.specs.declared.plan.Plan.{Plan}
+use Rattle.mufom_outcome.specs.Stop.{Stop}
 use Rattle.mufom_outcome.specs.declared.outcome.Outcome.{Outcome}
 use Rattle.mufom_task.specs.InputsRead.{inputs_in}
 use Rattle.mufom_words.specs.Tree.{tree_of}
 use Rattle.mufom_task.specs.declared.task.Task.TheVariants as task
+use Rattle.mufom_origins.specs.Words.{all_files}
 use Rattle.mufom_command.proofs.prepare.prepare_location.Goals as goal
 
 pub locate_modules-requires-clause-linkable : goal.locate_modules-requires-clause-linkable
 locate_modules-requires-clause-linkable g c = record {
   sound = c.requires.sound;
   count = c.in-Ok.ensures.count;
+  few = c.in-Ok.ensures.few;
   valid = c.in-Ok.ensures.valid;
   light = c.in-Ok.ensures.light;
 }
@@ -31,8 +38,7 @@ returns-in-Err-clause-err g c =
     let old = g.H.World.meaning c.args.host.now in let mid = g.H.World.meaning c.read_inputs.new.host in
     let before = g.H.World.faults c.args.host.now in let between = g.H.World.faults c.read_inputs.new.host in
     unread (task.Locate inputs keep p) (λ fs. inputs_in fs inputs) refl old mid before between
-    (linking-begins (λ ms plan flat. locating_kept (producing p inputs.files (tree_of inputs.marks) ms plan) (roots_by keep plan) plan flat) inputs)
-    c.in-Err.stop read.stops read.opened read.named
+    (locating-begins keep p inputs) c.in-Err.stop read.stops read.opened read.named
 
 pub returns-in-Err-locate_modules-clause-err : goal.returns-in-Err-locate_modules-clause-err
 returns-in-Err-locate_modules-clause-err g c =
@@ -52,13 +58,13 @@ returns-in-Ok-ready_of-clause-ok g c =
     let loaded = c.in-Ok.loaded in let m = c.in-Ok-locate_modules.location in let ready = c.in-Ok-ready_of.ready in
     let old = g.H.World.meaning c.args.host.now in let mid = g.H.World.meaning c.read_inputs.new.host in
     let before = g.H.World.faults c.args.host.now in let between = g.H.World.faults c.read_inputs.new.host in
-    let made : product_of p inputs.files (shown_of m) m.located (gives (ready_output ready))
-    = subst (λ (names : List (List ℕ)). product_of p names (shown_of m) m.located (gives (ready_output ready))) c.as_slice.ensures
-    c.in-Ok-ready_of.ensures.ok in
-    readied (task.Locate inputs keep p) (λ fs. inputs_in fs inputs) refl old mid before between (loaded.plan, loaded.modules) read.read read.all
-    ready (product-place p inputs.files (shown_of m) m.located (ready_output ready) made)
-    (λ fs is. product-comes inputs loaded.plan loaded.modules fs is keep p m c.in-Ok-locate_modules.ensures.ok (gives (ready_output ready))
-    made) c.in-Ok-ready_of.ensures.ready
+    let names = all_files loaded.files in
+    let over : List NamedFile → Work Stop (Plan × List Parts) = λ fs reached. AreReadOver fs inputs names loaded.plan loaded.modules in
+    readied (task.Locate inputs keep p) over refl old mid before between (loaded.plan, loaded.modules)
+    (read-from old.files inputs names loaded.plan loaded.modules read.read read.files) read.all ready
+    (product-place p names (shown_of m) m.located (ready_output ready) c.in-Ok-ready_of.ensures.ok)
+    (λ fs is. product-comes inputs loaded.plan loaded.modules fs is.read keep p names is.named m c.in-Ok-locate_modules.ensures.ok (gives (ready_output ready))
+    c.in-Ok-ready_of.ensures.ok) c.in-Ok-ready_of.ensures.ready
 
 pub returns-in-Err-ready_of-clause-err : goal.returns-in-Err-ready_of-clause-err
 returns-in-Err-ready_of-clause-err g c =
@@ -66,9 +72,9 @@ returns-in-Err-ready_of-clause-err g c =
     let loaded = c.in-Ok.loaded in let m = c.in-Ok-locate_modules.location in
     let old = g.H.World.meaning c.args.host.now in let mid = g.H.World.meaning c.read_inputs.new.host in
     let before = g.H.World.faults c.args.host.now in let between = g.H.World.faults c.read_inputs.new.host in
-    ended (task.Locate inputs keep p) (λ fs. inputs_in fs inputs) refl old mid before between (loaded.plan, loaded.modules) read.read read.all
-    (product_of p inputs.files (shown_of m) m.located)
-    (λ fs is s ends. product-comes inputs loaded.plan loaded.modules fs is keep p m c.in-Ok-locate_modules.ensures.ok (stops s) ends)
-    c.in-Err-ready_of.stop
-    (subst (λ (names : List (List ℕ)). EndsAt (product_of p names (shown_of m) m.located) c.in-Err-ready_of.stop) c.as_slice.ensures
-    c.in-Err-ready_of.ensures.stops)
+    let names = all_files loaded.files in
+    let over : List NamedFile → Work Stop (Plan × List Parts) = λ fs reached. AreReadOver fs inputs names loaded.plan loaded.modules in
+    ended (task.Locate inputs keep p) over refl old mid before between (loaded.plan, loaded.modules)
+    (read-from old.files inputs names loaded.plan loaded.modules read.read read.files) read.all (product_of p names (shown_of m) m.located)
+    (λ fs is s ends. product-comes inputs loaded.plan loaded.modules fs is.read keep p names is.named m c.in-Ok-locate_modules.ensures.ok (stops s) ends)
+    c.in-Err-ready_of.stop c.in-Err-ready_of.ensures.stops
