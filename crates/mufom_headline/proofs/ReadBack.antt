@@ -53,8 +53,8 @@ module _ (m : Parts) (is : (gnu : Bool) → IsModule (with_debug gnu) (written m
       }
 
   -- the file alone is accepted
-  alone : (files : List NamedFile) (c : Inputs) (name : List ℕ) → file_named name files ≡ Some (written m) → c.options.debug ≡ true → c.files ≡ name ∷ []
-      → modules_in files c (gives (m ∷ []))
+  alone : (files : List NamedFile) (c : Inputs) (name : List ℕ) → file_named name files ≡ Some (written m) → c.options.debug ≡ true
+      → c.files ≡ name ∷ [] → modules_in files c (gives (m ∷ []))
   alone files c name there debug names = (
     subst (λ (l : List (List ℕ)). ComeTo c.options (root_count c) files l (accepted (m ∷ []))) (sym names)
         (accepted-alone c.options (written m) m (is-module c.options debug) (one-only c.options debug) (root_count c) files name there few),

@@ -60,7 +60,8 @@ module _ (options : ReadOptions) (files : List NamedFile) (bytes : HoldBytes fil
 
 -- ---- selected members
 
-member-light : (n x : ℕ) (ms : List Parts) → n ≤ x → total_weight (member_at (slice_get ms x)) + total_weight (drop (suc x) ms) ≤ total_weight (drop n ms)
+member-light : (n x : ℕ) (ms : List Parts) → n ≤ x
+    → total_weight (member_at (slice_get ms x)) + total_weight (drop (suc x) ms) ≤ total_weight (drop n ms)
 member-light zero zero [] least = omega arith
 member-light zero (suc x) [] least = omega arith
 member-light (suc n) zero ms least = absurd (omega (arith, least))

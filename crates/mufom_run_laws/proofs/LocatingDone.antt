@@ -82,7 +82,8 @@ module _ (files : List NamedFile) (c : Inputs) (keep : List (List ℕ)) (p : Pro
       no-fact-there (producing p (module_files files c) (tree_of c.marks) accepts.modules plan) (roots_by keep plan) plan flat o links is_put
 
   -- and where none stands the work has no end
-  exact-back : ((kept : Kept) (r : LocatedParts) → kept_of (roots_by keep plan) flat (gives kept) → IsPlanned kept.modules plan r → MayPutOut p plan r)
+  exact-back : ((kept : Kept) (r : LocatedParts) → kept_of (roots_by keep plan) flat (gives kept) → IsPlanned kept.modules plan r
+      → MayPutOut p plan r)
       → HasNoFact (roots_by keep plan) flat plan → (s : Stop) → work_of (task.Locate c keep p) files (stops s) → ⊥
   exact-back may none s ends = by (accepted-stops files c plan flat bytes accepts work s ends) where
     never : (kept : Kept) (r : LocatedParts) → kept_of (roots_by keep plan) flat (gives kept) → IsPlanned kept.modules plan r → (s : Stop)
@@ -103,5 +104,6 @@ locating-done words files call result c inputs keep p plan flat is calm named as
     let answer = plain-answers words c named (task.Locate inputs keep p) asks call result is in (
       (λ done. let came = done-comes files call (task.Locate inputs keep p) result answer calm done in
           exact-there files inputs keep p plan flat bytes accepts came.output came.comes),
-      (λ none. never-done files call (task.Locate inputs keep p) result answer calm (exact-back files inputs keep p plan flat bytes accepts may none)),
+      (λ none. never-done files call (task.Locate inputs keep p) result answer calm
+          (exact-back files inputs keep p plan flat bytes accepts may none)),
     )
