@@ -1,6 +1,6 @@
 -- The result of a task that locates is that of locating the flat list, and each list from which that was linked in stages.
-use Rattle.std.proofs.Common.{◌≡◌, ◌⊎◌, ◌<◌, ◌≤◌, ℕ, Bool, false, true, nat_lt, List, length, Option, Some, None, refl, sym, subst, ◌∙◌}
-use Rattle.std.proofs.Common.{arith, inl, inr}
+use Rattle.std.proofs.Common.{◌≡◌, ◌⊎◌, ℕ, List, length, Option, Some, None, refl, sym, subst, ◌∙◌}
+use Rattle.std.proofs.Common.{inl, inr}
 use Rattle.mufom_host.specs.World.{HoldBytes, NamedFile}
 use Rattle.mufom_words.specs.Tree.{tree_of}
 use Rattle.mufom_module.specs.declared.module.Parts.{Parts}
@@ -28,6 +28,7 @@ use Rattle.mufom_outcome.specs.declared.outcome.Outcome.TheVariants as outcome
 use Rattle.mufom_outcome.specs.declared.outcome.BinRefusal.{BinRefusal}
 use Rattle.mufom_outcome.specs.Stop.{Stop, keep_unknown, link_fact, name_shared, locate_fact, bytes_refused}
 use Rattle.mufom_task.specs.declared.task.Inputs.{Inputs}
+use Rattle.mufom_task.specs.Inputs.{module_files}
 use Rattle.mufom_task.specs.declared.task.Product.{Product}
 use Rattle.mufom_task.specs.declared.task.Product.TheVariants as product
 use Rattle.mufom_task.specs.declared.task.Task.TheVariants as task
@@ -42,7 +43,7 @@ use Rattle.mufom_command.proofs.WorkLaws.{bytes-stop}
 use Rattle.mufom_command.proofs.EndLaws.{location-of}
 use Rattle.mufom_command.proofs.KeptLaws.{kept-valid}
 use Rattle.mufom_command.proofs.Runs.{kept_of-single, of-files}
-use Rattle.mufom_run_laws.specs.RunLaws.{Accepts, CameByStages, HasNoFact, IsSameWork, IsUndisturbed, MayPutOut}
+use Rattle.mufom_run_laws.specs.RunLaws.{Accepts, HasNoFact, IsSameWork, MayPutOut}
 use Rattle.mufom_run_laws.proofs.Accepted.{EndsAtFact, accepted-back, accepted-fact, accepted-gives, accepted-stops, no-link-fact}
 use Rattle.mufom_run_laws.proofs.Calm.{CameTo, done-comes, never-done}
 use Rattle.mufom_run_laws.proofs.Determined.{answers-determined}
@@ -51,7 +52,6 @@ use Rattle.mufom_run_laws.proofs.Plain.{plain-answers, plain-run}
 use Rattle.mufom_run_laws.proofs.StageLaws.{means-same}
 use Rattle.mufom_headline.specs.Headline.{HasLocated, MayBeWritten, LocatesAll, PutsOutLocation, TheHeadline}
 use Rattle.mufom_headline.specs.Linking.{IsRefusedLink}
-use Rattle.mufom_headline.specs.ReadBack.{IsPutInFile}
 use Rattle.mufom_headline.proofs.Kept.{kept-means}
 use Rattle.mufom_headline.proofs.LinkedFiles.{file-made, flat-valid}
 use Rattle.mufom_headline.proofs.Maps.{flat-files, producing-known, producing-staged}
@@ -177,13 +177,13 @@ module _ (files : List NamedFile) (call : Call) (result : Outcome) (c : Inputs) 
 
   -- what is put out of a flat list of modules
   abbrev outputs : List Parts → Plan → List Parts → Work Stop Output
-  outputs ms plan list = locating_kept (producing p c.files (tree_of c.marks) ms plan) (roots_by keep plan) plan list
+  outputs ms plan list = locating_kept (producing p (module_files files c) (tree_of c.marks) ms plan) (roots_by keep plan) plan list
 
   abbrev origins : List Origin
   origins = origins_of own
 
   abbrev put_out_of : List Parts → Work Stop Output
-  put_out_of list = locating_kept (product_with p c.files (origins_of own) plan) roots plan list
+  put_out_of list = locating_kept (product_with p (module_files files c) (origins_of own) plan) roots plan list
 
   -- a list of which the same is put out as of the flat list
   module _ (list : List Parts) (valid : AreValid list) (links : link_answer flat ≡ link_answer list)
@@ -198,8 +198,9 @@ module _ (files : List NamedFile) (call : Call) (result : Outcome) (c : Inputs) 
       by : EndsAtFact flat s ⊎ ((link_answer flat ≡ None) × outputs accepts.modules plan flat (stops s)) → ⊥
       by (inl fact) = no-link-fact flat plan s (links ∙ none.links) fact
       by (inr (linkable, ends)) =
-          no-end (product_with p c.files origins plan) roots plan list
-          (λ kept r keeps there s. product-never p c.files (mapped_kept origins plan kept r) r (short kept r keeps there) s) none s ((alike (stops s)).0 ends)
+          no-end (product_with p (module_files files c) origins plan) roots plan list
+          (λ kept r keeps there s. product-never p (module_files files c) (mapped_kept origins plan kept r) r (short kept r keeps there) s) none s
+          ((alike (stops s)).0 ends)
 
     -- an end of what is put out of the list is the result
     ends-there : (s : Stop) → link_answer list ≡ None → put_out_of list (stops s) → result ≡ outcome_of (stops s)
@@ -212,19 +213,19 @@ module _ (files : List NamedFile) (call : Call) (result : Outcome) (c : Inputs) 
         let (g, stands, ends) = accepted-fact files c plan flat bytes accepts outputs f (links ∙ some) in
         (g, facts g stands, answer (stops (link_fact g)) ends)
 
-    has-located : HasLocated roots p c.files origins plan call result list
+    has-located : HasLocated roots p (module_files files c) origins plan call result list
     has-located = record {
       done = (
         (λ is. let there = came is in
             let (linkable, puts) = list-output there.output there.comes in (
-              no-fact-there (product_with p c.files origins plan) roots plan list there.output linkable puts,
-              short-there roots p c.files origins plan list there.output puts,
+              no-fact-there (product_with p (module_files files c) origins plan) roots plan list there.output linkable puts,
+              short-there roots p (module_files files c) origins plan list there.output puts,
             )),
         (λ (none, short). done (none-stops none short)),
       );
       output = λ is. let there = came is in
           let (linkable, puts) = list-output there.output there.comes in
-          let of = output-of roots p c.files origins plan list there.output puts in
+          let of = output-of roots p (module_files files c) origins plan list there.output puts in
           record {
             kept = of.kept;
             keeps = of.keeps;
@@ -232,29 +233,30 @@ module _ (files : List NamedFile) (call : Call) (result : Outcome) (c : Inputs) 
             location = of.location;
             is_location = of.is_location;
             itself = planned_located_as_itself of.kept.modules plan of.location (kept-valid roots list of.kept valid of.keeps) symbols of.is_location;
-            puts_out = product-shown p c.files origins plan of.kept of.location call there.output of.puts there.puts_out;
+            puts_out = product-shown p (module_files files c) origins plan of.kept of.location call there.output of.puts there.puts_out;
           };
       unlinked = unlinked-there;
       unknown = λ given name same linkable some.
-          ends-there (keep_unknown name) linkable (unknown-end roots p c.files origins plan list given name same some);
+          ends-there (keep_unknown name) linkable (unknown-end roots p (module_files files c) origins plan list given name same some);
       refused = λ kept f linkable is_kept some.
-          ends-there (locate_fact (maus_of kept.modules) f) linkable (fact-end roots p c.files origins plan list kept (of_list f) is_kept some);
+          ends-there (locate_fact (maus_of kept.modules) f) linkable
+          (fact-end roots p (module_files files c) origins plan list kept (of_list f) is_kept some);
       shared = λ kept name linkable is_kept some.
-          ends-there (name_shared name) linkable (fact-end roots p c.files origins plan list kept (shared_name name) is_kept some);
+          ends-there (name_shared name) linkable (fact-end roots p (module_files files c) origins plan list kept (shared_name name) is_kept some);
       unwritten = λ kept r b linkable is_kept is_r some.
-          ends-there (bytes_refused b) linkable (refused-end roots p c.files origins plan list kept r b is_kept is_r some);
+          ends-there (bytes_refused b) linkable (refused-end roots p (module_files files c) origins plan list kept r b is_kept is_r some);
     }
 
   -- the flat list, and each list from which it was linked in stages
-  locates-all : LocatesAll c keep p plan call result accepts.modules flat
+  locates-all : LocatesAll files c keep p plan call result accepts.modules flat
   locates-all = record {
     files = own;
     are_files = are;
     located = has-located flat (flat-valid files c plan flat accepts) refl (λ f stands. stands)
-        (producing-known roots p c.files plan (tree_of c.marks) accepts.modules own are flat);
+        (producing-known roots p (module_files files c) plan (tree_of c.marks) accepts.modules own are flat);
     staged = λ leaves stages. has-located leaves stages.valid (means-same flat leaves stages).same_link
         (λ f stands. ((means-same flat leaves stages).same_link_facts f).0 stands)
-        (producing-staged roots p c.files plan (tree_of c.marks) accepts.modules own are symbols flat leaves stages);
+        (producing-staged roots p (module_files files c) plan (tree_of c.marks) accepts.modules own are symbols flat leaves stages);
   }
 
 pub the-headline : TheHeadline

@@ -2,16 +2,12 @@
 use Rattle.std.proofs.Common.{◌≡◌, List, [], ◌∷◌, ◌++◌, ℕ, Option, unwrap_or, refl, sym, subst, ◌∙◌}
 use Rattle.mufom_host.specs.World.{HoldBytes, NamedFile}
 use Rattle.mufom_words.specs.Tree.{tree_of}
-use Rattle.mufom_words.specs.declared.command.Command.{Command}
-use Rattle.mufom_names.specs.Names.{AreDistinct}
 use Rattle.mufom_module.specs.declared.module.Parts.{Parts}
 use Rattle.mufom_module.specs.Defects.{IsValid}
 use Rattle.mufom_plan.specs.declared.plan.Plan.{Plan}
-use Rattle.mufom_plan.specs.declared.plan.Region.{Region}
 use Rattle.mufom_meaning.specs.declared.located.LocatedParts.{LocatedParts}
-use Rattle.mufom_meaning.specs.Flat.{public_names}
 use Rattle.mufom_meaning.specs.Joined.{IsJoined}
-use Rattle.mufom_meaning.specs.Staging.{HaveDescriptor, IsStaged, NameStays, linked, unlinked}
+use Rattle.mufom_meaning.specs.Staging.{IsStaged, linked, unlinked}
 use Rattle.mufom_groups.specs.Linked.{first_name, links}
 use Rattle.mufom_groups.specs.Work.{Reached, gives, stops, Work, ◌>>=◌, with_stops}
 use Rattle.mufom_origins.specs.declared.origins.Origin.{Origin}
@@ -20,7 +16,7 @@ use Rattle.mufom_origins.specs.Words.{ModuleFiles}
 use Rattle.mufom_outcome.specs.declared.outcome.Outcome.{Outcome}
 use Rattle.mufom_outcome.specs.declared.outcome.Outcome.TheVariants as outcome
 use Rattle.mufom_outcome.specs.Stop.{Stop, link_fact}
-use Rattle.mufom_task.specs.declared.task.Inputs.{Inputs}
+use Rattle.mufom_task.specs.Inputs.{module_files}
 use Rattle.mufom_task.specs.declared.task.Product.{Product}
 use Rattle.mufom_task.specs.declared.task.Product.TheVariants as product
 use Rattle.mufom_task.specs.declared.task.Task.{Task}
@@ -32,14 +28,14 @@ use Rattle.mufom_command.specs.Roots.{Roots, roots_by}
 use Rattle.mufom_command.specs.Run.{AnswersFor, PutsOut, outcome_of}
 use Rattle.mufom_command.specs.Works.{Kept, Output, kept_of, linked_file, located, locating_kept, product_with, work_of}
 use Rattle.mufom_command.proofs.Runs.{of-files, over-files, work_of-single}
-use Rattle.mufom_run_laws.specs.RunLaws.{Accepts, CameByStages, IsSameWork, IsUndisturbed}
+use Rattle.mufom_run_laws.specs.RunLaws.{CameByStages, IsSameWork, IsUndisturbed}
 use Rattle.mufom_run_laws.proofs.Accepted.{accepted-gives}
 use Rattle.mufom_run_laws.proofs.Calm.{CameTo, done-comes}
 use Rattle.mufom_run_laws.proofs.Determined.{answers-determined}
 use Rattle.mufom_run_laws.proofs.Plain.{plain-answers, plain-run}
 use Rattle.mufom_run_laws.proofs.SameWorks.{same-sym, same-trans, same-work, then-same}
-use Rattle.mufom_headline.specs.Later.{EndTheSame, HaveSameWorks, IsReplacedLater, LinkedFilesReplaceLists, NamesNoModules, ReplacesInRuns, SameWorksEndTheSame}
-use Rattle.mufom_headline.specs.Linking.{AreFlatRuns, after_link, link_of_list, location_of_list}
+use Rattle.mufom_headline.specs.Later.{EndTheSame, LinkedFilesReplaceLists, NamesNoModules, ReplacesInRuns, SameWorksEndTheSame}
+use Rattle.mufom_headline.specs.Linking.{AreFlatRuns, link_of_list, location_of_list}
 use Rattle.mufom_headline.proofs.LinkedFiles.{file-made, flat-valid}
 use Rattle.mufom_headline.proofs.Maps.{flat-files}
 use Rattle.mufom_headline.proofs.Staged.{staged-runs-are-flat}
@@ -82,8 +78,8 @@ same-works-end-the-same files others t u words its_words c d call other result i
 
 -- ---- the names of modules and files
 
-product-names : (p : Product) → NamesNoModules p → (names its : ModuleFiles) (origins others : List Origin) (plan : Plan) (kept : Kept) (r : LocatedParts)
-    → IsSameWork (product_with p names origins plan kept r) (product_with p its others plan kept r)
+product-names : (p : Product) → NamesNoModules p → (names its : ModuleFiles) (origins others : List Origin) (plan : Plan) (kept : Kept)
+    (r : LocatedParts) → IsSameWork (product_with p names origins plan kept r) (product_with p its others plan kept r)
 product-names (product.Absolute out) may names its origins others plan kept r x = ((λ h. h), (λ h. h))
 product-names (product.Raw fill out) may names its origins others plan kept r x = ((λ h. h), (λ h. h))
 product-names (product.Region name fill out) may names its origins others plan kept r x = ((λ h. h), (λ h. h))
@@ -145,11 +141,11 @@ module _ (link : Parts) (list : List Parts) (name : List ℕ) (valid : IsValid l
             → IsSameWork (work_of (task.Locate inputs keep p) files) (work_of (task.Locate other keep p) others)
         locates-same keep p may =
             let roots : Option Roots = roots_by keep plan in
-            let first : Work Stop Output = location_of_list roots p inputs.files (origins_of own.0) plan leaves in
-            let second : Work Stop Output = location_of_list roots p other.files (origins_of its.0) plan leaves in
+            let first : Work Stop Output = location_of_list roots p (module_files files inputs) (origins_of own.0) plan leaves in
+            let second : Work Stop Output = location_of_list roots p (module_files others other) (origins_of its.0) plan leaves in
             same-trans (work_of (task.Locate inputs keep p) files) first (work_of (task.Locate other keep p) others) (here.located keep p)
             (same-trans first second (work_of (task.Locate other keep p) others)
-            (location-names roots p may inputs.files other.files (origins_of own.0) (origins_of its.0) plan leaves)
+            (location-names roots p may (module_files files inputs) (module_files others other) (origins_of own.0) (origins_of its.0) plan leaves)
             (same-sym (work_of (task.Locate other keep p) others) second (there.located keep p)))
 
 pub linked-files-replace-lists : LinkedFilesReplaceLists

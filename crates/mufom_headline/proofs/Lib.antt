@@ -5,6 +5,7 @@ pub mod Linking
 pub mod LinkedFiles
 pub mod Maps
 pub mod Headline
+mod Places
 pub mod ReadBack
 mod TextMade
 pub mod Texts

@@ -1,24 +1,21 @@
 -- The result of `link` is that of linking its flat list, and each list from which that was linked in stages.
-use Rattle.std.proofs.Common.{◌≡◌, Bool, not, ℕ, List, [], ◌∷◌, length, Option, Some, None, unwrap_or, refl, sym, subst, ◌∙◌}
-use Rattle.mufom_records.specs.declared.options.ReadOptions.{ReadOptions}
+use Rattle.std.proofs.Common.{◌≡◌, ℕ, List, Option, Some, unwrap_or, refl, sym, subst, ◌∙◌}
 use Rattle.mufom_host.specs.World.{HoldBytes, NamedFile}
-use Rattle.mufom_words.specs.Tree.{leaves as files_in, tree_of}
+use Rattle.mufom_words.specs.Tree.{tree_of}
 use Rattle.mufom_module.specs.declared.module.Parts.{Parts}
 use Rattle.mufom_plan.specs.declared.plan.Plan.{Plan}
 use Rattle.mufom_meaning.specs.Facts.{LinkFact}
 use Rattle.mufom_meaning.specs.LinkAnswer.{link_answer}
 use Rattle.mufom_meaning.specs.Stands.{LinkFactStands}
-use Rattle.mufom_meaning.specs.Selection.{members_at}
 use Rattle.mufom_meaning.specs.Staging.{AreValid}
 use Rattle.mufom_meaning.proofs.staging.Staging.{joined_stands_for}
-use Rattle.mufom_groups.specs.Linked.{first_name, members, roots}
+use Rattle.mufom_groups.specs.Linked.{first_name}
 use Rattle.mufom_groups.specs.Work.{gives, stops}
 use Rattle.mufom_outcome.specs.Stop.{link_fact}
-use Rattle.mufom_groups.proofs.LinkWalk.{valid-append, valid-drop, valid-members}
 use Rattle.mufom_task.specs.declared.task.Inputs.{Inputs}
 use Rattle.mufom_task.specs.declared.task.Task.TheVariants as task
 use Rattle.mufom_task.specs.Calls.{Call}
-use Rattle.mufom_task.specs.Inputs.{AreModules}
+use Rattle.mufom_task.specs.Inputs.{root_count}
 use Rattle.mufom_command.specs.Works.{Output, linked_file, writes_module}
 use Rattle.mufom_command.specs.Run.{PutsOut}
 use Rattle.mufom_command.proofs.Runs.{of-files}
@@ -26,6 +23,8 @@ use Rattle.mufom_run_laws.specs.RunLaws.{Accepts, IsSameWork}
 use Rattle.mufom_run_laws.proofs.Accepted.{accepted-fact, accepted-gives}
 use Rattle.mufom_run_laws.proofs.Calm.{done-comes}
 use Rattle.mufom_run_laws.proofs.Determined.{answers-determined}
+use Rattle.mufom_run_laws.proofs.Light.{flat-valid as its-valid}
+use Rattle.mufom_run_laws.proofs.Members.{files-valid}
 use Rattle.mufom_run_laws.proofs.Plain.{plain-answers, plain-run}
 use Rattle.mufom_run_laws.proofs.SameWorks.{same-work}
 use Rattle.mufom_run_laws.proofs.StageLaws.{lists-same, means-same, put_out-alike}
@@ -35,22 +34,12 @@ use Rattle.mufom_headline.specs.ReadBack.{IsPutInFile}
 use Rattle.mufom_headline.proofs.Linking.{linking-is-done}
 use Rattle.mufom_headline.proofs.ReadBack.{held-read-back}
 
--- ---- modules of accepted files have no defect
-
-modules-valid : (options : ReadOptions) (contents : List (List ℕ)) (ms : List Parts) → AreModules options contents ms → AreValid ms
-modules-valid options [] [] are = tt
-modules-valid options [] (m ∷ ms) are = absurd are
-modules-valid options (bytes ∷ contents) [] are = absurd are
-modules-valid options (bytes ∷ contents) (m ∷ ms) are = (are.0.4, modules-valid options contents ms are.1)
-
+-- the modules of accepted files have no defect
 pub flat-valid : (files : List NamedFile) (c : Inputs) (plan : Plan) (flat : List Parts) → Accepts files c plan flat → AreValid flat
 flat-valid files c plan flat accepts =
-    let all : AreValid accepts.modules = modules-valid c.options accepts.read.0 accepts.modules accepts.read.1.modules in
-    let chosen = accepts.is_flat.0 in
-    let rest : AreValid (members (tree_of c.marks) accepts.modules) = valid-drop (length (files_in (tree_of c.marks))) accepts.modules all in
-    subst AreValid (sym accepts.is_flat.2)
-    (valid-append (roots (tree_of c.marks) accepts.modules) (members_at (members (tree_of c.marks) accepts.modules) chosen)
-    (valid-members accepts.modules (files_in (tree_of c.marks)) all) (valid-members (members (tree_of c.marks) accepts.modules) chosen rest))
+    let ((contents, all), few) = accepts.read in
+    its-valid (tree_of c.marks) accepts.modules flat accepts.is_flat
+    (files-valid c.options (root_count c) contents accepts.modules all.modules)
 
 -- ---- what is put out
 

@@ -1,5 +1,5 @@
 -- The flat list with its files, and what is made of its location with the origins of their modules.
-use Rattle.std.proofs.Common.{List, ℕ, Option, refl}
+use Rattle.std.proofs.Common.{List, Option, refl}
 use Rattle.mufom_words.specs.Tree.{Forest}
 use Rattle.mufom_module.specs.declared.module.Parts.{Parts}
 use Rattle.mufom_plan.specs.declared.plan.Plan.{Plan}

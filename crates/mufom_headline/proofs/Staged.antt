@@ -22,6 +22,7 @@ use Rattle.mufom_outcome.specs.Stop.{Stop, link_fact}
 use Rattle.mufom_host.specs.World.{HoldBytes, NamedFile}
 use Rattle.mufom_origins.specs.Origins.{FileModule, origins_of}
 use Rattle.mufom_task.specs.declared.task.Inputs.{Inputs}
+use Rattle.mufom_task.specs.Inputs.{module_files}
 use Rattle.mufom_task.specs.declared.task.Product.{Product}
 use Rattle.mufom_task.specs.declared.task.Task.TheVariants as task
 use Rattle.mufom_command.specs.FlatFiles.{AreFlatFiles}
@@ -152,11 +153,12 @@ module _ (files : List NamedFile) (c : Inputs) (plan : Plan) (flat leaves : List
       ((put_out-alike plan symbols flat leaves (lists-same flat leaves came)).linked name out)
 
   staged-location : (keep : List (List ℕ)) (p : Product)
-      → IsSameWork (work_of (task.Locate c keep p) files) (location_of_list (roots_by keep plan) p c.files (origins_of own) plan leaves)
+      → IsSameWork (work_of (task.Locate c keep p) files)
+      (location_of_list (roots_by keep plan) p (module_files files c) (origins_of own) plan leaves)
   staged-location keep p =
-      by-linking (λ ms plan flat. locating_kept (producing p c.files (tree_of c.marks) ms plan) (roots_by keep plan) plan flat)
-      (locating_kept (product_with p c.files (origins_of own) plan) (roots_by keep plan) plan leaves)
-      (producing-staged (roots_by keep plan) p c.files plan (tree_of c.marks) accepts.modules own are symbols flat leaves came)
+      by-linking (λ ms plan flat. locating_kept (producing p (module_files files c) (tree_of c.marks) ms plan) (roots_by keep plan) plan flat)
+      (locating_kept (product_with p (module_files files c) (origins_of own) plan) (roots_by keep plan) plan leaves)
+      (producing-staged (roots_by keep plan) p (module_files files c) plan (tree_of c.marks) accepts.modules own are symbols flat leaves came)
 
 pub staged-runs-are-flat : StagedRunsAreFlat
 staged-runs-are-flat files c plan flat leaves own bytes accepts are came = record {

@@ -1,5 +1,5 @@
 -- The module of a text's runs is one that can be written, and what is written is read as it, with or without the debug part that it lacks.
-use Rattle.std.proofs.Common.{◌≡◌, Bool, true, false, Option, Some, refl, ap, ℕ, zero, suc, ◌+◌, ◌*◌, ◌^◌, ◌<◌, ◌≤◌, List, [], ◌∷◌, ◌++◌, map, length}
+use Rattle.std.proofs.Common.{◌≡◌, Bool, true, false, Some, refl, ℕ, zero, suc, ◌+◌, ◌*◌, ◌^◌, ◌<◌, ◌≤◌, List, [], ◌∷◌, ◌++◌, map, length}
 use Rattle.std.proofs.Common.{drop, sum_by, arith}
 use Rattle.std.specs.List.{AllByRecursion}
 use Rattle.std.proofs.Math.Nat.{pow-le-pow_right}
@@ -16,6 +16,7 @@ use Rattle.mufom_module.specs.Grammar.{AreWhole, IsCutInto, IsPart}
 use Rattle.mufom_module.specs.RecordParts.{Part, opens_items}
 use Rattle.mufom_module.specs.SpelledRecords.{SpelledRecord}
 use Rattle.mufom_module.proofs.GnuLaws.{plain-gnu, plainly}
+use Rattle.mufom_module.proofs.OneModule.{one_module}
 use Rattle.mufom_module.specs.Written.{written}
 use Rattle.mufom_module.specs.declared.module.Parts.{Parts}
 use Rattle.mufom_write.proofs.CutFile.{IsFittingModule, cut, file_of}
@@ -28,8 +29,9 @@ use Rattle.mufom_meaning.specs.declared.located.Run.{Run}
 use Rattle.mufom_meaning.specs.AddressMap.{AreApart}
 use Rattle.mufom_titxt.specs.TextModules.{EndBelow, HaveModule, HaveText, literals, loads_from, run_section, text_parts}
 use Rattle.mufom_titxt.proofs.ModuleValid.{text_is_valid}
-use Rattle.mufom_task.specs.Inputs.{AreAccepted, ComeTo, accepted}
+use Rattle.mufom_task.specs.Inputs.{ComeTo, accepted}
 use Rattle.mufom_command.specs.Works.{IsHeld}
+use Rattle.mufom_headline.proofs.Places.{accepted-alone}
 
 -- ---- sections
 
@@ -142,12 +144,9 @@ module _ (maus : ℕ) (runs : List Run) (low : 1 ≤ maus) (high : maus ≤ 8) (
   text-is-module options = text-read options.debug options.gnu
 
   -- the file alone is accepted
-  pub text-accepted : (options : ReadOptions) (files : List NamedFile) (name : List ℕ) → file_named name files ≡ Some (written (text_parts maus runs))
-      → ComeTo options files (name ∷ []) (accepted (text_parts maus runs ∷ []))
-  text-accepted options files name there = (written m ∷ [], all) where
-    all : AreAccepted options files (name ∷ []) (written (text_parts maus runs) ∷ []) (text_parts maus runs ∷ [])
-    all = record {
-      bytes = ap (λ (o : Option (List ℕ)). o ∷ []) there;
-      modules = (text-is-module options, tt);
-      within = let total = sum_by-cons length (written m) [] in omega (arith, few, total);
-    }
+  pub text-accepted : (options : ReadOptions) (roots : ℕ) (files : List NamedFile) (name : List ℕ)
+      → file_named name files ≡ Some (written (text_parts maus runs))
+      → ComeTo options roots files (name ∷ []) (accepted (text_parts maus runs ∷ []))
+  text-accepted options roots files name there =
+      accepted-alone options (written m) m (text-is-module options) (λ n other. one_module n m (written m) options other (text-is-module options))
+      roots files name there few

@@ -1,5 +1,5 @@
 -- A text comes back from the file that is made of it.
-use Rattle.std.proofs.Common.{◌≡◌, ◌≤◌, ℕ, ◌*◌, Bool, true, not, nat_lt, List, [], ◌∷◌, length, Option, Some, None, Ok, refl, sym, subst, arith}
+use Rattle.std.proofs.Common.{◌≡◌, ◌≤◌, ℕ, ◌*◌, Bool, true, nat_lt, List, [], ◌∷◌, length, Option, Some, Ok, refl, sym, subst, arith}
 use Rattle.mufom_numbers.specs.declared.limits.TheConstants.{MOST_FILE_BYTES}
 use Rattle.mufom_host.specs.World.{HoldBytes, NamedFile, file_named}
 use Rattle.mufom_words.specs.declared.command.Command.{Command}
@@ -30,18 +30,17 @@ use Rattle.mufom_task.specs.declared.task.Request.TheVariants as request
 use Rattle.mufom_task.specs.declared.task.Task.{Task}
 use Rattle.mufom_task.specs.declared.task.Task.TheVariants as task
 use Rattle.mufom_task.specs.Calls.{Call}
-use Rattle.mufom_task.specs.Inputs.{ComeTo, accepted}
+use Rattle.mufom_task.specs.Inputs.{ComeTo, accepted, root_count}
 use Rattle.mufom_task.specs.Reading.{modules_in, plan_in, text_in, unless_past_limit}
 use Rattle.mufom_task.specs.Tasks.{request_of}
-use Rattle.mufom_origins.specs.Origins.{origins_of}
-use Rattle.mufom_command.specs.Works.{Output, all_of, located, made, producing, product_with, work_of, writes}
+use Rattle.mufom_command.specs.Works.{Output, all_of, located, made, work_of, writes}
 use Rattle.mufom_command.specs.Contract.{Answers, run_of}
 use Rattle.mufom_command.specs.Run.{MakesFile, PutsOut}
 use Rattle.mufom_command.proofs.ExplainSingle.{run_of-single}
 use Rattle.mufom_command.proofs.EndLaws.{is-located as is-located-by}
 use Rattle.mufom_command.proofs.Runs.{of-files}
 use Rattle.mufom_planned.proofs.Plain.{plain_plans_mean_the_same}
-use Rattle.mufom_command.proofs.TextLaws.{text-gives, text-rows}
+use Rattle.mufom_command.proofs.TextLaws.{text-rows}
 use Rattle.mufom_run_laws.specs.RunLaws.{IsUndisturbed}
 use Rattle.mufom_run_laws.proofs.Calm.{done-comes}
 use Rattle.mufom_run_laws.proofs.Determined.{answers-determined}
@@ -111,8 +110,11 @@ module _ (text : List ℕ) (maus : ℕ) (runs : List Run) (low : 1 ≤ maus) (hi
       is-planned = subst (λ (o : Option (List ℕ)). plan_in files o (gives no_regions)) (sym does.plan) refl
 
       is-in : modules_in files c (gives (text_parts maus runs ∷ []))
-      is-in = subst (λ (names : List (List ℕ)). ComeTo c.options files names (accepted (text_parts maus runs ∷ []))) (sym does.files)
-          (text-accepted maus runs low high has-module has-text few c.options files name there)
+      is-in = (
+        subst (λ (names : List (List ℕ)). ComeTo c.options (root_count c) files names (accepted (text_parts maus runs ∷ []))) (sym does.files)
+            (text-accepted maus runs low high has-module has-text few c.options (root_count c) files name there),
+        omega arith,
+      )
 
       text-file : r.runs ≡ runs → work_of (task.Locate c [] (product.TiTxt out)) files (gives (made out (txt_text runs)))
       text-file same =

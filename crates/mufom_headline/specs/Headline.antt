@@ -48,8 +48,8 @@ use Rattle.mufom_headline.specs.ReadBack.{IsPutInFile}
 -- The output of a run is this location of what is kept, and nothing else. `locate` writes the file of the location's absolute module, from which a
 -- later run reads that module; `bin` writes the file of its raw image, or of the bytes of a region, and `txt` the file of its TI-TXT text. `dump`
 -- prints the text of its image; `addr` prints the lines of the function and the source line at the address in its arguments; `map` prints the sections
--- and symbols with their addresses, the modules from which they come and the names of their files, or the lines of one address. `names` are the names
--- of all files; `origins` are the names of these modules, their files, and the numbers of their entries.
+-- and symbols with their addresses, the modules from which they come and the names of their files, or the lines of one address. `names` are the files
+-- of all modules that were read; `origins` are the names of the modules of the list, their places among all, and the numbers of their entries.
 abbrev pub PutsOutLocation : Product → ModuleFiles → List Origin → Plan → Kept → LocatedParts → Call → Type 0
 PutsOutLocation (product.Absolute out) names origins plan kept r call = IsPutInFile out (absolute_of r) call
 PutsOutLocation (product.Raw fill out) names origins plan kept r call = MakesFile out (raw_image fill r.runs) call
@@ -91,8 +91,8 @@ MayBeWritten keep p plan list =
 -- linked, the first name of `--keep` that no public symbol of it has is refused; and if what is kept of it cannot be located, the run is refused with the
 -- first error of locating it. A raw image, or a region, that is too long is refused with its length in bytes; and a name that no region of the plan has,
 -- with the name.
-pub record HasLocated (keep : Option Roots) (p : Product) (names : ModuleFiles) (origins : List Origin) (plan : Plan) (call : Call) (result : Outcome)
-    (list : List Parts) : Type 0 where
+pub record HasLocated (keep : Option Roots) (p : Product) (names : ModuleFiles) (origins : List Origin) (plan : Plan) (call : Call)
+    (result : Outcome) (list : List Parts) : Type 0 where
   pub done : (result ≡ outcome.Done) ↔ (HasNoFact keep list plan × MayBeWritten keep p plan list)
   pub output : result ≡ outcome.Done → IsPutOut keep p names origins plan list call
   pub unlinked : (f : LinkFact) → link_answer list ≡ Some f → IsRefusedLink list result
@@ -108,8 +108,9 @@ pub record HasLocated (keep : Option Roots) (p : Product) (names : ModuleFiles) 
 -- The result of the run is that of locating the flat list of its modules. If earlier runs made these modules from another list by partial
 -- links, in any number of stages, it is also the result of locating that list.
 --
--- `named` are the files that the run can read. `modules` are those that were read, in the order of the files. `files` are the modules of the flat
--- list, each with its place among them. A map names these modules and their files for the other list too, since a partial link does not keep the names of the modules that it was made of.
+-- `named` are the files that the run can read. `modules` are the modules that were read, in the order of the files. `files` are the modules of the
+-- flat list, each with its place among these. A map names these modules and their files for the other list too, since a partial link does not keep
+-- the names of the modules that it was made of.
 pub record LocatesAll (named : List NamedFile) (inputs : Inputs) (keep : List (List ℕ)) (p : Product) (plan : Plan) (call : Call) (result : Outcome)
     (modules flat : List Parts) : Type 0 where
   pub files : List FileModule

@@ -1,5 +1,5 @@
 -- Runs over the file of a link, beside runs over the modules that were linked.
-use Rattle.std.specs.Prelude.{◌≡◌, ℕ, List, [], ◌∷◌, ◌++◌, Option, Ok}
+use Rattle.std.specs.Prelude.{◌≡◌, ℕ, List, ◌∷◌, ◌++◌, Option, Ok}
 use Rattle.mufom_host.specs.World.{NamedFile, HoldBytes}
 use Rattle.mufom_words.specs.declared.command.Command.{Command}
 use Rattle.mufom_words.specs.Answer.{answer_of}

@@ -98,7 +98,8 @@ location_of_list keep p names origins plan ms = after_link ms (locating_kept (pr
 pub record AreFlatRuns (files : List NamedFile) (inputs : Inputs) (plan : Plan) (own : List FileModule) (leaves : List Parts) : Type 0 where
   pub linked : (name : Option (List ℕ)) (out : List ℕ) → IsSameWork (work_of (task.Link inputs name out) files) (link_of_list name out leaves)
   pub located : (keep : List (List ℕ)) (p : Product)
-      → IsSameWork (work_of (task.Locate inputs keep p) files) (location_of_list (roots_by keep plan) p (module_files files inputs) (origins_of own) plan leaves)
+      → IsSameWork (work_of (task.Locate inputs keep p) files)
+      (location_of_list (roots_by keep plan) p (module_files files inputs) (origins_of own) plan leaves)
 
 abbrev pub StagedRunsAreFlat : Type 0
 StagedRunsAreFlat =

@@ -22,8 +22,8 @@ pub record IsReadAt (files : List NamedFile) (c : Inputs) (ms : List Parts) (k :
   pub root : k < root_count c → place ≡ k
 
 -- The written form of the module is a file of this module, with its debug part, and of no other module, whether or not the forms of GNU binutils are
--- accepted. A task that does not skip debug parts and
--- whose files are accepted reads this module from each file with these bytes. A task whose only file has these bytes accepts it.
+-- accepted. A task that does not skip debug parts and whose files are accepted reads this module from each file with these bytes, whether or not other
+-- files are archives. A task whose only file has these bytes accepts it.
 pub record IsReadBack (m : Parts) : Type 0 where
   pub file : (gnu : Bool) (n : Parts) → IsModule (record { debug = true; gnu = gnu }) (written m) n ↔ (n ≡ m)
   pub place : (files : List NamedFile) (c : Inputs) (ms : List Parts) (k : ℕ) (name : List ℕ)

@@ -21,6 +21,7 @@ use Rattle.mufom_groups.specs.Work.{gives}
 use Rattle.mufom_groups.proofs.ShortNames.{short-name}
 use Rattle.mufom_groups.proofs.Works.{value-same}
 use Rattle.mufom_task.specs.declared.task.Inputs.{Inputs}
+use Rattle.mufom_task.specs.Inputs.{root_count}
 use Rattle.mufom_task.specs.declared.task.Product.{Product}
 use Rattle.mufom_task.specs.declared.task.Request.TheVariants as request
 use Rattle.mufom_task.specs.declared.task.Task.TheVariants as task
@@ -32,9 +33,10 @@ use Rattle.mufom_command.specs.Works.{Kept, all_of, kept_of, kept_unless, rest_o
 use Rattle.mufom_command.proofs.Runs.{kept_of-single}
 use Rattle.mufom_run_laws.specs.Exist.{InputsAreAccepted, MayBeLocated, NoFactIsDecided, WhatIsKeptExists}
 use Rattle.mufom_run_laws.specs.RunLaws.{Accepts, HasNoFact}
-use Rattle.mufom_run_laws.proofs.Light.{all-count, all-light, all-valid, flat-light, flat-some, flat-valid}
+use Rattle.mufom_run_laws.proofs.Light.{all-count, all-light, flat-light, flat-some, flat-valid}
 use Rattle.mufom_run_laws.proofs.Links.{links-exist}
 use Rattle.mufom_run_laws.proofs.Marks.{kept-entries-exist}
+use Rattle.mufom_run_laws.proofs.Members.{files-valid}
 use Rattle.mufom_run_laws.proofs.Selections.{flat-lists-exist}
 
 -- ---- accepted inputs
@@ -94,20 +96,19 @@ module _ (words : List (List ℕ)) (files : List NamedFile) (c : Command) (input
 
   valid : AreValid flat
   valid = flat-valid (tree_of inputs.marks) accepts.modules flat accepts.is_flat
-      (all-valid inputs.options files inputs.files accepts.modules bytes accepts.read)
+      (files-valid inputs.options (root_count inputs) accepts.read.0.0 accepts.modules accepts.read.0.1.modules)
 
   light : total_weight flat ≤ most_weight
   light =
-      let all = all-light inputs.options files inputs.files accepts.modules bytes accepts.read in
+      let all = all-light inputs.options (root_count inputs) files inputs.files accepts.modules bytes accepts.read.0 in
       let own = flat-light (tree_of inputs.marks) accepts.modules flat accepts.is_flat sound.tree.numbered in
       omega (arith, all, own)
 
   some : flat ≢ []
   some =
-      let count = all-count inputs.options files inputs.files accepts.modules bytes accepts.read in
+      let count = all-count inputs.options (root_count inputs) files inputs.files accepts.modules bytes accepts.read.0 sound.tree.within in
       let leaf = sound.some in
-      let within = sound.tree.within in
-      flat-some (tree_of inputs.marks) accepts.modules flat accepts.is_flat sound.tree.numbered (omega (arith, leaf)) (omega (arith, count, leaf, within))
+      flat-some (tree_of inputs.marks) accepts.modules flat accepts.is_flat sound.tree.numbered (omega (arith, leaf)) (omega (arith, count, leaf))
 
   pub kept-exists : link_answer flat ≡ None → first_unknown flat keep ≡ None → (kept : Kept) × kept_of (roots_by keep plan) flat (gives kept)
   kept-exists links known = kept-by flat some valid light links keep plan known

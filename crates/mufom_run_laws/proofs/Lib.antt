@@ -11,6 +11,7 @@ pub mod Starts
 pub mod Selections
 pub mod Links
 pub mod Marks
+pub mod Members
 pub mod Light
 pub mod KeptExist
 pub mod Verdicts

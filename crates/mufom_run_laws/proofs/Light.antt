@@ -1,12 +1,11 @@
 -- The modules of accepted files, and their flat list: no module has a defect, the flat list is no heavier than all modules, and it is not empty.
-use Rattle.std.proofs.Common.{◌≡◌, ◌≢◌, ℕ, zero, suc, ◌+◌, ◌<◌, ◌≤◌, List, [], ◌∷◌, ◌++◌, length, take, drop, Some, refl, sym, ap, subst, ◌∙◌}
-use Rattle.std.proofs.Common.{arith}
+use Rattle.std.proofs.Common.{◌≡◌, ◌≢◌, ℕ, zero, suc, ◌+◌, ◌-◌, ◌<◌, ◌≤◌, Bool, true, false, nat_lt, List, [], ◌∷◌, ◌++◌, length, take, drop}
+use Rattle.std.proofs.Common.{Some, refl, sym, ap, subst, ◌∙◌, arith, length-append, ltb-false}
 use Rattle.std.specs.Prelude.{slice_get, sum_by, ◌*◌}
 use Rattle.std.proofs.lemmas.List.Sums.{sum_by-append}
 use Rattle.mufom_host.specs.World.{HoldBytes, NamedFile, file_named}
 use Rattle.mufom_records.specs.declared.options.ReadOptions.{ReadOptions}
 use Rattle.mufom_module.specs.declared.module.Parts.{Parts}
-use Rattle.mufom_read.proofs.weighing.Files.{modules_weigh}
 use Rattle.mufom_words.specs.Tree.{Forest, leaves}
 use Rattle.mufom_words.specs.Sound.{numbers_from}
 use Rattle.mufom_meaning.specs.Selection.{member_at, members_at}
@@ -17,42 +16,52 @@ use Rattle.mufom_groups.specs.Linked.{IsFlatList, members, roots}
 use Rattle.mufom_groups.proofs.LinkWalk.{valid-append, valid-drop, valid-members, weight-append, weight-split}
 use Rattle.mufom_groups.proofs.RefusedLaws.{members-between}
 use Rattle.mufom_groups.proofs.Selecting.{Rise, rise-all}
-use Rattle.mufom_task.specs.Inputs.{AreModules, ComeTo, HaveBytes, accepted}
+use Rattle.mufom_task.specs.Inputs.{AreModules, ComeTo, HasModules, HaveBytes, accepted}
+use Rattle.mufom_task.proofs.RootLaws.{root-module}
+use Rattle.mufom_run_laws.proofs.Members.{modules-light}
 
 -- ---- the modules of files
 
--- The modules have no defect, are one for each file, and weigh at most ten times as much as the files have bytes.
-record AreRead (names contents : List (List ℕ)) (ms : List Parts) : Type 0 where
-  pub valid : AreValid ms
-  pub count : length ms ≡ length names
+-- The modules weigh at most ten times as much as the files have bytes, and each root has one.
+record AreRead (roots : ℕ) (names contents : List (List ℕ)) (ms : List Parts) : Type 0 where
   pub light : total_weight ms ≤ 10 * sum_by length contents
+  pub count : roots ≤ length names → roots ≤ length ms
 
 module _ (options : ReadOptions) (files : List NamedFile) (bytes : HoldBytes files) where
-  are-read : (names contents : List (List ℕ)) (ms : List Parts) → HaveBytes files names contents → AreModules options contents ms
-      → AreRead names contents ms
-  are-read [] [] [] have are = record { valid = tt; count = refl; light = omega arith }
-  are-read (name ∷ names) [] [] have are = absurd cc
-  are-read [] (first ∷ contents) ms have are = absurd cc
-  are-read names [] (m ∷ ms) have are = absurd are
-  are-read names (first ∷ contents) [] have are = absurd are
-  are-read (name ∷ names) (first ∷ contents) (m ∷ ms) have (is, are) =
+  -- a file more
+  more-count : (root : Bool) (roots : ℕ) (first : List ℕ) (own later : List Parts) → nat_lt 0 roots ≡ root → HasModules options root first own
+      → roots - 1 ≤ length later → roots ≤ length (own ++ later)
+  more-count true roots first own later is has rest =
+      let (m, same, is_one) = root-module options first own has in
+      let one : length own ≡ 1 = ap (λ (l : List Parts). length l) same in
+      let both = length-append own later in
+      omega (arith, one, both, rest)
+  more-count false roots first own later is has rest = let none = ltb-false 0 roots is in omega (arith, none)
+
+  are-read : (roots : ℕ) (names contents : List (List ℕ)) (ms : List Parts) → HaveBytes files names contents → AreModules options roots contents ms
+      → AreRead roots names contents ms
+  are-read roots [] [] ms have are = subst (AreRead roots [] []) (sym are) (record { light = omega arith; count = λ few. few })
+  are-read roots (name ∷ names) [] ms have are = absurd cc
+  are-read roots [] (first ∷ contents) ms have are = absurd cc
+  are-read roots (name ∷ names) (first ∷ contents) ms have (own, later, split, has, rest) =
       let there : file_named name files ≡ Some first = cc in
       let others : HaveBytes files names contents = cc in
-      let later = are-read names contents ms others are in
-      let own = modules_weigh options first m (bytes name first there) is in
-      let (f, cut, named, states, sound) = is in
-      let modules = weight-append (m ∷ []) ms in
+      let after = are-read (roots - 1) names contents later others rest in
+      let light = modules-light options (nat_lt 0 roots) first own (bytes name first there) has in
+      let sum = weight-append own later in
       let lengths = sum_by-append length (first ∷ []) contents in
-      let light = later.light in
-      record {
-        valid = (sound, later.valid);
-        count = ap suc later.count;
-        light = omega (arith, modules, lengths, own, light);
-      }
+      let light_after = after.light in
+      subst (AreRead roots (name ∷ names) (first ∷ contents)) (sym split) (record {
+        light = omega (arith, sum, lengths, light, light_after);
+        count = λ enough.
+            let fewer : roots - 1 ≤ length names = omega (arith, enough) in
+            more-count (nat_lt 0 roots) roots first own later refl has (after.count fewer);
+      })
 
 -- ---- selected members
 
-member-light : (n x : ℕ) (ms : List Parts) → n ≤ x → total_weight (member_at (slice_get ms x)) + total_weight (drop (suc x) ms) ≤ total_weight (drop n ms)
+member-light : (n x : ℕ) (ms : List Parts) → n ≤ x
+    → total_weight (member_at (slice_get ms x)) + total_weight (drop (suc x) ms) ≤ total_weight (drop n ms)
 member-light zero zero [] least = omega arith
 member-light zero (suc x) [] least = omega arith
 member-light (suc n) zero ms least = absurd (omega (arith, least))
@@ -114,16 +123,14 @@ module _ (tree : Forest) (ms flat : List Parts) (is : IsFlatList tree ms flat) w
 
 -- ---- the modules of a run
 
-module _ (options : ReadOptions) (files : List NamedFile) (names : List (List ℕ)) (ms : List Parts) (bytes : HoldBytes files)
-    (come : ComeTo options files names (accepted ms)) where
-  pub all-valid : AreValid ms
-  all-valid = (are-read options files bytes names come.0 ms come.1.bytes come.1.modules).valid
-
-  pub all-count : length ms ≡ length names
-  all-count = (are-read options files bytes names come.0 ms come.1.bytes come.1.modules).count
+module _ (options : ReadOptions) (roots : ℕ) (files : List NamedFile) (names : List (List ℕ)) (ms : List Parts) (bytes : HoldBytes files)
+    (come : ComeTo options roots files names (accepted ms)) where
+  -- there are as many modules as roots, if there are as many files
+  pub all-count : roots ≤ length names → roots ≤ length ms
+  all-count = (are-read options files bytes roots names come.0 ms come.1.bytes come.1.modules).count
 
   pub all-light : total_weight ms ≤ most_weight
   all-light =
-      let light = (are-read options files bytes names come.0 ms come.1.bytes come.1.modules).light in
+      let light = (are-read options files bytes roots names come.0 ms come.1.bytes come.1.modules).light in
       let within = come.1.within in
       omega (arith, light, within)

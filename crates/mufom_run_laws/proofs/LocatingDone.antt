@@ -1,5 +1,5 @@
 -- Locating accepted files is done exactly where no fact stands against their flat list.
-use Rattle.std.proofs.Common.{◌≡◌, ◌⊎◌, ◌≤◌, ℕ, Bool, false, true, nat_lt, List, length, Option, Some, None, refl, sym, subst, arith, inl, inr}
+use Rattle.std.proofs.Common.{◌≡◌, ◌⊎◌, ℕ, List, length, Option, None, sym, subst, inl, inr}
 use Rattle.mufom_host.specs.World.{HoldBytes, NamedFile}
 use Rattle.mufom_map.specs.Mapped.{Mapped}
 use Rattle.mufom_origins.specs.Words.{ModuleFiles}
@@ -16,6 +16,7 @@ use Rattle.mufom_groups.proofs.Works.{value-same}
 use Rattle.mufom_outcome.specs.declared.outcome.BinRefusal.{BinRefusal}
 use Rattle.mufom_outcome.specs.Stop.{Stop}
 use Rattle.mufom_task.specs.declared.task.Inputs.{Inputs}
+use Rattle.mufom_task.specs.Inputs.{module_files}
 use Rattle.mufom_task.specs.declared.task.Product.{Product}
 use Rattle.mufom_task.specs.declared.task.Product.TheVariants as product
 use Rattle.mufom_task.specs.declared.task.Task.TheVariants as task
@@ -72,26 +73,29 @@ product-never (product.Hit at) names shown r may s never = never
 module _ (files : List NamedFile) (c : Inputs) (keep : List (List ℕ)) (p : Product) (plan : Plan) (flat : List Parts) (bytes : HoldBytes files)
     (accepts : Accepts files c plan flat) where
   abbrev work : List Parts → Plan → List Parts → Work Stop Output
-  work ms plan flat = locating_kept (producing p c.files (tree_of c.marks) ms plan) (roots_by keep plan) plan flat
+  work ms plan flat = locating_kept (producing p (module_files files c) (tree_of c.marks) ms plan) (roots_by keep plan) plan flat
 
   -- no fact stands where there is an output
   exact-there : (o : Output) → work_of (task.Locate c keep p) files (gives o) → HasNoFact (roots_by keep plan) flat plan
   exact-there o is =
       let (links, is_put) = accepted-gives files c plan flat bytes accepts work o is in
-      no-fact-there (producing p c.files (tree_of c.marks) accepts.modules plan) (roots_by keep plan) plan flat o links is_put
+      no-fact-there (producing p (module_files files c) (tree_of c.marks) accepts.modules plan) (roots_by keep plan) plan flat o links is_put
 
   -- and where none stands the work has no end
-  exact-back : ((kept : Kept) (r : LocatedParts) → kept_of (roots_by keep plan) flat (gives kept) → IsPlanned kept.modules plan r → MayPutOut p plan r)
+  exact-back : ((kept : Kept) (r : LocatedParts) → kept_of (roots_by keep plan) flat (gives kept) → IsPlanned kept.modules plan r
+      → MayPutOut p plan r)
       → HasNoFact (roots_by keep plan) flat plan → (s : Stop) → work_of (task.Locate c keep p) files (stops s) → ⊥
   exact-back may none s ends = by (accepted-stops files c plan flat bytes accepts work s ends) where
     never : (kept : Kept) (r : LocatedParts) → kept_of (roots_by keep plan) flat (gives kept) → IsPlanned kept.modules plan r → (s : Stop)
-        → producing p c.files (tree_of c.marks) accepts.modules plan kept r (stops s) → ⊥
+        → producing p (module_files files c) (tree_of c.marks) accepts.modules plan kept r (stops s) → ⊥
     never kept r keeps there s (inl nothing) = nothing
-    never kept r keeps there s (inr (own, are, ends)) = product-never p c.files (mapped_kept (origins_of own) plan kept r) r (may kept r keeps there) s ends
+    never kept r keeps there s (inr (own, are, ends)) =
+        product-never p (module_files files c) (mapped_kept (origins_of own) plan kept r) r (may kept r keeps there) s ends
 
     by : EndsAtFact flat s ⊎ ((link_answer flat ≡ None) × work accepts.modules plan flat (stops s)) → ⊥
     by (inl fact) = no-link-fact flat plan s none.links fact
-    by (inr (links, ends)) = no-end (producing p c.files (tree_of c.marks) accepts.modules plan) (roots_by keep plan) plan flat never none s ends
+    by (inr (links, ends)) =
+        no-end (producing p (module_files files c) (tree_of c.marks) accepts.modules plan) (roots_by keep plan) plan flat never none s ends
 
 -- Locating is done exactly where no fact stands against the flat list.
 pub locating-done : LocatingIsDone
@@ -100,5 +104,6 @@ locating-done words files call result c inputs keep p plan flat is calm named as
     let answer = plain-answers words c named (task.Locate inputs keep p) asks call result is in (
       (λ done. let came = done-comes files call (task.Locate inputs keep p) result answer calm done in
           exact-there files inputs keep p plan flat bytes accepts came.output came.comes),
-      (λ none. never-done files call (task.Locate inputs keep p) result answer calm (exact-back files inputs keep p plan flat bytes accepts may none)),
+      (λ none. never-done files call (task.Locate inputs keep p) result answer calm
+          (exact-back files inputs keep p plan flat bytes accepts may none)),
     )

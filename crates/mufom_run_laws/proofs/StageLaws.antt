@@ -29,6 +29,7 @@ use Rattle.mufom_origins.specs.Origins.{FileModule, origins_of}
 use Rattle.mufom_map.specs.Mapped.{Mapped}
 use Rattle.mufom_origins.specs.Words.{ModuleFiles}
 use Rattle.mufom_task.specs.declared.task.Inputs.{Inputs}
+use Rattle.mufom_task.specs.Inputs.{module_files}
 use Rattle.mufom_task.specs.declared.task.Product.{Product}
 use Rattle.mufom_task.specs.declared.task.Task.TheVariants as task
 use Rattle.mufom_task.specs.Reading.{plan_in, modules_in}
@@ -197,23 +198,26 @@ module _ (files : List NamedFile) (c : Inputs) (plan : Plan) (flat leaves : List
     abbrev roots : Option Roots
     roots = roots_by keep plan
 
+    abbrev names : ModuleFiles
+    names = module_files files c
+
     -- the modules of the flat list are those of its files
     own-product : (kept : Kept) (r : LocatedParts)
-        → IsSameWork (producing p c.files (tree_of c.marks) leads.modules plan kept r) (product_with p c.files (origins_of own) plan kept r)
+        → IsSameWork (producing p names (tree_of c.marks) leads.modules plan kept r) (product_with p names (origins_of own) plan kept r)
     own-product kept r =
-        then-known (one_with (AreFlatFiles (tree_of c.marks) leads.modules)) (λ flat. product_with p c.files (origins_of flat) plan kept r) own
+        then-known (one_with (AreFlatFiles (tree_of c.marks) leads.modules)) (λ flat. product_with p names (origins_of flat) plan kept r) own
         (flat-files-single (tree_of c.marks) leads.modules) are
 
-    locate-of-stages : IsSameWork (work_of (task.Locate c keep p) files) (locating_kept (product_with p c.files (origins_of own) plan) roots plan leaves)
+    locate-of-stages : IsSameWork (work_of (task.Locate c keep p) files) (locating_kept (product_with p names (origins_of own) plan) roots plan leaves)
     locate-of-stages =
-        let here : Work Stop Output = locating_kept (producing p c.files (tree_of c.marks) leads.modules plan) roots plan flat in
-        let there : Work Stop Output = locating_kept (product_with p c.files (origins_of own) plan) roots plan flat in
-        same-trans (work_of (task.Locate c keep p) files) here (locating_kept (product_with p c.files (origins_of own) plan) roots plan leaves)
-        (linking-known (λ ms plan flat. locating_kept (producing p c.files (tree_of c.marks) ms plan)
+        let here : Work Stop Output = locating_kept (producing p names (tree_of c.marks) leads.modules plan) roots plan flat in
+        let there : Work Stop Output = locating_kept (product_with p names (origins_of own) plan) roots plan flat in
+        same-trans (work_of (task.Locate c keep p) files) here (locating_kept (product_with p names (origins_of own) plan) roots plan leaves)
+        (linking-known (λ ms plan flat. locating_kept (producing p names (tree_of c.marks) ms plan)
         (roots_by keep plan) plan flat) files c plan flat bytes leads)
-        (same-trans here there (locating_kept (product_with p c.files (origins_of own) plan) roots plan leaves)
-        (locating-each roots plan flat (producing p c.files (tree_of c.marks) leads.modules plan) (product_with p c.files (origins_of own) plan) own-product)
-        (alike.located roots p c.files (origins_of own)))
+        (same-trans here there (locating_kept (product_with p names (origins_of own) plan) roots plan leaves)
+        (locating-each roots plan flat (producing p names (tree_of c.marks) leads.modules plan) (product_with p names (origins_of own) plan) own-product)
+        (alike.located roots p names (origins_of own)))
 
 pub runs-of-stages : RunsOfStages
 runs-of-stages files c plan flat leaves own bytes leads are came = record {

@@ -16,7 +16,8 @@ use Rattle.mufom_prune.specs.Kept.{IsKeptFor}
 use Rattle.mufom_prune.specs.Reached.{IsReached}
 use Rattle.mufom_prune.specs.Underway.{AllBelow, AreBelow}
 use Rattle.mufom_groups.specs.Linked.{IsFlatList}
-use Rattle.mufom_groups.specs.Work.{gives}
+use Rattle.mufom_groups.specs.Work.{Reached, gives}
+use Rattle.mufom_outcome.specs.Stop.{Stop}
 use Rattle.mufom_task.specs.declared.task.Inputs.{Inputs}
 use Rattle.mufom_task.specs.declared.task.Product.{Product}
 use Rattle.mufom_task.specs.declared.task.Request.TheVariants as request
@@ -36,6 +37,13 @@ FilesHaveAVerdict =
     (options : ReadOptions) (roots : ℕ) (files : List NamedFile) (names : List (List ℕ))
     → HoldBytes files → AllByRecursion (λ name. IsSome (file_named name files)) names
     → (verdict : Verdict) × ComeTo options roots files names verdict
+
+-- So reading the modules of a task has a result, if the files exist and hold bytes: the modules, unless they are too many, or the first error.
+abbrev pub ReadingHasAResult : Type 0
+ReadingHasAResult =
+    (files : List NamedFile) (inputs : Inputs)
+    → HoldBytes files → AllByRecursion (λ name. IsSome (file_named name files)) inputs.files
+    → (reached : Reached Stop (List Parts)) × modules_in files inputs reached
 
 -- ---- selected members
 

@@ -2,7 +2,7 @@
 
 ghost use Rattle.mufom_task.specs.Inputs.{HaveOneVerdict};
 ghost use Rattle.mufom_run_laws.specs.Exist.{FilesHaveAVerdict, FlatListsExist, InputsAreAccepted, KeptEntriesExist, LinksExist};
-ghost use Rattle.mufom_run_laws.specs.Exist.{MarksExist, NoFactIsDecided, SelectionsExist, WhatIsKeptExists};
+ghost use Rattle.mufom_run_laws.specs.Exist.{MarksExist, NoFactIsDecided, ReadingHasAResult, SelectionsExist, WhatIsKeptExists};
 ghost use Rattle.mufom_run_laws.specs.MakeLaws.{MakeIsDone};
 ghost use Rattle.mufom_run_laws.specs.RunLaws.{AbsoluteFilesStand, AnswersAreDetermined, LinkedFilesStand, LocatingIsDone};
 ghost use Rattle.mufom_run_laws.specs.RunLaws.{RunsAreSingle, RunsOfStages, StagesMakeNoDifference};
@@ -15,6 +15,12 @@ pub fn files_have_one_verdict()
 /// Files that exist and hold bytes have a result when they are read in order.
 pub fn files_have_a_verdict()
     ensures { FilesHaveAVerdict }
+{}
+
+/// Reading the modules of a task has a result, if the files exist and hold bytes: the modules, unless they are
+/// too many, or the first error.
+pub fn reading_has_a_result()
+    ensures { ReadingHasAResult }
 {}
 
 /// A run has at most one result: one output or one error.
