@@ -12,3 +12,6 @@ returns-in-SharedName g c = λ files ms keep made is.
 pub explain_planned-requires-clause-met : goal.explain_planned-requires-clause-met
 explain_planned-requires-clause-met g c =
     subst (IsMetBy (planned_answer (c.args.part.now.object ∷ []) c.args.plan.now)) c.in-Locate.is c.requires.met
+
+pub returns-in-Locate : goal.returns-in-Locate
+returns-in-Locate g c = λ files ms keep made is. c.explain_planned.ensures files c.args.inputs.now ms keep made is
