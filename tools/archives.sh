@@ -77,8 +77,34 @@ ar rcTD thin.a lib.695
 check "a thin archive" refuses 'refused: file 2 at 0: BadHeader' dump --plan board.toml startup.695 main.695 + thin.a
 check "an archive before the +" refuses 'refused: file 2 at 0: BadHeader' dump --plan board.toml startup.695 main.695 short.a
 check "an archive for check" refuses 'refused: file 0 at 0: BadHeader' check short.a
+check "an archive for dump" refuses 'refused: file 0 at 0: BadHeader' dump short.a
+
+# What is wrong in an archive is named with its offset from the start. The first entry has 136 bytes of contents, the second 523.
+bad() {
+  local where=$1
+  shift
+  refuses "refused: file 1 at $where" dump --plan board.toml startup.695 + "$@"
+}
+
 head -c -2 short.a > cut.a
-"$program" dump --plan board.toml startup.695 main.695 + cut.a > printed 2>&1
-check "an archive that is cut off" test $? = 1
+check "an archive that is cut off" bad "204: BadArchive" cut.a
+sed 's/^\(.*\) 136 \(.*\)$/\1 13x \2/' short.a > size.a
+check "a size that is none" bad "8: BadArchive" size.a
+(printf '!<arch>\n%-16s%-32s%-10s`\n' x.o/ '' 135 && head -c 135 spare.695) > member.a
+check "a member that is cut off" bad "203: Truncated" member.a
+(printf '!<arch>\n%-16s%-32s%-10s`\n' x.o/ '' 523 && cat lib.695 && printf '%-16s%-32s%-10s`\n' y.o/ '' 136 && cat spare.695) > padding.a
+check "no padding" bad "592: BadArchive" padding.a
+(printf '!<arch>\n%-16s%-32s%-10s`\n' // '' 4 && printf 'a.o/' && printf '%-16s%-32s%-10s`\n' /4 '' 523 && cat lib.695) > named.a
+check "a long name at the end" names named.a '"named.a()"'
+sed 's|^a.o//4 |a.o//5 |' named.a > past.a
+check "a long name past the end" bad "72: BadArchive" past.a
+"$program" explain dump --plan board.toml startup.695 + cut.a > told
+check "explain names the archive" grep -qxF 'file 1: "cut.a"' told
+(printf '%-16s%-32s%-10s`\n' x.o/ '' 136 && cat spare.695) > entries
+for _ in {1..16}; do
+  cat entries entries > twice && mv twice entries
+done
+(printf '!<arch>\n' && cat entries) > many.a
+check "too many modules" refuses 'refused: TooManyModules 65538' dump --plan board.toml startup.695 main.695 + many.a
 echo "$passed passed, $failed failed"
 [ "$failed" = 0 ]
