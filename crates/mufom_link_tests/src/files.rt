@@ -165,6 +165,7 @@ pub(crate) fn links_to(rt: &impl Abort, alloc: Global, list: &[&Records<'_>], wh
 }
 
 /// Why modules are not linked.
+#[derive(Clone, Copy)]
 pub(crate) enum Unlinked {
     Duplicate(&'static [u8]),
     Mismatch(Descriptor, Descriptor),

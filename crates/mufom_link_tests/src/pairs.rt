@@ -125,22 +125,30 @@ const LEAST_FIRST: Records<'static> = Records {
     trailer: START,
 };
 
-// The address descriptor with this number of units and byte order.
-const fn descriptor(maus: u8, order: Order) -> Descriptor {
-    Descriptor { maus, order }
-}
+// The descriptors of these modules.
+const FOUR_MOST: Descriptor = Descriptor {
+    maus: 4,
+    order: Order::Most,
+};
+
+const TWO_MOST: Descriptor = Descriptor {
+    maus: 2,
+    order: Order::Most,
+};
+
+const FOUR_LEAST: Descriptor = Descriptor {
+    maus: 4,
+    order: Order::Least,
+};
 
 // Two modules, and why they are not linked.
 const REFUSED: [([&Records<'static>; 2], Unlinked); 5] = [
     ([&DEFINING, &DEFINING], Unlinked::Duplicate(b"main")),
     ([&BOTH, &BOTH], Unlinked::Duplicate(b"main")),
-    (
-        [&BOTH, &TWO_UNITS],
-        Unlinked::Mismatch(descriptor(4, Order::Most), descriptor(2, Order::Most)),
-    ),
+    ([&BOTH, &TWO_UNITS], Unlinked::Mismatch(FOUR_MOST, TWO_MOST)),
     (
         [&BOTH, &LEAST_FIRST],
-        Unlinked::Mismatch(descriptor(4, Order::Most), descriptor(4, Order::Least)),
+        Unlinked::Mismatch(FOUR_MOST, FOUR_LEAST),
     ),
     ([&STARTING, &STARTING], Unlinked::DuplicateStart),
 ];
