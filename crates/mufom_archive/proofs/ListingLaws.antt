@@ -1,16 +1,18 @@
 -- Listings: there is one, and the position of its first error.
 use Rattle.std.proofs.Common.{◌≡◌, ◌<◌, ◌≤◌, ℕ, Bool, true, false, not, cond, nat_le, nat_lt, List, [], ◌∷◌, length, take, drop, zero, suc, ◌+◌}
-use Rattle.std.proofs.Common.{Option, Some, None, sym, ◌∙◌, ap, refl, if◌then◌else◌, length-drop, arith}
+use Rattle.std.proofs.Common.{◌&&◌, Option, Some, None, sym, ◌∙◌, ap, refl, if◌then◌else◌, length-drop, arith}
+use Rattle.std.specs.Option.{is_none, is_some}
 use Rattle.std.specs.List.{before_first, find, position, position_or_len}
 use Rattle.std.proofs.lemmas.Bool.Decides.{nat_tests}
 use Rattle.std.proofs.lemmas.List.Sums.{prefix_len-le-length}
 use Rattle.mufom_archive.specs.declared.entry.Entry.{Entry}
 use Rattle.mufom_archive.specs.declared.listing.BadArchive.{BadArchive}
-use Rattle.mufom_archive.specs.Entries.{AreEntries, contents_of_table, entry_at, entry_of, long_names, next_offset}
-use Rattle.mufom_archive.specs.Listings.{IsBadHeader, IsListing, Member, first_error, is_refused, members_of}
+use Rattle.mufom_archive.specs.Entries.{AreEntries, contents_of_table, entry_at, entry_of, lacks_header, long_names, next_offset, offset_after, room_for_names}
+use Rattle.mufom_archive.specs.Entries.{size_of_table, table_among}
+use Rattle.mufom_archive.specs.Listings.{IsBadHeader, IsListing, Member, first_error, first_nameless, is_refused, members_of, nameless_in}
 use Rattle.mufom_archive.specs.Laws.{HaveListing, HaveOneListing}
 use Rattle.mufom_archive.specs.Reading.{Knows}
-use Rattle.mufom_archive.proofs.EntryLaws.{entry_parts, entry_short, one_reading}
+use Rattle.mufom_archive.proofs.EntryLaws.{entries_are, entry_parts, entry_short, one_reading}
 use Rattle.std.proofs.lemmas.List.{length-take}
 
 pub one_listing : HaveOneListing
@@ -77,6 +79,43 @@ module _ (stream : List ℕ) (size : ℕ) (entries : List Entry) (next : ℕ) (h
       length-take 60 (drop next stream),
       length-drop next stream,
     ))
+
+-- ---- the first member that lacks its long name
+
+pub offset_after_is : (bytes : List ℕ) (at : ℕ) (es : List Entry) (next : ℕ) → AreEntries bytes at es next → offset_after at es ≡ next
+offset_after_is bytes at [] next found = found
+offset_after_is bytes at (e ∷ es) next found = offset_after_is bytes (next_offset e) es next found.1
+
+-- whether there is what is no header after the entries
+pub header_lacks : (bytes : List ℕ) (entries : List Entry) (next : ℕ) (place : Option ℕ) → AreEntries bytes 8 entries next → entry_at bytes next ≡ None
+    → IsBadHeader bytes place → is_some place ≡ lacks_header bytes (offset_after 8 entries)
+header_lacks bytes entries next place found last h =
+    ap is_some (h.place ∙ ap (λ n. if nat_le (n + 60) (length bytes) then Some n else None) same)
+    ∙ by_size (nat_le (next + 60) (length bytes))
+    ∙ ap (λ (o : Option Entry). nat_le (next + 60) (length bytes) && is_none o) (sym last)
+    ∙ ap (lacks_header bytes) (sym (offset_after_is bytes 8 entries next found)) where
+      same : h.next ≡ next
+      same = (one_reading bytes 8 h.entries entries h.next next h.found h.last found last).1
+
+      by_size : (b : Bool) → is_some (if b then Some next else None) ≡ (b && true)
+      by_size true = refl
+      by_size false = refl
+
+-- the room for names, if there is no table
+pub room_without : (stream : List ℕ) (size : ℕ) (entries : List Entry) (next : ℕ) (header : List ℕ) (table : Option Entry) (names : List ℕ)
+    → Knows stream size entries next header table names → table ≡ None → (place : Option ℕ) → IsBadHeader stream place → (b : Bool) → is_some place ≡ b
+    → size_of_table None b ≡ room_for_names stream entries
+room_without stream size entries next header table names k none place h b is =
+    let lacks = header_lacks stream entries next place k.found (ap (entry_of next) (sym k.pending) ∙ k.last) h in
+    let first : None ≡ table_among entries = sym none ∙ k.first in
+    λ i. size_of_table (first i) ((sym is ∙ lacks) i)
+
+pub nameless_known : (stream : List ℕ) (size : ℕ) (entries : List Entry) (next : ℕ) (header : List ℕ) (table : Option Entry) (names : List ℕ)
+    → Knows stream size entries next header table names → (room : Option ℕ) → room ≡ room_for_names stream entries
+    → first_nameless entries room ≡ nameless_in stream
+nameless_known stream size entries next header table names k room is =
+    let same = entries_are (length stream) stream 8 entries next k.found (ap (entry_of next) (sym k.pending) ∙ k.last) (omega arith) in
+    λ i. first_nameless (same i) ((is ∙ ap (room_for_names stream) same) i)
 
 -- ---- all bytes have a listing
 

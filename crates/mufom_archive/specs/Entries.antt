@@ -1,6 +1,6 @@
 -- The entries of an archive: a header of 60 bytes, the contents, and a byte of padding if their size is odd.
-use Rattle.std.specs.Prelude.{◌≡◌, ℕ, zero, suc, ◌+◌, ◌-◌, ◌%◌, Bool, ◌&&◌, List, [], ◌∷◌, length, take, drop, nat_eq, nat_le, nat_lt, ◌==◌, Option}
-use Rattle.std.specs.Prelude.{Some, None, is_none, option_map, if◌then◌else◌}
+use Rattle.std.specs.Prelude.{◌≡◌, ℕ, zero, suc, ◌+◌, ◌-◌, ◌%◌, Bool, true, false, ◌&&◌, List, [], ◌∷◌, length, take, drop, nat_eq, nat_le, nat_lt, ◌==◌}
+use Rattle.std.specs.Prelude.{Option, Some, None, is_none, option_map, if◌then◌else◌}
 use Rattle.std.specs.Char.{is_ascii_digit}
 use Rattle.std.specs.List.{ends_with, find, list_all, prefix_len}
 use Rattle.std.specs.Str.{bytes_eq}
@@ -54,6 +54,11 @@ abbrev pub AreEntries : List ℕ → ℕ → List Entry → ℕ → Type 0
 AreEntries bytes at [] next = at ≡ next
 AreEntries bytes at (e ∷ es) next = (entry_at bytes at ≡ Some e) × AreEntries bytes (next_offset e) es next
 
+-- the offset after entries, the first of which is at this offset
+abbrev pub offset_after : ℕ → List Entry → ℕ
+offset_after at [] = at
+offset_after at (e ∷ es) = offset_after (next_offset e) es
+
 -- an entry, if there is one, and the others after it
 abbrev pub entry_then : Option Entry → (Entry → List Entry) → List Entry
 entry_then None others = []
@@ -80,3 +85,14 @@ contents_of_table bytes (Some e) = contents_of bytes e
 
 abbrev pub long_names : List ℕ → List Entry → List ℕ
 long_names bytes entries = contents_of_table bytes (table_among entries)
+
+-- the size of the first table of long names, if there is one; otherwise 0, if it is known that none follows
+abbrev pub size_of_table : Option Entry → Bool → Option ℕ
+size_of_table (Some e) none_follows = Some (e.end - e.start)
+size_of_table None true = Some 0
+size_of_table None false = None
+
+-- The size that the table of long names has at most, whatever follows the bytes, given the entries whose headers are in them. No entry
+-- follows what is no header. None if a table may follow.
+abbrev pub room_for_names : List ℕ → List Entry → Option ℕ
+room_for_names bytes entries = size_of_table (table_among entries) (lacks_header bytes (offset_after 8 entries))

@@ -1,10 +1,10 @@
 -- What an archive has: its members before the first error, and the first error.
-use Rattle.std.specs.Prelude.{◌≡◌, ℕ, ◌+◌, Bool, ◌||◌, ◌&&◌, List, length, nat_le, nat_lt, if◌then◌else◌, Option, Some, None, option_map, is_none}
+use Rattle.std.specs.Prelude.{◌≡◌, ℕ, ◌+◌, Bool, false, ◌||◌, ◌&&◌, ◌==◌, List, length, nat_le, nat_lt, if◌then◌else◌, Option, Some, None, option_map, is_none}
 use Rattle.std.specs.List.{filter_map, before_first, find}
 use Rattle.mufom_archive.specs.declared.entry.Entry.{Entry}
 use Rattle.mufom_archive.specs.declared.listing.BadArchive.{BadArchive}
-use Rattle.mufom_archive.specs.Names.{is_member, name_of}
-use Rattle.mufom_archive.specs.Entries.{AreEntries, entry_at, long_names}
+use Rattle.mufom_archive.specs.Names.{begins_past, is_member, name_of}
+use Rattle.mufom_archive.specs.Entries.{AreEntries, entries_from, entry_at, long_names, room_for_names}
 
 -- a member: its name, and the offsets in the archive at which its contents start and end
 pub record Member : Type 0 where
@@ -47,3 +47,27 @@ pub record IsBadHeader (bytes : List ℕ) (header : Option ℕ) : Type 0 where
   pub found : AreEntries bytes 8 entries next
   pub last : entry_at bytes next ≡ None
   pub place : header ≡ (if nat_le (next + 60) (length bytes) then Some next else None)
+
+-- ---- errors that last, whatever follows the bytes
+
+-- there is a place, and it is this offset
+abbrev pub is_at : Option ℕ → ℕ → Bool
+is_at None offset = false
+is_at (Some at) offset = at == offset
+
+-- the entry is a member, and its long name begins past the end of a table of long names of this size
+abbrev pub lacks_name : ℕ → Entry → Bool
+lacks_name size e = is_member e.label && begins_past size e.label
+
+-- the offset of the first entry that lacks its name, given the size of the table of long names
+abbrev pub first_nameless : List Entry → Option ℕ → Option ℕ
+first_nameless entries None = None
+first_nameless entries (Some size) = option_map (λ e. e.offset) (find (lacks_name size) entries)
+
+-- the offset of the first member that lacks its long name, whatever follows the bytes
+abbrev pub nameless_in : List ℕ → Option ℕ
+nameless_in bytes = let entries = entries_from (length bytes) bytes 8 in first_nameless entries (room_for_names bytes entries)
+
+-- the first member that lacks its long name, whatever follows the bytes, is at this offset
+abbrev pub lacks_long_name : List ℕ → ℕ → Bool
+lacks_long_name bytes offset = is_at (nameless_in bytes) offset

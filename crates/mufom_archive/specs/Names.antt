@@ -47,6 +47,10 @@ ends_name b = (b == 47) || (b == 10)
 abbrev pub long_name : List ℕ → ℕ → Option (List ℕ)
 long_name table at = if nat_le at (length table) then Some (before_first ends_name (drop at table)) else None
 
+-- the long name of a member with this label begins past the end of a table of long names of this size
+abbrev pub begins_past : ℕ → List ℕ → Bool
+begins_past size label = let name = without_slash (trimmed label) in is_reference name && nat_lt size (digits_value 10 (drop 1 name))
+
 -- the name of a member with this label, or None if it begins past the end of the table of long names
 abbrev pub name_of : List ℕ → List ℕ → Option (List ℕ)
 name_of table label = let name = without_slash (trimmed label) in

@@ -1,12 +1,12 @@
 //! Reads an archive from a stream that arrives in chunks.
 
 ghost use Rattle.std.specs.Prelude.{◌≡◌, ◌+◌, ◌<◌, ◌≤◌, ◌^◌, ℕ, List, [], ◌∷◌, ◌++◌, length, take, IfOk, OnOk};
-ghost use Rattle.mufom_archive.specs.Entries.{next_offset};
-ghost use Rattle.mufom_archive.specs.Listings.{IsBadHeader, IsListing};
+ghost use Rattle.mufom_archive.specs.Entries.{next_offset, room_for_names};
+ghost use Rattle.mufom_archive.specs.Listings.{IsBadHeader, IsListing, nameless_in};
 ghost use Rattle.mufom_archive.specs.Reading.{HasRead, entries_of, length_of, members_in, names_after, table_with};
 
 use crate::entry::{Entry, HEADER, SIGNATURE, entry_of};
-use crate::listing::{Listing, listing_of};
+use crate::listing::{Listing, first_nameless, listing_of};
 use arrayvec::ArrayVec;
 use mufom_numbers::limits::MOST_FILE_BYTES;
 use mufom_numbers::{List, NoMemory};
@@ -82,6 +82,25 @@ impl Archive {
         }
     }
 
+    // The size that the table of long names has at most, whatever follows what was read. `None` if a table may follow.
+    fn room_for_names(&self) -> Option<u64>
+        ensures { (stream : List ℕ) → HasRead self.now stream → result ≡ room_for_names stream (entries_of self.now) }
+    {
+        match self.table {
+            Some(table) => Some(table.end.saturating_sub(table.start)),
+            None if self.bad_header().is_some() => Some(0),
+            None => None,
+        }
+    }
+
+    /// The offset of the first entry that is a member and whose long name begins past the end of the table of long
+    /// names, whatever follows what was read.
+    pub fn nameless(&self) -> Option<u64>
+        ensures { (stream : List ℕ) → HasRead self.now stream → result ≡ nameless_in stream }
+    {
+        first_nameless(self.entries(), self.room_for_names())
+    }
+
     // Passes over bytes, and keeps those of them that belong to the table of long names.
     fn pass(&mut self, bytes: &[u8]) -> Result<(), NoMemory>
         requires { self.old.length + length bytes.now ≤ MOST_FILE_BYTES }
@@ -143,7 +162,7 @@ impl Archive {
     }
 
     // Reads some of these bytes, at least one: those up to the next header, or up to the end of that header, or all
-    // of them if what stands in its place is not a header. Returns their number.
+    // of them if what is there is not a header. Returns their number.
     fn step(&mut self, bytes: &[u8]) -> Result<usize, NoMemory>
         requires some { 0 < length bytes.now }
         requires fits { self.old.length + length bytes.now ≤ MOST_FILE_BYTES }

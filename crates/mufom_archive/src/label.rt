@@ -5,7 +5,7 @@ ghost use Rattle.std.specs.Char.{is_ascii_digit};
 ghost use Rattle.std.specs.List.{list_all, prefix_len, position_or_len};
 ghost use Rattle.std.specs.Str.Parse.{AllDigits, digits_value};
 ghost use Rattle.mufom_archive.specs.Names.{trimmed, without_slash, is_long_names, is_symbols, is_member, is_reference, ends_name, long_name};
-ghost use Rattle.mufom_archive.specs.Names.{name_of};
+ghost use Rattle.mufom_archive.specs.Names.{begins_past, name_of};
 
 /// The number of decimal digits at the beginning of the text.
 pub(crate) fn count_digits(text: &[u8]) -> usize
@@ -149,16 +149,20 @@ pub(crate) fn name_of<'a>(table: &'a [u8], label: &'a [u8]) -> Option<&'a [u8]>
     }
 }
 
-/// Whether the name of a member with this label begins past the end of the table of long names. Takes the same
-/// time for a name of any length.
+/// Whether the name of a member with this label begins past the end of a table of long names of this size. Takes
+/// the same time for a name of any length.
+pub(crate) fn begins_past(size: u64, label: &[u8]) -> bool
+    requires { length label.now ≤ 16 }
+    ensures { result ≡ begins_past size label.now }
+{
+    let name = without_slash(trimmed(label));
+    is_reference(name) && position_of(name) > size
+}
+
+/// Whether the name of a member with this label begins past the end of this table of long names.
 pub(crate) fn lacks_name(table: &[u8], label: &[u8]) -> bool
     requires { length label.now ≤ 16 }
     ensures { result ≡ is_none (name_of table.now label.now) }
 {
-    let name = without_slash(trimmed(label));
-    if is_reference(name) {
-        position_of(name) > table.len() as u64
-    } else {
-        false
-    }
+    begins_past(table.len() as u64, label)
 }

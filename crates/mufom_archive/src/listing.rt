@@ -1,12 +1,12 @@
 //! What an archive has.
 
-ghost use Rattle.std.specs.Prelude.{◌≡◌, ◌≤◌, find, is_some, length, option_map, position, take};
+ghost use Rattle.std.specs.Prelude.{◌≡◌, ◌≤◌, find, is_some, length, option_map, position, slice_get, take};
 ghost use Rattle.std.specs.List.{before_first, position_or_len};
 ghost use Rattle.mufom_archive.specs.Names.{name_of};
-ghost use Rattle.mufom_archive.specs.Listings.{first_error, is_refused};
+ghost use Rattle.mufom_archive.specs.Listings.{first_error, first_nameless, is_refused, lacks_name};
 
 use crate::entry::Entry;
-use crate::label::{lacks_name, name_of};
+use crate::label::{begins_past, lacks_name, name_of};
 use mufom_numbers::List;
 use thiserror::Error;
 
@@ -60,6 +60,54 @@ fn first_refused(names: &[u8], size: u64, entries: &[Entry]) -> Option<usize>
     entries
         .iter()
         .position(|entry| is_refused(names, size, entry))
+}
+
+// Whether an entry is a member whose long name begins past the end of a table of long names of this size.
+fn lacks_its_name(size: u64, entry: &Entry) -> bool
+    ensures { result ≡ lacks_name size entry.now }
+{
+    entry.is_member() && begins_past(size, &entry.label)
+}
+
+// The position of the first entry that lacks its name.
+fn position_nameless(size: u64, entries: &[Entry]) -> Option<usize>
+    ensures { result ≡ position (lacks_name size) entries.now }
+{
+    entries.iter().position(|entry| lacks_its_name(size, entry))
+}
+
+// The number of entries before the first one that lacks its name.
+fn count_named(size: u64, entries: &[Entry]) -> usize
+    ensures { result ≡ position_or_len (lacks_name size) entries.now }
+{
+    match position_nameless(size, entries) {
+        Some(count) => count,
+        None => entries.len(),
+    }
+}
+
+// The entry at a position, if there is one.
+fn entry_at(entries: &[Entry], position: usize) -> Option<Entry>
+    ensures { result ≡ slice_get entries.now position }
+{
+    entries.get(position).copied()
+}
+
+// The first entry that lacks its name.
+fn find_nameless(size: u64, entries: &[Entry]) -> Option<Entry>
+    ensures { result ≡ find (lacks_name size) entries.now }
+{
+    entry_at(entries, count_named(size, entries))
+}
+
+/// The offset of the first entry that lacks its name, given the size of the table of long names.
+pub(crate) fn first_nameless(entries: &[Entry], size: Option<u64>) -> Option<u64>
+    ensures { result ≡ first_nameless entries.now size }
+{
+    match find_nameless(size?, entries) {
+        Some(entry) => Some(entry.offset),
+        None => None,
+    }
 }
 
 // The number of entries before the first one that is refused.

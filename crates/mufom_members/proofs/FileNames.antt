@@ -1,5 +1,5 @@
 -- The names of the modules of a file, and how many they are.
-use Rattle.std.proofs.Common.{◌≡◌, ℕ, inl, inr, sym, ◌∙◌, ap, refl, Bool, true, false, List, [], ◌∷◌, length, map, take}
+use Rattle.std.proofs.Common.{◌≡◌, ℕ, inl, inr, sym, ◌∙◌, ap, refl, Bool, true, false, ◌||◌, List, [], ◌∷◌, length, map, take}
 use Rattle.std.proofs.Common.{Option, Some, None, IfSome, if◌then◌else◌, arith}
 use Rattle.std.specs.List.{find}
 use Rattle.std.proofs.lemmas.List.{length-map}
@@ -7,7 +7,7 @@ use Rattle.std.proofs.lemmas.Slice.Eq.{bytes_eq-Decides}
 use Rattle.mufom_records.specs.declared.options.ReadOptions.{ReadOptions}
 use Rattle.mufom_module.specs.declared.module.Parts.{Parts}
 use Rattle.mufom_archive.specs.Entries.{BeginsArchive, begins_archive, entries_from, lacks_header, long_names, signature}
-use Rattle.mufom_archive.specs.Listings.{IsListing, Member, is_refused, members_of}
+use Rattle.mufom_archive.specs.Listings.{IsListing, Member, is_refused, lacks_long_name, members_of}
 use Rattle.mufom_archive.proofs.EntryLaws.{entries_are}
 use Rattle.mufom_archive.proofs.OnlyLaws.{all_before, no_error}
 use Rattle.mufom_members.specs.Files.{AreModulesOf, IsArchiveVerdict, IsPlainVerdict, IsVerdict, IsVerdictWithin, Verdict, accepted, bad_archive, past_limit}
@@ -28,7 +28,7 @@ members_are bytes members l =
 prefix_not_accepted : (bytes : List ℕ) (names : Option (List (List ℕ))) (ms : List Parts) (first : Verdict) → accepted names ms ≡ verdict_on_prefix bytes first → ⊥
 prefix_not_accepted bytes names ms (accepted others ns) is = cc
 prefix_not_accepted bytes names ms (refused offset reason) is = cc
-prefix_not_accepted bytes names ms (bad_archive offset) is = by_test (lacks_header bytes offset) is where
+prefix_not_accepted bytes names ms (bad_archive offset) is = by_test (lacks_header bytes offset || lacks_long_name bytes offset) is where
   by_test : (b : Bool) → accepted names ms ≡ (if b then bad_archive offset else past_limit) → ⊥
   by_test true is = cc
   by_test false is = cc

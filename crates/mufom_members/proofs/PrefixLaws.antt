@@ -1,10 +1,11 @@
 -- An error of the first bytes of an archive that counts past a limit is that of the archive, whatever follows them.
-use Rattle.std.proofs.Common.{◌≡◌, ◌⊎◌, ℕ, ◌+◌, ◌≤◌, ◌∙◌, inl, inr, sym, ap, refl, Bool, true, false, ◌||◌, ◌&&◌, nat_le, nat_lt, if◌then◌else◌}
-use Rattle.std.proofs.Common.{List, [], ◌∷◌, ◌++◌, length, take, drop, Option, Some, None, subst, length-append, arith}
+use Rattle.std.proofs.Common.{◌≡◌, ◌⊎◌, ℕ, ◌+◌, ◌≤◌, ◌∙◌, inl, inr, ◌-◌, sym, ap, refl, Bool, true, false, ◌||◌, ◌&&◌, nat_le, nat_lt, if◌then◌else◌}
+use Rattle.std.proofs.Common.{List, [], ◌∷◌, ◌++◌, length, take, drop, Option, Some, None, option_map, subst, length-append, eqb-true, arith}
 use Rattle.std.specs.List.{AllByRecursion, before_first, find}
 use Rattle.std.specs.Option.{is_none}
 use Rattle.std.specs.Str.Parse.{digits_value}
 use Rattle.std.proofs.lemmas.Bool.Decides.{nat_tests}
+use Rattle.std.proofs.lemmas.List.{length-take}
 use Rattle.std.proofs.lemmas.List.Elements.{filter_map-append}
 use Rattle.mufom_numbers.specs.declared.reason.Reason.{Reason}
 use Rattle.mufom_records.specs.declared.options.ReadOptions.{ReadOptions}
@@ -12,16 +13,17 @@ use Rattle.mufom_module.specs.declared.module.Parts.{Parts}
 use Rattle.mufom_read.specs.Judging.{IsJudged, IsModule, refusal}
 use Rattle.mufom_archive.specs.declared.entry.Entry.{Entry}
 use Rattle.mufom_archive.specs.declared.listing.BadArchive.{BadArchive}
-use Rattle.mufom_archive.specs.Names.{ends_name, is_long_names, is_member, is_reference, long_name, name_of, trimmed, without_slash}
-use Rattle.mufom_archive.specs.Entries.{AreEntries, contents_of, contents_of_table, entry_at, entry_of, lacks_header, long_names, next_offset, table_among}
-use Rattle.mufom_archive.specs.Listings.{IsListing, Member, first_error, is_refused, member_of, members_of}
-use Rattle.mufom_archive.proofs.EntryLaws.{entries_stay, entry_parts, found_entry, header_stays}
-use Rattle.mufom_archive.proofs.ListingLaws.{each_listing}
+use Rattle.mufom_archive.specs.Names.{begins_past, ends_name, is_long_names, is_member, is_reference, long_name, name_of, trimmed, without_slash}
+use Rattle.mufom_archive.specs.Entries.{AreEntries, contents_of, contents_of_table, entry_at, entry_of, lacks_header, long_names, next_offset, offset_after, room_for_names}
+use Rattle.mufom_archive.specs.Entries.{size_of_table, table_among}
+use Rattle.mufom_archive.specs.Listings.{IsListing, Member, first_error, first_nameless, is_at, is_refused, lacks_long_name, lacks_name, member_of, members_of}
+use Rattle.mufom_archive.proofs.EntryLaws.{entries_are, entries_stay, entry_parts, found_entry, header_stays, one_reading}
+use Rattle.mufom_archive.proofs.ListingLaws.{each_listing, offset_after_is}
 use Rattle.mufom_archive.proofs.OnlyLaws.{all_before}
 use Rattle.mufom_members.specs.Files.{AreModulesOf, IsArchiveVerdict, IsFirstRefused, accepted, bad_archive, contents_at, past_limit, refused}
 use Rattle.mufom_members.specs.Laws.{PrefixErrorsStay}
 use Rattle.mufom_members.proofs.EntryOrder.{contents_grow, contents_stay, part_of}
-use Rattle.mufom_members.proofs.Walk.{ends_inside, first_fails, first_passes, member_named, members_none, members_some, not_member, the_member}
+use Rattle.mufom_members.proofs.Walk.{ends_inside, find_fails, find_passes, first_fails, first_passes, member_named, members_none, members_some, not_member, the_member}
 
 -- ---- lists of entries
 
@@ -63,6 +65,33 @@ first_none p q weaker (e ∷ es) none = by_case (p e) refl none (first_none p q 
   by_case true is none rest = absurd (cc)
   by_case false is none rest = ap (λ b. if b then Some e else find q es) (weaker e is) ∙ rest none
 
+-- If a test that fewer pass still passes the first element that the other passes, that one is its first element too, and the same ones
+-- are before it.
+find_both : (p q : Entry → Bool) → ((e : Entry) → p e ≡ false → q e ≡ false) → (es fs : List Entry) (x : Entry) → find p es ≡ Some x → q x ≡ true
+    → (find q (es ++ fs) ≡ Some x) × (before_first q (es ++ fs) ≡ before_first p es)
+find_both p q weaker [] fs x found passes = absurd (cc)
+find_both p q weaker (e ∷ es) fs x found passes = by_case (p e) refl found (λ later. find_both p q weaker es fs x later passes) where
+  by_case : (b : Bool) → p e ≡ b → (if b then Some e else find p es) ≡ Some x
+      → (find p es ≡ Some x → (find q (es ++ fs) ≡ Some x) × (before_first q (es ++ fs) ≡ before_first p es))
+      → (find q (e ∷ (es ++ fs)) ≡ Some x) × (before_first q (e ∷ (es ++ fs)) ≡ before_first p (e ∷ es))
+  by_case true is here rest =
+      let same : e ≡ x = cc in let passed : q e ≡ true = ap q same ∙ passes in (
+        find_passes q e (es ++ fs) passed ∙ here,
+        first_passes q e (es ++ fs) passed ∙ sym (first_passes p e es is),
+      )
+  by_case false is later rest =
+      let both = rest later in let failed = weaker e is in (
+        find_fails q e (es ++ fs) failed ∙ both.0,
+        first_fails q e (es ++ fs) failed ∙ ap (λ l. e ∷ l) both.1 ∙ sym (first_fails p e es is),
+      )
+
+found_so : (p : Entry → Bool) (es : List Entry) (x : Entry) → find p es ≡ Some x → p x ≡ true
+found_so p [] x found = absurd (cc)
+found_so p (e ∷ es) x found = by_case (p e) refl found (found_so p es x) where
+  by_case : (b : Bool) → p e ≡ b → (if b then Some e else find p es) ≡ Some x → (find p es ≡ Some x → p x ≡ true) → p x ≡ true
+  by_case true is here rest = let same : e ≡ x = cc in ap p (sym same) ∙ is
+  by_case false is later rest = rest later
+
 abbrev AreKept : (Entry → Bool) → List Entry → Type 0
 AreKept p es = AllByRecursion (λ e. p e ≡ false) es
 
@@ -72,6 +101,36 @@ first_kept p (e ∷ es) = by_case (p e) refl (first_kept p es) where
   by_case : (b : Bool) → p e ≡ b → AreKept p (before_first p es) → AreKept p (before_first p (e ∷ es))
   by_case true is rest = subst (AreKept p) (sym (first_passes p e es is)) tt
   by_case false is rest = subst (AreKept p) (sym (first_fails p e es is)) (is, rest)
+
+-- ---- names
+
+-- a label lacks its name in each table of at most this size
+not_named : (size : ℕ) (table : List ℕ) (label : List ℕ) → length table ≤ size → begins_past size label ≡ true → is_none (name_of table label) ≡ true
+not_named size table label few past =
+    by_kind (is_reference (without_slash (trimmed label))) (digits_value 10 (drop 1 (without_slash (trimmed label)))) past
+  where
+    by_test : (at : ℕ) (a b : Bool) → nat_lt size at ≡ a → nat_le at (length table) ≡ b → a ≡ true
+        → is_none (if b then Some (before_first ends_name (drop at table)) else None) ≡ true
+    by_test at a false one two is = refl
+    by_test at true true one two is = absurd (grind (arith, nat_tests, few))
+    by_test at false true one two is = absurd (cc)
+
+    by_kind : (reference : Bool) (at : ℕ) → (reference && nat_lt size at) ≡ true
+        → is_none (if reference then long_name table at else Some (without_slash (trimmed label))) ≡ true
+    by_kind true at is = by_test at (nat_lt size at) (nat_le at (length table)) refl refl is
+    by_kind false at is = absurd (cc)
+
+contents_few : (bytes : List ℕ) (e : Entry) → length (contents_of bytes e) ≤ e.end - e.start
+contents_few bytes e = omega (arith, length-take (e.end - e.start) (drop e.start bytes))
+
+-- an entry that lacks its name in each table of at most this size is refused
+refused_nameless : (table : List ℕ) (n size : ℕ) (e : Entry) → length table ≤ size → lacks_name size e ≡ true → is_refused table n e ≡ true
+refused_nameless table n size e few lacks = by_test (nat_lt n e.end) (is_member e.label) (begins_past size e.label) refl lacks where
+  by_test : (a b c : Bool) → begins_past size e.label ≡ c → (b && c) ≡ true → (a || (b && is_none (name_of table e.label))) ≡ true
+  by_test true b c past is = refl
+  by_test false true true past is = not_named size table e.label few past
+  by_test false true false past is = absurd (cc)
+  by_test false false c past is = absurd (cc)
 
 -- ---- entries that are not refused
 
@@ -405,12 +464,140 @@ module _ (options : ReadOptions) (bytes more : List ℕ) where
           by_test true is = refl
           by_test false is = absurd (grind (arith, nat_tests, inside, length-append bytes more))
 
+  -- the first member that lacks its name, whatever follows
+  pub record IsNameless (entries : List Entry) (offset : ℕ) : Type 0 where
+    pub size : ℕ
+    pub room : room_for_names bytes entries ≡ Some size
+    pub entry : Entry
+    pub found : find (lacks_name size) entries ≡ Some entry
+    pub place : entry.offset ≡ offset
+
+  is_nameless : (entries : List Entry) (offset : ℕ) → is_at (first_nameless entries (room_for_names bytes entries)) offset ≡ true → IsNameless entries offset
+  is_nameless entries offset is = by_room (room_for_names bytes entries) refl is where
+    by_room : (o : Option ℕ) → room_for_names bytes entries ≡ o → is_at (first_nameless entries o) offset ≡ true → IsNameless entries offset
+    by_room None none is = absurd (cc)
+    by_room (Some size) some is = by_found (find (lacks_name size) entries) refl is where
+      by_found : (o : Option Entry) → find (lacks_name size) entries ≡ o → is_at (option_map (λ (e : Entry). e.offset) o) offset ≡ true
+          → IsNameless entries offset
+      by_found None none is = absurd (cc)
+      by_found (Some e) found is = record { size = size; room = some; entry = e; found = found; place = eqb-true e.offset offset is }
+
+  -- the first error is that of this entry
+  refused_first : (members : List Member) (offset : ℕ) (l : IsListing bytes members (Some (record { offset = offset }))) (e : Entry)
+      → entry_at bytes offset ≡ Some e → find (is_refused (long_names bytes l.entries) (length bytes)) l.entries ≡ Some e
+  refused_first members offset l e here = by_found (find (is_refused (long_names bytes l.entries) (length bytes)) l.entries) refl l.refused where
+    by_found : (o : Option Entry) → find (is_refused (long_names bytes l.entries) (length bytes)) l.entries ≡ o
+        → ◌≡◌ {A = Option BadArchive} (Some (record { offset = offset })) (first_error (length bytes) l.next o) → o ≡ Some e
+    by_found (Some f) found is =
+        let at = found_entry (is_refused (long_names bytes l.entries) (length bytes)) bytes 8 l.entries l.next f l.found found in
+        let parts = entry_parts at.0 (take 60 (drop at.0 bytes)) f at.1 in
+        let there : offset ≡ at.0 = bad_same offset f.offset is ∙ parts.offset in
+        sym at.1 ∙ ap (entry_at bytes) (sym there) ∙ here
+    by_found None found is = by_test (nat_lt l.next (length bytes)) is where
+      by_test : (b : Bool) → ◌≡◌ {A = Option BadArchive} (Some (record { offset = offset })) (if b then Some (record { offset = l.next }) else None)
+          → ◌≡◌ {A = Option Entry} None (Some e)
+      by_test true is = sym l.last ∙ ap (entry_at bytes) (sym (bad_same offset l.next is)) ∙ here
+      by_test false is = absurd (cc)
+
+  -- the table of long names has at most the room for names, whatever follows
+  room_is_enough : (es all : List Entry) (next end size : ℕ) → AreEntries bytes 8 es next → entry_at bytes next ≡ None
+      → AreEntries (bytes ++ more) 8 all end → entry_at (bytes ++ more) end ≡ None
+      → ((t : Entry) → table_among es ≡ Some t → table_among all ≡ Some t) → room_for_names bytes es ≡ Some size
+      → length (long_names (bytes ++ more) all) ≤ size
+  room_is_enough es all next end size found last whole ends stays room = by_table (table_among es) refl room where
+    by_table : (o : Option Entry) → table_among es ≡ o → size_of_table o (lacks_header bytes (offset_after 8 es)) ≡ Some size
+        → length (long_names (bytes ++ more) all) ≤ size
+    by_table (Some t) is room =
+        let same : t.end - t.start ≡ size = cc in
+        let names : long_names (bytes ++ more) all ≡ contents_of (bytes ++ more) t = ap (contents_of_table (bytes ++ more)) (stays t is) in
+        omega (arith, same, ap length names, contents_few (bytes ++ more) t)
+    by_table None is room = by_header (lacks_header bytes (offset_after 8 es)) refl room where
+      by_header : (b : Bool) → lacks_header bytes (offset_after 8 es) ≡ b → size_of_table None b ≡ Some size → length (long_names (bytes ++ more) all) ≤ size
+      by_header false lacks room = absurd (cc)
+      by_header true lacks room =
+          let lacking : lacks_header bytes next ≡ true = ap (lacks_header bytes) (sym (offset_after_is bytes 8 es next found)) ∙ lacks in
+          let fits = and_left (nat_le (next + 60) (length bytes)) (is_none (entry_at bytes next)) lacking in
+          let inside : next + 60 ≤ length bytes = grind (arith, nat_tests, fits) in
+          let stop : entry_at (bytes ++ more) next ≡ None = ap (entry_of next) (header_stays bytes more next inside) ∙ last in
+          let same = (one_reading (bytes ++ more) 8 all es end next whole ends (entries_stay bytes more 8 es next found) stop).0 in
+          let none : long_names (bytes ++ more) all ≡ [] = ap (long_names (bytes ++ more)) same ∙ ap (contents_of_table (bytes ++ more)) is in
+          omega (arith, ap length none)
+
+  nameless_stays : (offset : ℕ) → lacks_long_name bytes offset ≡ true → IsArchiveVerdict options bytes (bad_archive offset)
+      → IsArchiveVerdict options (bytes ++ more) (bad_archive offset)
+  nameless_stays offset lacks is = (
+    each.0,
+    is.1,
+    subst (λ o. IsListing (bytes ++ more) each.0 o) error each.2,
+    subst (λ m. AreModulesOf options (bytes ++ more) m is.1) (sym listed)
+        (modules_still bytes more l.entries (l.entries ++ split.0) stays options (before_first refuses l.entries) (first_kept refuses l.entries) is.1
+        (subst (λ m. AreModulesOf options bytes m is.1) l.listed is.3)),
+  ) where
+    l : IsListing bytes is.0 (Some (record { offset = offset }))
+    l = is.2
+
+    each : (ms : List Member) × (error : Option BadArchive) × IsListing (bytes ++ more) ms error
+    each = each_listing (bytes ++ more)
+
+    split : (gs : List Entry) × (each.2.entries ≡ l.entries ++ gs)
+    split = entries_split (bytes ++ more) 8 l.entries each.2.entries l.next each.2.next (entries_stay bytes more 8 l.entries l.next l.found) each.2.found
+        each.2.last
+
+    stays : (t : Entry) → table_among l.entries ≡ Some t → table_among (l.entries ++ split.0) ≡ Some t
+    stays t some = find_stays (λ e. is_long_names e.label) l.entries split.0 t some
+
+    refuses : Entry → Bool
+    refuses = is_refused (long_names bytes l.entries) (length bytes)
+
+    names : List ℕ
+    names = long_names (bytes ++ more) (l.entries ++ split.0)
+
+    it : IsNameless l.entries offset
+    it = is_nameless l.entries offset
+        (ap (λ es. is_at (first_nameless es (room_for_names bytes es)) offset)
+        (entries_are (length bytes) bytes 8 l.entries l.next l.found l.last (omega arith)) ∙ lacks)
+
+    here : entry_at bytes offset ≡ Some it.entry
+    here =
+        let at = found_entry (lacks_name it.size) bytes 8 l.entries l.next it.entry l.found it.found in
+        let parts = entry_parts at.0 (take 60 (drop at.0 bytes)) it.entry at.1 in
+        ap (entry_at bytes) (sym it.place ∙ parts.offset) ∙ at.1
+
+    enough : length (long_names (bytes ++ more) (l.entries ++ split.0)) ≤ it.size
+    enough = room_is_enough l.entries (l.entries ++ split.0) l.next each.2.next it.size l.found l.last
+        (subst (λ es. AreEntries (bytes ++ more) 8 es each.2.next) split.1 each.2.found) each.2.last stays it.room
+
+    both : (find (is_refused (long_names (bytes ++ more) (l.entries ++ split.0)) (length (bytes ++ more))) (l.entries ++ split.0) ≡ Some it.entry)
+        × (before_first (is_refused (long_names (bytes ++ more) (l.entries ++ split.0)) (length (bytes ++ more))) (l.entries ++ split.0)
+        ≡ before_first (is_refused (long_names bytes l.entries) (length bytes)) l.entries)
+    both = find_both (is_refused (long_names bytes l.entries) (length bytes))
+        (is_refused (long_names (bytes ++ more) (l.entries ++ split.0)) (length (bytes ++ more)))
+        (kept_still bytes more l.entries (l.entries ++ split.0) stays) l.entries split.0 it.entry (refused_first is.0 offset l it.entry here)
+        (refused_nameless (long_names (bytes ++ more) (l.entries ++ split.0)) (length (bytes ++ more)) it.size it.entry enough
+        (found_so (lacks_name it.size) l.entries it.entry it.found))
+
+    error : each.1 ≡ Some (record { offset = offset })
+    error =
+        each.2.refused
+        ∙ (λ i. first_error (length (bytes ++ more)) each.2.next (find (is_refused (long_names (bytes ++ more) (split.1 i)) (length (bytes ++ more))) (split.1 i)))
+        ∙ ap (first_error (length (bytes ++ more)) each.2.next) both.0 ∙ ap (λ n. Some (record { offset = n })) it.place
+
+    listed : each.0 ≡ members_of (long_names (bytes ++ more) (l.entries ++ split.0)) (before_first (is_refused (long_names bytes l.entries) (length bytes)) l.entries)
+    listed =
+        each.2.listed
+        ∙ (λ i. members_of (long_names (bytes ++ more) (split.1 i))
+        (before_first (is_refused (long_names (bytes ++ more) (split.1 i)) (length (bytes ++ more))) (split.1 i)))
+        ∙ ap (members_of (long_names (bytes ++ more) (l.entries ++ split.0))) both.1
+
 pub prefix_errors_stay : PrefixErrorsStay
 prefix_errors_stay options bytes more (accepted its_names ms) is counts = absurd (counts refl)
 prefix_errors_stay options bytes more past_limit is counts = absurd (counts refl)
 prefix_errors_stay options bytes more (refused offset reason) is counts = refused_stays options bytes more offset reason is
-prefix_errors_stay options bytes more (bad_archive offset) is counts = by_test (lacks_header bytes offset) refl counts where
-  by_test : (b : Bool) → lacks_header bytes offset ≡ b → ((if b then bad_archive offset else past_limit) ≡ past_limit → ⊥)
-      → IsArchiveVerdict options (bytes ++ more) (if b then bad_archive offset else past_limit)
-  by_test true lacks counts = bad_stays options bytes more offset lacks is
-  by_test false lacks counts = absurd (counts refl)
+prefix_errors_stay options bytes more (bad_archive offset) is counts =
+    by_test (lacks_header bytes offset) (lacks_long_name bytes offset) refl refl counts where
+      by_test : (a b : Bool) → lacks_header bytes offset ≡ a → lacks_long_name bytes offset ≡ b
+          → ((if (a || b) then bad_archive offset else past_limit) ≡ past_limit → ⊥)
+          → IsArchiveVerdict options (bytes ++ more) (if (a || b) then bad_archive offset else past_limit)
+      by_test true b lacks other counts = bad_stays options bytes more offset lacks is
+      by_test false true other lacks counts = nameless_stays options bytes more offset lacks is
+      by_test false false one two counts = absurd (counts refl)

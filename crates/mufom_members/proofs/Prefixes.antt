@@ -1,5 +1,5 @@
 -- The stop for an archive that goes on after the bytes that were read.
-use Rattle.std.proofs.Common.{◌≡◌, ◌≢◌, ℕ, ◌+◌, ◌∙◌, sym, ap, refl, Bool, true, false, ◌&&◌, ◌==◌, nat_le, nat_lt, if◌then◌else◌, List, length, map, take, drop}
+use Rattle.std.proofs.Common.{◌≡◌, ◌≢◌, ℕ, ◌+◌, ◌∙◌, sym, ap, refl, Bool, true, false, ◌||◌, ◌&&◌, ◌==◌, nat_le, nat_lt, if◌then◌else◌, List, length, map, take, drop}
 use Rattle.std.proofs.Common.{Option, Some, None, subst, eqb-true}
 use Rattle.std.specs.List.{find}
 use Rattle.std.specs.Option.{is_none}
@@ -7,7 +7,7 @@ use Rattle.std.proofs.lemmas.Bool.Decides.{Decides-eqb}
 use Rattle.mufom_archive.specs.declared.entry.Entry.{Entry}
 use Rattle.mufom_archive.specs.declared.listing.BadArchive.{BadArchive}
 use Rattle.mufom_archive.specs.Entries.{entry_at, lacks_header, long_names}
-use Rattle.mufom_archive.specs.Listings.{IsBadHeader, IsListing, Member, first_error, is_refused}
+use Rattle.mufom_archive.specs.Listings.{IsBadHeader, IsListing, Member, first_error, is_at, is_refused, lacks_long_name, nameless_in}
 use Rattle.mufom_archive.proofs.EntryLaws.{entry_parts, found_entry, one_reading}
 use Rattle.mufom_read.specs.declared.refusal.ReadRefusal.{ReadRefusal}
 use Rattle.mufom_members.specs.declared.archive.Gatherer.{Gatherer}
@@ -15,7 +15,7 @@ use Rattle.mufom_members.specs.declared.members.MembersStop.{MembersStop}
 use Rattle.mufom_members.specs.declared.members.MembersStop.TheVariants as stop
 use Rattle.mufom_members.specs.Files.{IsArchiveVerdict, IsPrefixVerdict, accepted, bad_archive, past_limit, refused}
 use Rattle.mufom_members.specs.Results.{StopsBy}
-use Rattle.mufom_members.specs.Reading.{HasGathered, first_stop, is_at, prefix_stop}
+use Rattle.mufom_members.specs.Reading.{HasGathered, first_stop, prefix_stop}
 use Rattle.mufom_members.proofs.Finishing.{gathered_modules, gathered_stop}
 
 -- ---- whether the error is that of a header
@@ -93,37 +93,37 @@ only_errors (Some r) (Some bad) s is = by_test (nat_lt bad.offset r.offset) is w
   by_test false is = let same : stop.Refused r ≡ s = cc in subst (λ (x : MembersStop). IsError x) same tt
 
 module _ (g : Gatherer) (stream : List ℕ) (has : HasGathered g stream) (members : List Member) (error : Option BadArchive)
-    (l : IsListing stream members error) (header : Option ℕ) (h : IsBadHeader stream header) where
+    (l : IsListing stream members error) (header nameless : Option ℕ) (h : IsBadHeader stream header) (n : nameless ≡ nameless_in stream) where
   abbrev Is : MembersStop → Type 0
   Is s = StopsBy (IsPrefixVerdict g.gathered.options stream) s
 
-  by_stop : (o : Option MembersStop) → first_stop g.gathered.refusal error ≡ o → Is (prefix_stop header o)
+  by_stop : (o : Option MembersStop) → first_stop g.gathered.refusal error ≡ o → Is (prefix_stop header nameless o)
   by_stop None is = (accepted (Some (map (λ m. m.name) members)) g.gathered.modules, gathered_modules g stream has members error l is, refl)
   by_stop (Some (stop.Refused r)) is = (refused r.offset r.reason, gathered_stop g stream has members error l (stop.Refused r) is, refl)
-  by_stop (Some (stop.BadArchive bad)) is = by_header (is_at header bad.offset) refl where
+  by_stop (Some (stop.BadArchive bad)) is = by_header (is_at header bad.offset || is_at nameless bad.offset) refl where
     first : IsArchiveVerdict g.gathered.options stream (bad_archive bad.offset)
     first = gathered_stop g stream has members error l (stop.BadArchive bad) is
 
-    lacks : is_at header bad.offset ≡ lacks_header stream bad.offset
-    lacks = header_error stream first.0 (record { offset = bad.offset }) header first.2 h
+    lacks : (is_at header bad.offset || is_at nameless bad.offset) ≡ (lacks_header stream bad.offset || lacks_long_name stream bad.offset)
+    lacks = λ i. (header_error stream first.0 (record { offset = bad.offset }) header first.2 h i) || is_at (n i) bad.offset
 
-    by_header : (b : Bool) → is_at header bad.offset ≡ b → Is (if b then stop.BadArchive bad else stop.Limit)
+    by_header : (b : Bool) → (is_at header bad.offset || is_at nameless bad.offset) ≡ b → Is (if b then stop.BadArchive bad else stop.Limit)
     by_header true is = (bad_archive bad.offset, first, sym (ap (λ b. if b then bad_archive bad.offset else past_limit) (sym lacks ∙ is)))
     by_header false is = (bad_archive bad.offset, first, sym (ap (λ b. if b then bad_archive bad.offset else past_limit) (sym lacks ∙ is)))
   by_stop (Some stop.Limit) is = absurd (only_errors g.gathered.refusal error stop.Limit is)
   by_stop (Some stop.Fault) is = absurd (only_errors g.gathered.refusal error stop.Fault is)
   by_stop (Some stop.NoMemory) is = absurd (only_errors g.gathered.refusal error stop.NoMemory is)
 
-  pub gathered_prefix : (o : Option MembersStop) (s : MembersStop) → o ≡ first_stop g.gathered.refusal error → s ≡ prefix_stop header o
+  pub gathered_prefix : (o : Option MembersStop) (s : MembersStop) → o ≡ first_stop g.gathered.refusal error → s ≡ prefix_stop header nameless o
       → StopsBy (IsPrefixVerdict g.gathered.options stream) s
   gathered_prefix o s is made = subst (λ (x : MembersStop). StopsBy (IsPrefixVerdict g.gathered.options stream) x) (sym made) (by_stop o (sym is))
 
-pub prefix_no_fault : (header : Option ℕ) (o : Option MembersStop) (s : MembersStop) → s ≡ prefix_stop header o → ◌≢◌ {A = MembersStop} s stop.Fault
-prefix_no_fault header o s made = λ is. by_stop o (sym made ∙ is) where
-  by_stop : (o : Option MembersStop) → prefix_stop header o ≡ stop.Fault → ⊥
+pub prefix_no_fault : (header nameless : Option ℕ) (o : Option MembersStop) (s : MembersStop) → s ≡ prefix_stop header nameless o → ◌≢◌ {A = MembersStop} s stop.Fault
+prefix_no_fault header nameless o s made = λ is. by_stop o (sym made ∙ is) where
+  by_stop : (o : Option MembersStop) → prefix_stop header nameless o ≡ stop.Fault → ⊥
   by_stop None is = let wrong : stop.Limit ≡ stop.Fault = is in cc
   by_stop (Some (stop.Refused r)) is = let wrong : stop.Refused r ≡ stop.Fault = is in cc
-  by_stop (Some (stop.BadArchive bad)) is = by_header (is_at header bad.offset) is where
+  by_stop (Some (stop.BadArchive bad)) is = by_header (is_at header bad.offset || is_at nameless bad.offset) is where
     by_header : (b : Bool) → (if b then stop.BadArchive bad else stop.Limit) ≡ stop.Fault → ⊥
     by_header true is = let wrong : stop.BadArchive bad ≡ stop.Fault = is in cc
     by_header false is = let wrong : stop.Limit ≡ stop.Fault = is in cc

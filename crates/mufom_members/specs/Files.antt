@@ -1,8 +1,8 @@
 -- What a file has: one module, or those of an archive; or why it is refused.
-use Rattle.std.specs.Prelude.{◌≡◌, ◌⊎◌, ℕ, ◌+◌, ◌-◌, ◌<◌, ◌≤◌, List, [], ◌∷◌, ◌++◌, length, map, take, drop, Option, Some, None, if◌then◌else◌}
+use Rattle.std.specs.Prelude.{◌≡◌, ◌⊎◌, ◌||◌, ℕ, ◌+◌, ◌-◌, ◌<◌, ◌≤◌, List, [], ◌∷◌, ◌++◌, length, map, take, drop, Option, Some, None, if◌then◌else◌}
 use Rattle.mufom_archive.specs.declared.listing.BadArchive.{BadArchive}
 use Rattle.mufom_archive.specs.Entries.{BeginsArchive, lacks_header}
-use Rattle.mufom_archive.specs.Listings.{IsListing, Member}
+use Rattle.mufom_archive.specs.Listings.{IsListing, Member, lacks_long_name}
 use Rattle.mufom_numbers.specs.declared.reason.Reason.{Reason}
 use Rattle.mufom_module.specs.declared.module.Parts.{Parts}
 use Rattle.mufom_records.specs.declared.options.ReadOptions.{ReadOptions}
@@ -59,14 +59,14 @@ IsArchiveVerdict options bytes (bad_archive offset) = (members : List Member) ×
     × IsListing bytes members (Some (record { offset = offset })) × AreModulesOf options bytes members modules
 IsArchiveVerdict options bytes _ = ⊥
 
--- The verdict on an archive of which these bytes are only the first, given their verdict as an archive of their own. An error of a
--- member is kept, and so is a header that is complete and is none. Any other verdict may change with the bytes that follow, so that
--- the archive is only too long. For example, contents that end after these bytes may be complete, and the table of long names may
--- follow.
+-- The verdict on an archive of which these bytes are only the first, given their verdict as an archive of their own. An error is kept
+-- if no bytes that follow can mend it: that of a member, a header that is complete and is none, and a long name that begins past the
+-- end of the table, whatever follows. Any other verdict may change with the bytes that follow, so that the archive is only too long.
+-- For example, contents that end after these bytes may be complete, and the table of long names may follow.
 abbrev pub verdict_on_prefix : List ℕ → Verdict → Verdict
 verdict_on_prefix bytes (accepted names modules) = past_limit
 verdict_on_prefix bytes (refused offset reason) = refused offset reason
-verdict_on_prefix bytes (bad_archive offset) = if lacks_header bytes offset then bad_archive offset else past_limit
+verdict_on_prefix bytes (bad_archive offset) = if lacks_header bytes offset || lacks_long_name bytes offset then bad_archive offset else past_limit
 verdict_on_prefix bytes past_limit = past_limit
 
 -- The verdict on an archive of which these bytes are only the first.

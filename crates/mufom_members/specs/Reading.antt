@@ -1,6 +1,6 @@
 -- What it means that the members of an archive were read up to some byte of it.
-use Rattle.std.specs.Prelude.{◌≡◌, ◌⊎◌, ℕ, ◌+◌, ◌*◌, ◌<◌, ◌≤◌, Bool, true, false, nat_lt, if◌then◌else◌, List, [], ◌∷◌, ◌++◌, length, filter}
-use Rattle.std.specs.Prelude.{Option, Some, None, ◌==◌}
+use Rattle.std.specs.Prelude.{◌≡◌, ◌⊎◌, ℕ, ◌+◌, ◌*◌, ◌<◌, ◌≤◌, Bool, true, false, ◌||◌, nat_lt, if◌then◌else◌, List, [], ◌∷◌, ◌++◌, length, filter}
+use Rattle.std.specs.Prelude.{Option, Some, None}
 use Rattle.std.specs.List.{AllByRecursion}
 use Rattle.mufom_archive.specs.declared.entry.Entry.{Entry}
 use Rattle.mufom_archive.specs.declared.listing.BadArchive.{BadArchive}
@@ -14,6 +14,7 @@ use Rattle.mufom_members.specs.declared.members.MembersStop.{MembersStop}
 use Rattle.mufom_members.specs.declared.members.MembersStop.TheVariants as stop
 use Rattle.mufom_archive.specs.Names.{is_member}
 use Rattle.mufom_archive.specs.Entries.{contents_of}
+use Rattle.mufom_archive.specs.Listings.{is_at}
 use Rattle.mufom_numbers.specs.declared.reason.Reason.{Reason}
 use Rattle.mufom_module.specs.declared.module.Parts.{Parts}
 use Rattle.mufom_records.specs.declared.options.ReadOptions.{ReadOptions}
@@ -157,15 +158,10 @@ first_stop None (Some bad) = Some (stop.BadArchive bad)
 first_stop (Some r) None = Some (stop.Refused r)
 first_stop (Some r) (Some bad) = if nat_lt bad.offset r.offset then Some (stop.BadArchive bad) else Some (stop.Refused r)
 
--- there is a place, and it is this offset
-abbrev pub is_at : Option ℕ → ℕ → Bool
-is_at None offset = false
-is_at (Some at) offset = at == offset
-
--- The stop for an archive that goes on after some bytes, given the offset of a header that is complete and is none, and the stop for
--- these bytes alone.
-abbrev pub prefix_stop : Option ℕ → Option MembersStop → MembersStop
-prefix_stop header None = stop.Limit
-prefix_stop header (Some (stop.Refused r)) = stop.Refused r
-prefix_stop header (Some (stop.BadArchive bad)) = if is_at header bad.offset then stop.BadArchive bad else stop.Limit
-prefix_stop header (Some _) = stop.Limit
+-- The stop for an archive that goes on after some bytes, given the offset of a header that is complete and is none, that of the first
+-- member that lacks its long name, whatever follows, and the stop for these bytes alone.
+abbrev pub prefix_stop : Option ℕ → Option ℕ → Option MembersStop → MembersStop
+prefix_stop header nameless None = stop.Limit
+prefix_stop header nameless (Some (stop.Refused r)) = stop.Refused r
+prefix_stop header nameless (Some (stop.BadArchive bad)) = if is_at header bad.offset || is_at nameless bad.offset then stop.BadArchive bad else stop.Limit
+prefix_stop header nameless (Some _) = stop.Limit

@@ -4,11 +4,12 @@ ghost use Rattle.std.specs.Prelude.{◌≡◌, ◌≢◌, ◌+◌, ◌*◌, ◌<
 ghost use Rattle.mufom_records.specs.declared.options.ReadOptions.{ReadOptions};
 ghost use Rattle.std.specs.List.{sum_by};
 ghost use Rattle.mufom_module.specs.Written.{weight};
+ghost use Rattle.mufom_archive.specs.Listings.{is_at};
 ghost use Rattle.mufom_archive.specs.Reading.{entries_of, length_of};
 ghost use Rattle.mufom_members.specs.Results.{HasModules, StopsBy};
 ghost use Rattle.mufom_members.specs.Files.{IsArchiveVerdict, IsPrefixVerdict};
 ghost use Rattle.mufom_members.specs.Names.{is_named};
-ghost use Rattle.mufom_members.specs.Reading.{HasBegun, HasGathered, HasStepped, first_stop, is_at, prefix_stop};
+ghost use Rattle.mufom_members.specs.Reading.{HasBegun, HasGathered, HasStepped, first_stop, prefix_stop};
 
 use crate::gathered::Gathered;
 use crate::members::{Members, MembersStop};
@@ -77,15 +78,16 @@ fn is_at(place: Option<u64>, offset: u64) -> bool
     }
 }
 
-// The stop for an archive that goes on after the bytes that were read, given the stop for these bytes alone, and the
-// offset of a header that is complete and is none. What follows may mend any other error of the archive.
-fn prefix_stop(stop: Option<MembersStop>, header: Option<u64>) -> MembersStop
-    ensures { result ≡ prefix_stop header stop }
+// The stop for an archive that goes on after the bytes that were read, given the stop for these bytes alone, the
+// offset of a header that is complete and is none, and that of the first member that lacks its long name, whatever
+// follows. What follows may mend any other error of the archive.
+fn prefix_stop(stop: Option<MembersStop>, header: Option<u64>, nameless: Option<u64>) -> MembersStop
+    ensures { result ≡ prefix_stop header nameless stop }
 {
     match stop {
         Some(MembersStop::Refused(refusal)) => MembersStop::Refused(refusal),
         Some(MembersStop::BadArchive(bad)) => {
-            if is_at(header, bad.offset) {
+            if is_at(header, bad.offset) || is_at(nameless, bad.offset) {
                 MembersStop::BadArchive(bad)
             } else {
                 MembersStop::Limit
@@ -174,8 +176,13 @@ impl Gatherer {
             gathered,
         } = self;
         let header = archive.bad_header();
+        let nameless = archive.nameless();
         let listing = archive.finish();
-        prefix_stop(first_stop(gathered.refusal, listing.error), header)
+        prefix_stop(
+            first_stop(gathered.refusal, listing.error),
+            header,
+            nameless,
+        )
     }
 
     /// The modules of the archive whose bytes were read, all of them, or why it has none. `size` is their number.

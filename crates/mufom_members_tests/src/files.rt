@@ -240,6 +240,51 @@ fn a_table_of_long_names_may_be_past_the_limit(rt: HostRuntime) {
 }
 
 #[test]
+fn a_long_name_past_a_table_is_bad_past_the_limit(rt: HostRuntime) {
+    let mut bytes = archive(&rt, rt.alloc());
+    add_entry(&rt, &mut bytes, b"//              ", b"4         ", b"d.o/");
+    add_entry(&rt, &mut bytes, b"/99             ", b"120       ", EVEN);
+    add_entry(&rt, &mut bytes, b"c.o/            ", b"120       ", EVEN);
+    let error = BadArchive { offset: 72 };
+    assert_eq!(rt;
+        stop(&rt, rt.alloc(), &bytes, 400),
+        Some(MembersStop::BadArchive(error))
+    );
+}
+
+#[test]
+fn a_long_name_past_a_table_that_the_limit_cuts_off_is_bad(rt: HostRuntime) {
+    let mut bytes = archive(&rt, rt.alloc());
+    add_entry(&rt, &mut bytes, b"/5              ", b"120       ", EVEN);
+    add_entry(&rt, &mut bytes, b"//              ", b"4         ", b"d.o/");
+    let error = BadArchive { offset: 8 };
+    assert_eq!(rt;
+        stop(&rt, rt.alloc(), &bytes, 248),
+        Some(MembersStop::BadArchive(error))
+    );
+    assert_eq!(rt;
+        stop(&rt, rt.alloc(), &bytes, 247),
+        Some(MembersStop::Limit)
+    );
+}
+
+#[test]
+fn a_long_name_is_bad_if_no_table_can_follow(rt: HostRuntime) {
+    let mut bytes = archive(&rt, rt.alloc());
+    add_entry(&rt, &mut bytes, b"/5              ", b"120       ", EVEN);
+    add(&rt, &mut bytes, &EVEN[..61]);
+    let error = BadArchive { offset: 8 };
+    assert_eq!(rt;
+        stop(&rt, rt.alloc(), &bytes, 248),
+        Some(MembersStop::BadArchive(error))
+    );
+    assert_eq!(rt;
+        stop(&rt, rt.alloc(), &bytes, 247),
+        Some(MembersStop::Limit)
+    );
+}
+
+#[test]
 fn many_empty_tables_are_read(rt: HostRuntime) {
     let mut bytes = archive(&rt, rt.alloc());
     for _ in 0..100_000 {

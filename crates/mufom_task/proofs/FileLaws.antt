@@ -1,5 +1,5 @@
 -- The verdicts on one file: it has one, and one with modules is the same within each limit that the file keeps.
-use Rattle.std.proofs.Common.{◌≡◌, ℕ, ◌≤◌, Bool, true, false, if◌then◌else◌, List, [], ◌∷◌, length, take}
+use Rattle.std.proofs.Common.{◌≡◌, ℕ, ◌≤◌, Bool, true, false, ◌||◌, if◌then◌else◌, List, [], ◌∷◌, length, take}
 use Rattle.std.proofs.Common.{Option, Some, None, refl, sym, ap, subst, ◌∙◌, inl, inr, arith}
 use Rattle.std.proofs.lemmas.List.{take_all}
 use Rattle.mufom_numbers.specs.Spelling.{AreBytes}
@@ -12,6 +12,7 @@ use Rattle.mufom_read.specs.Judging.{IsJudged, IsModule, module_of, refusal}
 use Rattle.mufom_read.specs.Laws.{HasOneJudgment}
 use Rattle.mufom_read.specs.Source.{IsPastLimit, IsRefusedWithin}
 use Rattle.mufom_archive.specs.Entries.{lacks_header}
+use Rattle.mufom_archive.specs.Listings.{lacks_long_name}
 use Rattle.mufom_members.specs.Files.{IsPlainVerdict, IsVerdict, Verdict, accepted, bad_archive, past_limit, refused, verdict_on_prefix}
 use Rattle.mufom_members.proofs.OneVerdict.{one_verdict as one_members_verdict}
 use Rattle.mufom_task.specs.Inputs.{HasModules, IsFilePast, IsFileRefused, IsFileVerdict}
@@ -38,7 +39,7 @@ never-prefix bytes names ms (accepted others more) same = cc
 never-prefix bytes names ms (refused offset reason) same = cc
 never-prefix bytes names ms past_limit same = cc
 never-prefix bytes names ms (bad_archive offset) same =
-    by_test (lacks_header bytes offset) same where
+    by_test (lacks_header bytes offset || lacks_long_name bytes offset) same where
       by_test : (b : Bool) → accepted names ms ≡ (if b then bad_archive offset else past_limit) → ⊥
       by_test true is = cc
       by_test false is = cc
