@@ -35,12 +35,15 @@ Usual causes:
   - OFFSET is 0: the file is not an object module of this format. It may be an
     ELF or COFF file, a text, or a plan without --plan before it; or an archive
     of `ar` that is not named after a +, or a thin one.
-  - OFFSET is that of a member of an archive, which is of another format.
+  - In an archive, a member is of another format. OFFSET is where its contents
+    begin. `ar tO FILE` lists the members with these offsets, in hexadecimal.
+  - The archive is one of BSD or macOS, with names such as #1/20 and
+    __.SYMDEF SORTED. Such archives are not read.
   - The writer of the file leaves out offsets, or writes them in another order.
 
 What to do:
   - Check the name of file N. Brackets and + are not counted.
-  - Look at how it begins: xxd -l 96 FILE.
+  - Look at the bytes there: xxd -s OFFSET -l 96 FILE.
   - If it is an archive, name it after the +. A thin one does not hold its
     members: make it again with `ar rcD`.
   - If it is an object of gcc, GNU binutils 2.16.1 can write it as a module:
