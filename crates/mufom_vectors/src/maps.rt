@@ -64,7 +64,22 @@ const MEMBERS: &[File] = &[
     ("m1", Held::Names(b"\xE8\x20\x01g\xE2\xC9\x20\x00")),
 ];
 
-static RUNS: [Case; 13] = [
+/// The root, and an archive of the two members.
+const ARCHIVED: &[File] = &[
+    (
+        "r",
+        Held::Names(b"\xE8\x20\x01f\xE2\xC9\x20\x00\xE9\x0B\x01g"),
+    ),
+    (
+        "l.a",
+        Held::Archive(&[
+            (b"b.o/            ", b"\xE8\x20\x01h\xE2\xC9\x20\x00"),
+            (b"c.o/            ", b"\xE8\x20\x01g\xE2\xC9\x20\x00"),
+        ]),
+    ),
+];
+
+static RUNS: [Case; 14] = [
     Case {
         files: &[("a", Held::Absolute)],
         first: "",
@@ -163,6 +178,18 @@ static RUNS: [Case; 13] = [
         status: 0,
         text: "module 0 \"m\" file 0: \"r\"\n\
             module 1 \"m\" file 2: \"m1\"\n\
+            public 00000000 \"f\" module 0\n\
+            public 00000000 \"g\" module 1\n\
+            sections 0 bytes 0 loaded 0\n",
+    },
+    // A member of an archive, with its name in the archive.
+    Case {
+        files: ARCHIVED,
+        first: "",
+        line: "map r + l.a",
+        status: 0,
+        text: "module 0 \"m\" file 0: \"r\"\n\
+            module 1 \"m\" file 1: \"l.a(c.o)\"\n\
             public 00000000 \"f\" module 0\n\
             public 00000000 \"g\" module 1\n\
             sections 0 bytes 0 loaded 0\n",

@@ -29,6 +29,9 @@ pub(crate) enum Held {
     Spaces(usize),
     /// A module with nothing but these external records.
     Names(&'static [u8]),
+    /// An archive with a table of symbols, and these members. Each has a label, and its module nothing but these
+    /// external records.
+    Archive(&'static [(&'static [u8], &'static [u8])]),
     /// A module with these sections, these external records and these loads.
     Section(&'static [u8], &'static [u8], &'static [u8]),
     /// A module with this number of units in an address, these sections, these debug records and these loads.
@@ -105,11 +108,43 @@ fn spaces(rt: &impl Abort, alloc: Global, count: usize) -> Vec<u8> {
     bytes
 }
 
+// The field of a header that states a size of at most three digits.
+fn size_field(size: usize) -> [u8; 10] {
+    let mut field = *b"000       ";
+    field[0] = b'0' + (size / 100 % 10) as u8;
+    field[1] = b'0' + (size / 10 % 10) as u8;
+    field[2] = b'0' + (size % 10) as u8;
+    field
+}
+
+// Adds an entry to an archive, with padding if its contents have an odd size.
+fn add_entry(rt: &impl Abort, bytes: &mut Vec<u8>, label: &[u8], contents: &[u8]) {
+    bytes.extend_from_slice(label).expect(rt, "memory");
+    bytes.extend_from_slice(b"0           0     0     644     ").expect(rt, "memory");
+    bytes.extend_from_slice(&size_field(contents.len())).expect(rt, "memory");
+    bytes.extend_from_slice(b"`\n").expect(rt, "memory");
+    bytes.extend_from_slice(contents).expect(rt, "memory");
+    if contents.len() % 2 == 1 {
+        bytes.push(b'\n').expect(rt, "memory");
+    }
+}
+
+fn archive(rt: &impl Abort, alloc: Global, members: &[(&[u8], &[u8])]) -> Vec<u8> {
+    let mut bytes = Vec::from_slice(alloc, b"!<arch>\n").expect(rt, "memory");
+    add_entry(rt, &mut bytes, b"/               ", b"\0\0\0\0");
+    for (label, external) in members {
+        let contents = drafted_bytes(rt, alloc, 4, b"", external, b"", b"");
+        add_entry(rt, &mut bytes, label, &contents);
+    }
+    bytes
+}
+
 fn content(rt: &impl Abort, alloc: Global, held: &Held) -> Vec<u8> {
     match held {
         Held::Changed(offset, byte) => changed_bytes(rt, alloc, *offset, *byte),
         Held::Cut(count, rest) => cut(rt, alloc, *count, rest),
         Held::Spaces(count) => spaces(rt, alloc, *count),
+        Held::Archive(members) => archive(rt, alloc, members),
         Held::Names(external) => drafted_bytes(rt, alloc, 4, b"", external, b"", b""),
         Held::Section(sections, external, loads) => drafted_bytes(
             rt, alloc, 4, sections, external, b"", loads,
