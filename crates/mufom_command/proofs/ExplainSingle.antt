@@ -42,7 +42,7 @@ use Rattle.mufom_planned.specs.Shown.{shown_list}
 use Rattle.mufom_plan.specs.declared.refusal.PlanRefusal.{PlanRefusal}
 use Rattle.mufom_prune.specs.Pruned.{Remains}
 use Rattle.mufom_plan_faults.proofs.LineLaws.{syntax-line-single}
-use Rattle.mufom_command.specs.HasDetails.{IsObjectBy, IsObjectOf, IsObjectWith, explained_by, files_at, lines_of_link, lines_of_locate, lines_of_name}
+use Rattle.mufom_command.specs.HasDetails.{IsObjectBy, IsObjectOf, IsObjectWith, explained_by, modules_at_places, lines_of_link, lines_of_locate, lines_of_name}
 use Rattle.mufom_command.specs.HasDetails.{lines_of_shared, plan_lines}
 use Rattle.mufom_outcome.specs.LocateRefusals.{locate_refusal}
 use Rattle.mufom_command.specs.Run.{outcome_of}
@@ -73,7 +73,7 @@ module _ (c : Inputs) (ms : List Parts) (f : LinkFact) where
   list-single a b (inr (none, one)) (inr (still, other)) = flat-list-single a b one other
 
   flat-single : (a b : List FileModule) → IsRefusedFlat c ms f a → IsRefusedFlat c ms f b → a ≡ b
-  flat-single a b (files, one, is_a) (others, other, is_b) = is_a ∙ (ap (files_at ms) (list-single files others one other) ∙ sym is_b)
+  flat-single a b (files, one, is_a) (others, other, is_b) = is_a ∙ (ap (modules_at_places ms) (list-single files others one other) ∙ sym is_b)
 
 -- ---- lines
 

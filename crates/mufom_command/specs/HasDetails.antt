@@ -84,13 +84,13 @@ pub record HasPlanLines (files : Option (List NamedFile)) (c : Inputs) (r : Plan
 -- ---- linking
 
 -- the modules at these places, with their places
-abbrev pub files_at : List Parts → List ℕ → List FileModule
-files_at ms files = at_positions (numbered ms) files
+abbrev pub modules_at_places : List Parts → List ℕ → List FileModule
+modules_at_places ms files = at_positions (numbered ms) files
 
 -- The modules of the list that cannot be linked because of this error, with their places among all that were read. In the lines that follow,
 -- modules are counted in that list: if a group cannot be linked, in the group, not in the whole tree.
 abbrev pub IsRefusedFlat : Inputs → List Parts → LinkFact → List FileModule → Type 0
-IsRefusedFlat c ms f flat = (files : List ℕ) × IsRefusedList (tree_of c.marks) ms files f × (flat ≡ files_at ms files)
+IsRefusedFlat c ms f flat = (files : List ℕ) × IsRefusedList (tree_of c.marks) ms files f × (flat ≡ modules_at_places ms files)
 
 -- the lines about a link error
 abbrev pub lines_of_link : List NamedFile → Inputs → LinkFact → Work Stop Text

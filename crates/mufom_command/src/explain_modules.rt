@@ -45,7 +45,7 @@ use mufom_explain::{
     FlatModule, LocateContext, explain_link as link_details, explain_locate, explain_name,
     explain_shared,
 };
-use mufom_groups::{flat_files, refused_files};
+use mufom_groups::{flat_places, refused_places};
 use mufom_host::Host;
 use mufom_image::LocateRefusal;
 use mufom_link::LinkRefusal;
@@ -72,7 +72,7 @@ fn refused_list<'a>(
         → IsRefusedFlat inputs.now modules.now f (flat_of flat.items)) }
     ensures few { IfOk result (λ flat. length flat.items < 2 ^ 32) }
 {
-    let places = refused_files(alloc, inputs.marks.as_slice(), modules)?;
+    let places = refused_places(alloc, inputs.marks.as_slice(), modules)?;
     flat_modules(alloc, modules, places.as_slice())
 }
 
@@ -144,7 +144,7 @@ fn flat_list<'a>(
     ensures flat { IfOk result (λ flat. flat_of flat.items ≡ files_with (tree_of inputs.now.marks) modules.now places.now.chosen) }
     ensures few { IfOk result (λ flat. length flat.items < 2 ^ 32) }
 {
-    let places = flat_files(alloc, places.roots, places.chosen.as_slice())?;
+    let places = flat_places(alloc, places.roots, places.chosen.as_slice())?;
     flat_modules(alloc, modules, places.as_slice())
 }
 

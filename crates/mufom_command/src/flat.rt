@@ -24,23 +24,23 @@ pub(crate) fn copies(alloc: Global, modules: &[Module]) -> Result<List<Module>, 
 }
 
 // The module at a place, if there is one.
-fn module_at(modules: &[Module], file: u32) -> Option<&Module>
-    ensures { option_map (λ m. m.now) result ≡ slice_get modules.now file }
+fn module_at(modules: &[Module], place: u32) -> Option<&Module>
+    ensures { option_map (λ m. m.now) result ≡ slice_get modules.now place }
 {
-    modules.get(file as usize)
+    modules.get(place as usize)
 }
 
 // Appends a module with its place.
 fn push_module<'a>(
     flat: &mut Vec<FlatModule<'a>>,
-    file: u32,
+    place: u32,
     module: &'a Module,
 ) -> Result<(), NoMemory>
-    ensures pushed { OnOk result (flat_of flat.new.items ≡ flat_of flat.old.items ++ (file, «module».now) ∷ []) }
+    ensures pushed { OnOk result (flat_of flat.new.items ≡ flat_of flat.old.items ++ (place, «module».now) ∷ []) }
     ensures count { OnOk result (length flat.new.items ≤ length flat.old.items + 1) }
 {
     flat.push(FlatModule {
-        file,
+        place,
         parts: module.parts(),
     })?;
     Ok(())
@@ -49,15 +49,15 @@ fn push_module<'a>(
 // Appends a module with its place, if there is one.
 fn push_file<'a>(
     flat: &mut Vec<FlatModule<'a>>,
-    file: u32,
+    place: u32,
     module: Option<&'a Module>,
 ) -> Result<(), NoMemory>
     ensures pushed { OnOk result (flat_of flat.new.items ≡ flat_of flat.old.items
-        ++ option_to_list (option_map (λ m. (file, m.now)) «module».entry)) }
+        ++ option_to_list (option_map (λ m. (place, m.now)) «module».entry)) }
     ensures count { OnOk result (length flat.new.items ≤ length flat.old.items + 1) }
 {
     match module {
-        Some(module) => push_module(flat, file, module),
+        Some(module) => push_module(flat, place, module),
         None => Ok(()),
     }
 }

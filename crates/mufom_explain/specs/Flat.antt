@@ -6,12 +6,12 @@ use Rattle.mufom_explain.specs.declared.modules.FlatModule.{FlatModule}
 use Rattle.mufom_explain.specs.declared.wanted.Wanted.{Wanted}
 
 abbrev pub file_module : FlatModule → FileModule
-file_module m = (m.file, m.parts.now)
+file_module m = (m.place, m.parts.now)
 
 abbrev pub flat_of : List FlatModule → List FileModule
 flat_of modules = map file_module modules
 
--- the modules, without their files
+-- the modules, without their places
 abbrev pub parts_of : List FlatModule → List Parts
 parts_of modules = map (λ (m : FlatModule). m.parts.now) modules
 

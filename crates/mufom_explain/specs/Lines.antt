@@ -37,7 +37,7 @@ base_text maus (Some base) = codes " base " ++ hex maus base
 -- the module at this position, after a comma
 abbrev pub origin_text : ModuleFiles → ℕ → Option Origin → Text
 origin_text names j None = []
-origin_text names j (Some o) = codes ", " ++ module_text names j o.file o.name
+origin_text names j (Some o) = codes ", " ++ module_text names j o.place o.name
 
 -- the same, if there is a position
 abbrev pub place_text : ModuleFiles → List Origin → Option ℕ → Text

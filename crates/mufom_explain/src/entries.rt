@@ -43,7 +43,7 @@ fn origin_text<K: Output>(out: &mut K, names: &ModuleFiles, position: usize, ori
     ensures { K.takes out.old out.new (origin_text (all_files names.now) position (Some origin.now)) }
 {
     out.put(b", ");
-    module_text(out, names, position, origin.file, &origin.name);
+    module_text(out, names, position, origin.place, &origin.name);
 }
 
 // The module with a position, if there is one.

@@ -9,10 +9,10 @@ use mufom_module::Parts;
 use mufom_origins::{ModuleFiles, module_text};
 use mufom_text::Output;
 
-/// A module of a flat list, with the place of the file that it was read from.
+/// A module of a flat list, with its place among all modules that were read.
 #[derive(Clone, Copy)]
 pub struct FlatModule<'a> {
-    pub file: u32,
+    pub place: u32,
     pub parts: &'a Parts,
 }
 
@@ -25,6 +25,6 @@ pub(crate) fn module_line<K: Output>(
 )
     ensures { K.takes out.old out.new (module_line (all_files names.now) position (file_module «module».now)) }
 {
-    module_text(out, names, position, module.file, &module.parts.name);
+    module_text(out, names, position, module.place, &module.parts.name);
     out.put(b"\n");
 }

@@ -14,4 +14,4 @@ pub use laws::{
     links_stand_for_flat_lists,
 };
 pub use linking::{LinkedModules, file_count, link_modules, link_with_members};
-pub use refused::{flat_files, refused_files};
+pub use refused::{flat_places, refused_places};

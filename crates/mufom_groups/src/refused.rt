@@ -162,7 +162,7 @@ fn add_members(files: &mut List<u32>, first: usize, chosen: &[u32]) -> Result<()
 
 /// Returns the places of the modules of the flat list. The first `roots` modules are those of the tree; `chosen`
 /// are the positions of the selected members after them.
-pub fn flat_files(alloc: Global, roots: usize, chosen: &[u32]) -> Result<List<u32>, NoMemory>
+pub fn flat_places(alloc: Global, roots: usize, chosen: &[u32]) -> Result<List<u32>, NoMemory>
     requires few { roots < 2 ^ 32 }
     requires members { All (λ (position : ℕ). roots + position < 2 ^ 32) chosen.now }
     ensures { IfOk result (λ files. files ≡ numbers_from 0 roots ++ map (λ position. roots + position) chosen.now) }
@@ -209,8 +209,8 @@ fn tree_or_flat(alloc: Global, roots: usize, modules: &[Module]) -> Result<List<
 {
     let (tree, members) = modules.split_at(roots);
     match selected_for(alloc, tree, members)? {
-        Some(chosen) => flat_files(alloc, roots, chosen.as_slice()),
-        None => flat_files(alloc, roots, &[]),
+        Some(chosen) => flat_places(alloc, roots, chosen.as_slice()),
+        None => flat_places(alloc, roots, &[]),
     }
 }
 
@@ -220,7 +220,7 @@ fn tree_or_flat(alloc: Global, roots: usize, modules: &[Module]) -> Result<List<
 ///
 /// Each group is linked from its own modules, so the time is that of one link for each level of brackets. The
 /// memory is that of the largest of these links.
-pub fn refused_files(
+pub fn refused_places(
     alloc: Global,
     marks: &[Mark],
     modules: &[Module],

@@ -8,7 +8,7 @@ use Rattle.mufom_records.specs.declared.options.ReadOptions.{ReadOptions}
 use Rattle.mufom_host.specs.World.{NamedFile, file_named}
 use Rattle.mufom_module.specs.declared.module.Parts.{Parts}
 use Rattle.mufom_read.specs.Judging.{IsModule}
-use Rattle.mufom_task.specs.Inputs.{AreAccepted, AreModules, ComeTo, HasModules, HaveBytes, accepted, files_from, files_of_one, members_if}
+use Rattle.mufom_task.specs.Inputs.{AreAccepted, AreModules, ComeTo, HasFileModules, HaveBytes, accepted, files_from, files_of_one, members_if}
 use Rattle.mufom_task.proofs.InputLaws.{lt-same}
 use Rattle.mufom_task.proofs.NameLaws.{are-as-many, files-many, names-are}
 use Rattle.mufom_task.proofs.RootLaws.{module-one, not-archive, root-module}
@@ -31,7 +31,7 @@ pub record IsInPlace (files : List NamedFile) (roots number : ℕ) (names : List
 module _ (options : ReadOptions) (content : List ℕ) (m : Parts) (is : IsModule options content m)
     (only : (n : Parts) → IsModule options content n → n ≡ m) where
   -- these contents are a file of this one module
-  own-one : (root : Bool) (own : List Parts) → HasModules options root content own → own ≡ m ∷ []
+  own-one : (root : Bool) (own : List Parts) → HasFileModules options root content own → own ≡ m ∷ []
   own-one true own has =
       let (n, same, is_one) = root-module options content own has in same ∙ ap (λ (x : Parts). x ∷ []) (only n is_one)
   own-one false own (names, inl archive) = absurd (not-archive options content m is archive.0)
@@ -59,13 +59,13 @@ module _ (options : ReadOptions) (content : List ℕ) (m : Parts) (is : IsModule
   module _ (files : List NamedFile) (roots : ℕ) (name : List ℕ) (there : file_named name files ≡ Some content) where
     -- the file is the first of these
     here-first : (number : ℕ) (first : List ℕ) (names : List (List ℕ)) (bytes : List ℕ) (ms own later : List Parts) → first ≡ name
-        → file_named first files ≡ Some bytes → ms ≡ own ++ later → HasModules options (nat_lt 0 (roots - number)) bytes own
+        → file_named first files ≡ Some bytes → ms ≡ own ++ later → HasFileModules options (nat_lt 0 (roots - number)) bytes own
         → IsInPlace files roots number (first ∷ names) ms 0 name m
     here-first number first names bytes ms own later same found split has =
         let both : Some content ≡ Some bytes = sym there ∙ (ap (λ (l : List ℕ). file_named l files) (sym same) ∙ found) in
         let its : bytes ≡ content = cc in
         let one : own ≡ m ∷ [] = own-one (nat_lt 0 (roots - number)) own
-        (subst (λ (l : List ℕ). HasModules options (nat_lt 0 (roots - number)) l own) its has) in
+        (subst (λ (l : List ℕ). HasFileModules options (nat_lt 0 (roots - number)) l own) its has) in
         let given : Some content ≡ file_named first files = both ∙ sym found in
         let members : None ≡ members_if (nat_lt number roots) (unwrap_or (file_named first files) [])
         = no-members (nat_lt number roots) ∙ ap (λ (o : Option (List ℕ)). members_if (nat_lt number roots) (unwrap_or o [])) given in
@@ -80,7 +80,7 @@ module _ (options : ReadOptions) (content : List ℕ) (m : Parts) (is : IsModule
 
     -- the file is after the first of these
     after-first : (number k : ℕ) (first : List ℕ) (names : List (List ℕ)) (bytes : List ℕ) (ms own later : List Parts)
-        → file_named first files ≡ Some bytes → ms ≡ own ++ later → HasModules options (nat_lt 0 (roots - number)) bytes own
+        → file_named first files ≡ Some bytes → ms ≡ own ++ later → HasFileModules options (nat_lt 0 (roots - number)) bytes own
         → IsInPlace files roots (suc number) names later k name m → IsInPlace files roots number (first ∷ names) ms (suc k) name m
     after-first number k first names bytes ms own later found split (names_own, is_own) after =
         let root : nat_lt 0 (roots - number) ≡ nat_lt number roots
@@ -102,8 +102,8 @@ module _ (options : ReadOptions) (content : List ℕ) (m : Parts) (is : IsModule
           read = ap (λ (l : List Parts). slice_get l (length own + after.place)) split ∙ get-after own later after.place ∙ after.read;
           root = λ less.
               let first_root : nat_lt 0 (roots - number) ≡ true = lt-ltb 0 (roots - number) (omega (arith, less)) in
-              let has : HasModules options (nat_lt 0 (roots - number)) bytes own = (names_own, is_own) in
-              let (n, same, is_one) = root-module options bytes own (subst (λ (b : Bool). HasModules options b bytes own) first_root has) in
+              let has : HasFileModules options (nat_lt 0 (roots - number)) bytes own = (names_own, is_own) in
+              let (n, same, is_one) = root-module options bytes own (subst (λ (b : Bool). HasFileModules options b bytes own) first_root has) in
               let one : length own ≡ 1 = ap (λ (l : List Parts). length l) same in
               let before : suc number + k < roots = omega (arith, less) in
               let rest = after.root before in

@@ -44,7 +44,7 @@ by_key key (x ∷ xs) = put_in key x (by_key key xs)
 -- ---- lines
 
 abbrev pub module_line : ModuleFiles → ℕ → Origin → Text
-module_line names j o = line (module_text names j o.file o.name)
+module_line names j o = line (module_text names j o.place o.name)
 
 abbrev pub extent_of : MappedSection → Extent
 extent_of s = record { base = s.base; section = s.number; size = s.size }

@@ -21,7 +21,7 @@ use mufom_text::{Output, counted, hex, quoted};
 fn module_line<K: Output>(out: &mut K, names: &ModuleFiles, position: usize, origin: &Origin)
     ensures { K.takes out.old out.new (module_line (all_files names.now) position origin.now) }
 {
-    module_text(out, names, position, origin.file, &origin.name);
+    module_text(out, names, position, origin.place, &origin.name);
     out.put(b"\n");
 }
 

@@ -10,7 +10,7 @@ use Rattle.mufom_origins.specs.declared.origins.Origin.{Origin}
 use Rattle.mufom_origins.specs.declared.origins.Place.{Place}
 use Rattle.mufom_origins.specs.Places.{capped, ends_from, set_marks}
 
--- a module with its place among all modules that were read, which is also that of its file
+-- a module with its place among all modules that were read
 abbrev pub FileModule : Type 0
 FileModule = ℕ × Parts
 
@@ -25,7 +25,7 @@ modules_of files = map (λ f. f.1) files
 -- the origin of a module's entries
 abbrev pub origin_of : FileModule → Origin
 origin_of f = record {
-  file = f.0;
+  place = f.0;
   name = f.1.name;
   sections = length f.1.sections;
   publics = length f.1.names.publics;

@@ -14,8 +14,8 @@ use std::marker::Model;
 /// The origin of a module's entries.
 #[derive(Debug, Drop)]
 pub struct Origin {
-    /// The file that the module was read from, by the place of the module among all modules that were read.
-    pub file: u32,
+    /// The place of the module among all modules that were read.
+    pub place: u32,
     /// The name of the module.
     pub name: Bytes,
     /// The number of its sections.
@@ -132,13 +132,13 @@ fn place_of(ends: &[usize], number: u32) -> Option<Place>
 // ---- modules
 
 // The origin of the module that was read at this place.
-fn origin_of(alloc: Global, file: u32, entry: &Module) -> Result<Origin, NoMemory>
-    ensures { IfOk result (λ origin. origin ≡ origin_of (file, entry.now)) }
+fn origin_of(alloc: Global, place: u32, entry: &Module) -> Result<Origin, NoMemory>
+    ensures { IfOk result (λ origin. origin ≡ origin_of (place, entry.now)) }
 {
     let parts = entry.parts();
     let name = Bytes::from_slice(alloc, parts.name.as_slice())?;
     Ok(Origin {
-        file,
+        place,
         name,
         sections: parts.sections.len(),
         publics: parts.names.publics.len(),
@@ -153,7 +153,7 @@ fn copy_of(alloc: Global, origin: &Origin) -> Result<Origin, NoMemory>
 {
     let name = Bytes::from_slice(alloc, origin.name.as_slice())?;
     Ok(Origin {
-        file: origin.file,
+        place: origin.place,
         name,
         sections: origin.sections,
         publics: origin.publics,

@@ -150,7 +150,7 @@ fn explains(
     let mut flat = Vec::new(alloc);
     for position in 0..modules.len() {
         let module = FlatModule {
-            file: position as u32,
+            place: position as u32,
             parts: modules[position].parts(),
         };
         flat.push(module).expect(rt, "memory");

@@ -66,7 +66,7 @@ fn selected_members_keep_their_files(rt: HostRuntime) {
     let flat = origins.selected(rt.alloc(), 1, &[1]).expect(&rt, "memory");
     let modules = flat.as_slice();
     assert_eq!(rt; modules.len(), 2);
-    assert_eq!(rt; (modules[0].file, modules[1].file), (0, 2));
+    assert_eq!(rt; (modules[0].place, modules[1].place), (0, 2));
     assert_eq!(rt; modules[1].name.as_slice(), &b"m1"[..]);
     assert_eq!(rt;
         flat.public(1),

@@ -16,7 +16,7 @@ use Rattle.mufom_groups.specs.Linked.{IsFlatList, members, roots}
 use Rattle.mufom_groups.proofs.LinkWalk.{valid-append, valid-drop, valid-members, weight-append, weight-split}
 use Rattle.mufom_groups.proofs.RefusedLaws.{members-between}
 use Rattle.mufom_groups.proofs.Selecting.{Rise, rise-all}
-use Rattle.mufom_task.specs.Inputs.{AreModules, ComeTo, HasModules, HaveBytes, accepted}
+use Rattle.mufom_task.specs.Inputs.{AreModules, ComeTo, HasFileModules, HaveBytes, accepted}
 use Rattle.mufom_task.proofs.RootLaws.{root-module}
 use Rattle.mufom_run_laws.proofs.Members.{modules-light}
 
@@ -29,7 +29,7 @@ record AreRead (roots : ℕ) (names contents : List (List ℕ)) (ms : List Parts
 
 module _ (options : ReadOptions) (files : List NamedFile) (bytes : HoldBytes files) where
   -- a file more
-  more-count : (root : Bool) (roots : ℕ) (first : List ℕ) (own later : List Parts) → nat_lt 0 roots ≡ root → HasModules options root first own
+  more-count : (root : Bool) (roots : ℕ) (first : List ℕ) (own later : List Parts) → nat_lt 0 roots ≡ root → HasFileModules options root first own
       → roots - 1 ≤ length later → roots ≤ length (own ++ later)
   more-count true roots first own later is has rest =
       let (m, same, is_one) = root-module options first own has in

@@ -20,7 +20,7 @@ use Rattle.mufom_members.proofs.Walk.{first_fails, first_passes}
 use Rattle.mufom_meaning.specs.Staging.{AreValid}
 use Rattle.mufom_meaning.specs.StagingLaws.{total_weight}
 use Rattle.mufom_groups.proofs.LinkWalk.{valid-append, weight-append}
-use Rattle.mufom_task.specs.Inputs.{AreModules, HasModules}
+use Rattle.mufom_task.specs.Inputs.{AreModules, HasFileModules}
 use Rattle.mufom_task.proofs.FileLaws.{never-prefix}
 use Rattle.mufom_task.proofs.RootLaws.{root-module}
 
@@ -113,7 +113,7 @@ archive-valid options bytes None ms is = absurd is
 archive-valid options bytes (Some names) ms (members, named, l, are) = members-valid options bytes members ms are
 
 -- they have no defect
-pub modules-valid : (options : ReadOptions) (root : Bool) (bytes : List ℕ) (ms : List Parts) → HasModules options root bytes ms → AreValid ms
+pub modules-valid : (options : ReadOptions) (root : Bool) (bytes : List ℕ) (ms : List Parts) → HasFileModules options root bytes ms → AreValid ms
 modules-valid options true bytes ms (names, is) = plain-valid options bytes names ms is
 modules-valid options false bytes ms (names, inl (begins, is)) =
     archive-valid options bytes names ms (archive-whole options (length bytes) bytes names ms is)
@@ -133,7 +133,7 @@ archive-light options bytes None ms fits is = absurd is
 archive-light options bytes (Some names) ms fits (members, named, l, are) = listing-light options bytes members None ms fits l are
 
 -- they weigh at most ten times as much as the file has bytes
-pub modules-light : (options : ReadOptions) (root : Bool) (bytes : List ℕ) (ms : List Parts) → AreBytes bytes → HasModules options root bytes ms
+pub modules-light : (options : ReadOptions) (root : Bool) (bytes : List ℕ) (ms : List Parts) → AreBytes bytes → HasFileModules options root bytes ms
     → total_weight ms ≤ 10 * length bytes
 modules-light options true bytes ms fits (names, is) = plain-light options bytes names ms fits is
 modules-light options false bytes ms fits (names, inl (begins, is)) =

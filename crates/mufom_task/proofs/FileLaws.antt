@@ -15,7 +15,7 @@ use Rattle.mufom_archive.specs.Entries.{lacks_header}
 use Rattle.mufom_archive.specs.Listings.{lacks_long_name}
 use Rattle.mufom_members.specs.Files.{IsPlainVerdict, IsVerdict, Verdict, accepted, bad_archive, past_limit, refused, verdict_on_prefix}
 use Rattle.mufom_members.proofs.OneVerdict.{one_verdict as one_members_verdict}
-use Rattle.mufom_task.specs.Inputs.{HasModules, IsFilePast, IsFileRefused, IsFileVerdict}
+use Rattle.mufom_task.specs.Inputs.{HasFileModules, IsFilePast, IsFileRefused, IsFileVerdict}
 
 -- ---- the same modules within another limit
 
@@ -69,7 +69,7 @@ verdict-fits options false = members-fits options
 
 -- the modules of a file that was read within a limit
 pub modules-of : (options : ReadOptions) (root : Bool) (limit : ℕ) (bytes : List ℕ) (names : Option (List (List ℕ))) (ms : List Parts)
-    → IsFileVerdict options root limit bytes (accepted names ms) → HasModules options root bytes ms
+    → IsFileVerdict options root limit bytes (accepted names ms) → HasFileModules options root bytes ms
 modules-of options root limit bytes names ms is =
     (names, verdict-within options root limit (length bytes) bytes names ms is (let own : length bytes ≤ length bytes = omega arith in own))
 
@@ -137,11 +137,11 @@ module _ (options : ReadOptions) (judged : HasOneJudgment) (bytes : List ℕ) (f
 
   -- ---- what follows from it
 
-  pub same_modules_of : (root : Bool) (ms ns : List Parts) → HasModules options root bytes ms → HasModules options root bytes ns → ms ≡ ns
+  pub same_modules_of : (root : Bool) (ms ns : List Parts) → HasFileModules options root bytes ms → HasFileModules options root bytes ns → ms ≡ ns
   same_modules_of root ms ns (names, is) (others, other) =
       let same : accepted names ms ≡ accepted others ns = one_file root (length bytes) (accepted names ms) (accepted others ns) is other in cc
 
-  pub refused_not_accepted : (root : Bool) (limit : ℕ) (ms : List Parts) (r : ReadRefusal) → HasModules options root bytes ms → length bytes ≤ limit
+  pub refused_not_accepted : (root : Bool) (limit : ℕ) (ms : List Parts) (r : ReadRefusal) → HasFileModules options root bytes ms → length bytes ≤ limit
       → IsFileRefused options root limit bytes r → ⊥
   refused_not_accepted root limit ms r (names, is) few (inl wrong) =
       let same : accepted names ms ≡ refused r.offset r.reason = one_file root limit (accepted names ms) (refused r.offset r.reason)
@@ -150,7 +150,7 @@ module _ (options : ReadOptions) (judged : HasOneJudgment) (bytes : List ℕ) (f
       let same : accepted names ms ≡ bad_archive r.offset = one_file root limit (accepted names ms) (bad_archive r.offset)
       (verdict-within options root (length bytes) limit bytes names ms is few) wrong in cc
 
-  pub past_not_accepted : (root : Bool) (limit : ℕ) (ms : List Parts) → HasModules options root bytes ms → length bytes ≤ limit
+  pub past_not_accepted : (root : Bool) (limit : ℕ) (ms : List Parts) → HasFileModules options root bytes ms → length bytes ≤ limit
       → IsFilePast options root limit bytes → ⊥
   past_not_accepted root limit ms (names, is) few wrong =
       let same : accepted names ms ≡ past_limit = one_file root limit (accepted names ms) past_limit

@@ -19,7 +19,7 @@ use Rattle.mufom_origins.specs.Words.{ModuleFile}
 use Rattle.mufom_members.specs.declared.members.Members.{Members}
 use Rattle.mufom_members.specs.Files.{accepted as verdict_accepted}
 use Rattle.mufom_members.specs.Names.{AreNames}
-use Rattle.mufom_task.specs.Inputs.{AreAccepted, AreModules, ComeTo, HasModules, HaveBytes, IsFilePast, IsFileRefused, IsFileVerdict}
+use Rattle.mufom_task.specs.Inputs.{AreAccepted, AreModules, ComeTo, HasFileModules, HaveBytes, IsFilePast, IsFileRefused, IsFileVerdict}
 use Rattle.mufom_task.specs.Inputs.{StopsAt, accepted}
 use Rattle.mufom_task.specs.declared.task.Inputs.{Inputs}
 use Rattle.mufom_task.specs.Inputs.{HaveRoots, files_from, files_of_one, members_if, most_input_bytes, room_after, root_count}
@@ -111,7 +111,7 @@ module _ (options : ReadOptions) (roots : ℕ) where
   none_accepted files = record { bytes = refl; modules = refl; within = omega arith }
 
 pub modules-append : (options : ReadOptions) (roots : ℕ) (contents : List (List ℕ)) (ms : List Parts) (bytes : List ℕ) (own : List Parts)
-    → AreModules options roots contents ms → HasModules options (nat_lt (length contents) roots) bytes own
+    → AreModules options roots contents ms → HasFileModules options (nat_lt (length contents) roots) bytes own
     → AreModules options roots (contents ++ bytes ∷ []) (ms ++ own)
 modules-append options roots [] ms bytes own them it =
     (own, [], ap (λ (l : List Parts). l ++ own) them ∙ sym (append-nil own), it, refl)
@@ -121,20 +121,20 @@ modules-append options roots (first ∷ contents) ms bytes own (mine, later, sam
   ap (λ (l : List Parts). l ++ own) same ∙ append_assoc mine later own,
   is,
   modules-append options (roots - 1) contents later bytes own rest
-      (subst (λ (b : Bool). HasModules options b bytes own) (lt-next (length contents) roots) it),
+      (subst (λ (b : Bool). HasFileModules options b bytes own) (lt-next (length contents) roots) it),
 )
 
 module _ (options : ReadOptions) (roots : ℕ) where
   -- one file more, within the room that the others left
   pub one_accepted : (files : List NamedFile) (names contents : List (List ℕ)) (ms : List Parts) (name bytes : List ℕ) (own : List Parts)
       → AreAccepted options roots files names contents ms
-      → file_named name files ≡ Some bytes → HasModules options (nat_lt (length names) roots) bytes own → length bytes ≤ room_after contents
+      → file_named name files ≡ Some bytes → HasFileModules options (nat_lt (length names) roots) bytes own → length bytes ≤ room_after contents
       → AreAccepted options roots files (names ++ name ∷ []) (contents ++ bytes ∷ []) (ms ++ own)
   one_accepted files names contents ms name bytes own them there is fits = record {
     bytes = map-append (λ n. file_named n files) names (name ∷ []) ∙ (λ i. them.bytes i ++ there i ∷ [])
         ∙ sym (map-append (λ b. Some b) contents (bytes ∷ []));
     modules = modules-append options roots contents ms bytes own them.modules
-        (subst (λ (n : ℕ). HasModules options (nat_lt n roots) bytes own) (have-length files names contents them.bytes) is);
+        (subst (λ (n : ℕ). HasFileModules options (nat_lt n roots) bytes own) (have-length files names contents them.bytes) is);
     within = let sum = sum-more options roots contents bytes in let within = them.within in omega (arith, sum, within, fits);
   }
 
@@ -211,7 +211,7 @@ module _ (options : ReadOptions) (roots : ℕ) where
         contents = contents ++ bytes ∷ [];
         accepted = subst (λ (names : List (List ℕ)). AreAccepted options roots fs names (contents ++ bytes ∷ []) (ms ++ read.modules)) (sym is)
             (one_accepted fs prefix contents ms name bytes read.modules so_far.accepted there
-            (subst (λ (n : ℕ). HasModules options (nat_lt n roots) bytes read.modules) (sym place) (names, has))
+            (subst (λ (n : ℕ). HasFileModules options (nat_lt n roots) bytes read.modules) (sym place) (names, has))
             (subst (λ (n : ℕ). length bytes ≤ n) so_far.left fits));
         left = (let left = so_far.left in (λ i. left i - size i)) ∙ sym (room-more contents bytes);
         files = (let before = so_far.files in let its = own-files fs name bytes number read own names are there named has in (λ i. before i ++ its i))

@@ -16,7 +16,7 @@ use Rattle.mufom_module.specs.SpelledRecords.{bytes_of}
 use Rattle.mufom_read.specs.Judging.{IsModule}
 use Rattle.mufom_archive.specs.Entries.{BeginsArchive, signature}
 use Rattle.mufom_task.specs.declared.task.Inputs.{Inputs}
-use Rattle.mufom_task.specs.Inputs.{AreModules, ComeTo, HasModules, HaveBytes, accepted, files_from, files_of_one, members_if, module_files}
+use Rattle.mufom_task.specs.Inputs.{AreModules, ComeTo, HasFileModules, HaveBytes, accepted, files_from, files_of_one, members_if, module_files}
 use Rattle.mufom_task.specs.Inputs.{root_count}
 use Rattle.mufom_task.proofs.InputLaws.{lt-same}
 use Rattle.mufom_task.proofs.NameLaws.{are-as-many, files-many, names-are}
@@ -30,14 +30,14 @@ AreEach options (_ ∷ _) [] = ⊥
 
 -- ---- one root
 
-pub root-module : (options : ReadOptions) (bytes : List ℕ) (ms : List Parts) → HasModules options true bytes ms
+pub root-module : (options : ReadOptions) (bytes : List ℕ) (ms : List Parts) → HasFileModules options true bytes ms
     → (m : Parts) × (ms ≡ m ∷ []) × IsModule options bytes m
 root-module options bytes [] (None, is) = absurd is
 root-module options bytes (m ∷ []) (None, is) = (m, refl, is.0)
 root-module options bytes (m ∷ n ∷ ms) (None, is) = absurd is
 root-module options bytes ms (Some names, is) = absurd is
 
-pub module-root : (options : ReadOptions) (bytes : List ℕ) (m : Parts) → IsModule options bytes m → HasModules options true bytes (m ∷ [])
+pub module-root : (options : ReadOptions) (bytes : List ℕ) (m : Parts) → IsModule options bytes m → HasFileModules options true bytes (m ∷ [])
 module-root options bytes m is = (None, (is, (let own : length bytes ≤ length bytes = omega arith in own)))
 
 -- ---- the file of a module is not an archive
@@ -64,7 +64,7 @@ not-archive options bytes m (f, is, _, _, _) begins =
     (is.all ∙ ap (λ (l : List ℕ). (l ++ bytes_of (f.descriptor ∷ f.offsets)) ++ after_header f) first.1) begins
 
 -- the file of a module has one module, whether it is a root or not
-pub module-one : (options : ReadOptions) (root : Bool) (bytes : List ℕ) (m : Parts) → IsModule options bytes m → HasModules options root bytes (m ∷ [])
+pub module-one : (options : ReadOptions) (root : Bool) (bytes : List ℕ) (m : Parts) → IsModule options bytes m → HasFileModules options root bytes (m ∷ [])
 module-one options true bytes m is = module-root options bytes m is
 module-one options false bytes m is =
     (None, inr (not-archive options bytes m is, (is, (let own : length bytes ≤ length bytes = omega arith in own))))
@@ -76,7 +76,7 @@ pub roots-only : (options : ReadOptions) (roots : ℕ) (contents : List (List �
 roots-only options roots [] ms few are = subst (λ (l : List Parts). AreEach options [] l) (sym are) tt
 roots-only options roots (bytes ∷ contents) ms few (own, later, same, is, rest) =
     let root : nat_lt 0 roots ≡ true = lt-ltb 0 roots (omega (arith, few)) in
-    let one = root-module options bytes own (subst (λ (b : Bool). HasModules options b bytes own) root is) in
+    let one = root-module options bytes own (subst (λ (b : Bool). HasFileModules options b bytes own) root is) in
     let all : ms ≡ one.0 ∷ later = same ∙ ap (λ (l : List Parts). l ++ later) one.1 in
     subst (λ (l : List Parts). AreEach options (bytes ∷ contents) l) (sym all)
     (one.2, roots-only options (roots - 1) contents later (omega (arith, few)) rest)

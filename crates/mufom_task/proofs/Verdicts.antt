@@ -8,7 +8,7 @@ use Rattle.mufom_host.specs.World.{HoldBytes, NamedFile, file_named}
 use Rattle.mufom_module.specs.declared.module.Parts.{Parts}
 use Rattle.mufom_read.specs.declared.refusal.ReadRefusal.{ReadRefusal}
 use Rattle.mufom_read.specs.Laws.{HasOneJudgment}
-use Rattle.mufom_task.specs.Inputs.{AreAccepted, AreModules, ComeTo, HasModules, HaveBytes, HaveOneVerdict, IsFilePast, IsFileRefused}
+use Rattle.mufom_task.specs.Inputs.{AreAccepted, AreModules, ComeTo, HasFileModules, HaveBytes, HaveOneVerdict, IsFilePast, IsFileRefused}
 use Rattle.mufom_task.specs.Inputs.{StopsAt, Verdict}
 use Rattle.mufom_task.specs.Inputs.{accepted, past_limit, refused, room_after}
 use Rattle.mufom_task.proofs.FileLaws.{one_refused, past_not_accepted, refused_not_accepted, refused_not_past, same_modules_of}
@@ -59,7 +59,7 @@ record Cut (options : ReadOptions) (roots : ℕ) (files : List NamedFile) (befor
   whole : contents ≡ prefix ++ bytes ∷ back
   prefix_bytes : HaveBytes files before prefix
   there : file_named name files ≡ Some bytes
-  is : HasModules options (nat_lt (length before) roots) bytes own
+  is : HasFileModules options (nat_lt (length before) roots) bytes own
 
 cut : (options : ReadOptions) (roots : ℕ) (files : List NamedFile) (before after contents : List (List ℕ)) (name : List ℕ) (ms : List Parts)
     → HaveBytes files (before ++ name ∷ after) contents → AreModules options roots contents ms → Cut options roots files before contents name
@@ -89,7 +89,7 @@ cut options roots files (x ∷ before) after (bytes ∷ contents) name ms have (
       whole = ap (λ (rest : List (List ℕ)). bytes ∷ rest) more.whole;
       prefix_bytes = (λ i. head i ∷ more.prefix_bytes i);
       there = more.there;
-      is = subst (λ (b : Bool). HasModules options b more.bytes more.own) (sym (lt-next (length before) roots)) more.is;
+      is = subst (λ (b : Bool). HasFileModules options b more.bytes more.own) (sym (lt-next (length before) roots)) more.is;
     }
 
 -- ---- one judgment of each file
@@ -111,7 +111,7 @@ module _ (options : ReadOptions) (judged : HasOneJudgment) (roots : ℕ) (files 
   -- a stop of the file with this number that has no modules within its limit
   IsStop : ℕ → (ℕ → List ℕ → Type 0) → Type 0
   IsStop number P = (limit : ℕ) (name bytes : List ℕ) (own : List Parts) → file_named name files ≡ Some bytes
-      → HasModules options (nat_lt number roots) bytes own → length bytes ≤ limit → P limit bytes → ⊥
+      → HasFileModules options (nat_lt number roots) bytes own → length bytes ≤ limit → P limit bytes → ⊥
 
   abbrev refusal_of : ℕ → ReadRefusal → ℕ → List ℕ → Type 0
   refusal_of number r limit bytes = IsFileRefused options (nat_lt number roots) limit bytes r
@@ -144,7 +144,7 @@ module _ (options : ReadOptions) (judged : HasOneJudgment) (roots : ℕ) (files 
       let within = them.within in
       let fits : length c.bytes ≤ room_after c.prefix = omega (arith, sum, first, all, within) in
       is_stop (room_after c.prefix) s.name c.bytes c.own c.there
-      (subst (λ (n : ℕ). HasModules options (nat_lt n roots) c.bytes c.own) s.place c.is) fits
+      (subst (λ (n : ℕ). HasFileModules options (nat_lt n roots) c.bytes c.own) s.place c.is) fits
       (subst (λ (l : List ℕ). P (room_after c.prefix) l) same_own (subst (λ (l : List (List ℕ)). P (room_after l) s.bytes) (sym same_prefix) s.stops))
 
   never_all : (number : ℕ) (P : ℕ → List ℕ → Type 0) → IsStop number P → (names contents : List (List ℕ)) (ms : List Parts)

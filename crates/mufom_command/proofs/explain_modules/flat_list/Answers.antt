@@ -14,8 +14,8 @@ use Rattle.std.proofs.lemmas.List.{length-append, length-drop, length-map}
 use Rattle.std.specs.Prelude.{All}
 use Rattle.mufom_command.proofs.explain_modules.flat_list.Goals as goal
 
-pub flat_files-requires-clause-members : goal.flat_files-requires-clause-members
-flat_files-requires-clause-members c =
+pub flat_places-requires-clause-members : goal.flat_places-requires-clause-members
+flat_places-requires-clause-members c =
     let tree = tree_of c.args.inputs.now.marks in let ms = c.args.modules.now in let linkable = c.requires.linkable in let places = c.args.places.now in
     let size = length-drop (length (leaves tree)) ms in
     subst (All (λ position. places.roots + position < 2 ^ 32)) (sym c.as_slice.ensures)

@@ -1,7 +1,7 @@
 use Rattle.std.proofs.Common.{List, ap, length, subst, sym, ◌∙◌, ◌≡◌}
 use Rattle.mufom_command.proofs.EndLaws.{if-ok-map}
 use Rattle.mufom_command.proofs.WorkLaws.{linkable-tree}
-use Rattle.mufom_command.specs.HasDetails.{IsRefusedFlat, files_at}
+use Rattle.mufom_command.specs.HasDetails.{IsRefusedFlat, modules_at_places}
 use Rattle.mufom_explain.specs.Flat.{flat_of}
 use Rattle.mufom_groups.specs.Linked.{linked}
 use Rattle.mufom_groups.specs.Refused.{IsRefusedList}
@@ -14,8 +14,8 @@ use Rattle.mufom_words.specs.Tree.{tree_of}
 use Rattle.mufom_words.specs.declared.command.Mark.{Mark}
 use Rattle.mufom_command.proofs.explain_modules.refused_list.Goals as goal
 
-pub refused_files-requires-clause-tree : goal.refused_files-requires-clause-tree
-refused_files-requires-clause-tree c =
+pub refused_places-requires-clause-tree : goal.refused_places-requires-clause-tree
+refused_places-requires-clause-tree c =
     subst (λ (marks : List Mark). HasTree marks (length c.args.modules.now)) (sym c.as_slice.ensures)
     (linkable-tree c.args.inputs.now c.args.modules.now c.requires.linkable)
 
@@ -27,4 +27,4 @@ returns-clause-list c =
     c.in_ok-places.ensures.list in
     if-ok-map c.flat_modules.result (λ flat. flat_of flat.items ≡ at_positions (numbered ms) c.as_slice-2.result.now)
     (λ flat. (f : LinkFact) → linked (tree_of inputs.marks) ms (stops f) → IsRefusedFlat inputs ms f (flat_of flat.items))
-    (λ flat is f ends. (files, list f ends, is ∙ ap (files_at ms) c.as_slice-2.ensures)) c.flat_modules.ensures.flat
+    (λ flat is f ends. (files, list f ends, is ∙ ap (modules_at_places ms) c.as_slice-2.ensures)) c.flat_modules.ensures.flat

@@ -8,4 +8,4 @@ use Rattle.mufom_command.proofs.flat.push_module.Goals as goal
 pub returns-clause-pushed : goal.returns-clause-pushed
 returns-clause-pushed c =
     ap flat_of c.in_ok-push.ensures.items ∙ map-append file_module c.args.flat.now.items _
-    ∙ ap (λ (parts : Parts). let f : FileModule = (c.args.file, parts) in flat_of c.args.flat.now.items ++ f ∷ []) c.parts.ensures.same
+    ∙ ap (λ (parts : Parts). let f : FileModule = (c.args.place, parts) in flat_of c.args.flat.now.items ++ f ∷ []) c.parts.ensures.same

@@ -8,7 +8,7 @@ use Rattle.mufom_explain.proofs.link.other_line.Goals as goal
 pub returns-then-differs_from : goal.returns-then-differs_from
 returns-then-differs_from g c =
     let flat = c.args.flat.now in let i = c.loop-position.position in let f = c.index-flat-position.result in
-    let differs = sym (c.differs_from.ensures i f.file) ∙ c.if-differs_from.true in
+    let differs = sym (c.differs_from.ensures i f.place) ∙ c.if-differs_from.true in
     let same = other-there (all_files c.args.names.now) flat i f c.loop-position-test.true c.index-flat-position.is differs c.loop-position.invariant.1 in
     subst (λ (t : List ℕ). g.K.Output.takes c.args.out.now c.module_line.new.out t) (sym same)
     (g.met.K.Output.joins _ _ _ [] (module_line (all_files c.args.names.now) i (file_module f)) c.loop-position.invariant.0 c.module_line.ensures)
@@ -16,7 +16,7 @@ returns-then-differs_from g c =
 pub loop-position-preserved : goal.loop-position-preserved
 loop-position-preserved g c =
     let flat = c.args.flat.now in let i = c.loop-position.position in let f = c.index-flat-position.result in
-    let fails = sym (c.differs_from.ensures i f.file) ∙ c.if-differs_from.false in (
+    let fails = sym (c.differs_from.ensures i f.place) ∙ c.if-differs_from.false in (
       c.loop-position.invariant.0,
       none-more flat i f c.loop-position-test.true c.index-flat-position.is fails c.loop-position.invariant.1,
     )

@@ -10,7 +10,7 @@ use Rattle.mufom_groups.specs.Refused.{IsRefusedList, IsTreeOrFlat, files_betwee
 use Rattle.mufom_groups.specs.Work.{stops}
 use Rattle.mufom_groups.proofs.RefusedLaws.{few-files, if-ok-map, none-found, others-refused, range-few, range-refused}
 use Rattle.mufom_groups.proofs.WholeLink.{files-of-marks}
-use Rattle.mufom_groups.proofs.refused.refused_files.Goals as goal
+use Rattle.mufom_groups.proofs.refused.refused_places.Goals as goal
 
 pub returns-in-Some-clause-list : goal.returns-in-Some-clause-list
 returns-in-Some-clause-list c =

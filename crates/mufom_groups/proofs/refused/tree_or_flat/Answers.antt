@@ -10,8 +10,8 @@ use Rattle.mufom_groups.proofs.refused.tree_or_flat.Goals as goal
 pub selected_for-requires-clause-valid : goal.selected_for-requires-clause-valid
 selected_for-requires-clause-valid c = subst AreValid (sym c.split_at.ensures.front) (valid-take c.args.roots c.args.modules.now c.requires.valid)
 
-pub flat_files-requires-clause-members : goal.flat_files-requires-clause-members
-flat_files-requires-clause-members c =
+pub flat_places-requires-clause-members : goal.flat_places-requires-clause-members
+flat_places-requires-clause-members c =
     let tree = c.split_at.result.0.now in let members = c.split_at.result.1.now in
     let found = subst (λ (o : Option (List ℕ)). IfSome o (λ chosen. IsSelected tree members chosen × (link_answer tree ≡ None))) c.in-Some.is
     c.in_ok-chosen.ensures.selected in
