@@ -1,7 +1,7 @@
 -- The outcome where modules are not linked or not located, and the end of a task whose work on what was read ends.
-use Rattle.std.proofs.Common.{◌≡◌, ◌≢◌, ◌∙◌, ℕ, Bool, cond, length, true, false, List, [], Option, Some, None, option_map, Result, Ok, Err, IfSome, IfOk, IfErr}
-use Rattle.std.proofs.Common.{nat_lt, slice_get, refl, sym, ap, subst, inl, inr}
-use Rattle.mufom_host.specs.World.{Faults, Meaning, NamedFile, GrowsBy, OnlyOpens}
+use Rattle.std.proofs.Common.{◌≡◌, ◌≢◌, ◌∙◌, ℕ, Bool, length, true, false, List, [], Option, Some, None, option_map, Result, Ok, Err, IfSome, IfOk, IfErr}
+use Rattle.std.proofs.Common.{refl, sym, ap, subst, inl, inr}
+use Rattle.mufom_host.specs.World.{Faults, Meaning, NamedFile}
 use Rattle.mufom_module.specs.declared.module.Parts.{Parts}
 use Rattle.mufom_plan.specs.declared.plan.Plan.{Plan}
 use Rattle.mufom_meaning.specs.declared.located.LocatedParts.{LocatedParts}

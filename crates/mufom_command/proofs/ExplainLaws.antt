@@ -1,18 +1,18 @@
 -- What a call has done that read the inputs of some arguments and then printed the text on their end.
-use Rattle.std.proofs.Common.{◌≡◌, ℕ, ◌≤◌, List, Option, Result, Ok, Err, OnSome, take, sym, ap, subst, ◌∙◌, arith}
+use Rattle.std.proofs.Common.{◌≡◌, ℕ, List, Option, Result, Ok, Err, OnSome, take, sym, ap, subst, ◌∙◌, arith}
 use Rattle.mufom_host.specs.World.{Faults, Meaning, GrowsBy, GrowsByPrefix, OnlyOpens, OnlyPrints, Rose}
 use Rattle.mufom_words.specs.declared.command.Command.{Command}
 use Rattle.mufom_words.specs.declared.stop.WordsStop.{WordsStop}
 use Rattle.mufom_words.specs.Answer.{answer_of}
 use Rattle.mufom_outcome.specs.declared.outcome.Outcome.{Outcome}
 use Rattle.mufom_outcome.specs.declared.outcome.Outcome.TheVariants as outcome
-use Rattle.mufom_command.specs.Explain.{EndsBy, ExplainsTo, IsExplanation, OpensSome}
+use Rattle.mufom_command.specs.Explain.{EndsBy, ExplainsTo, IsExplanation}
 use Rattle.mufom_command.specs.ExplainText.{explain_text}
 use Rattle.mufom_command.specs.Making.{IsPrinted}
 use Rattle.mufom_task.specs.Calls.{NoneFalls}
 use Rattle.mufom_task.specs.declared.task.Request.{Request}
 use Rattle.mufom_task.specs.declared.task.Request.TheVariants as request
-use Rattle.mufom_command.specs.Run.{OpensBy, OpensFor, PutsOutNothing}
+use Rattle.mufom_command.specs.Run.{OpensBy, OpensFor}
 use Rattle.mufom_task.specs.Tasks.{input_names, inputs_of, request_of}
 use Rattle.mufom_command.specs.RunParts.{Explains}
 use Rattle.mufom_task.proofs.InputLaws.{call_between}

@@ -33,7 +33,7 @@ use Rattle.mufom_task.specs.Ends.{IsInputReached, IsOfInputs, stop_outcome}
 use Rattle.mufom_task.specs.FilesRead.{FileHas}
 use Rattle.mufom_task.specs.InputsRead.{KeepsPlan, NamesPlan, ReadingStops, inputs_in}
 use Rattle.mufom_task.specs.Reading.{modules_in, plan_by, plan_in, text_in, unless_past_limit}
-use Rattle.mufom_task.specs.Tasks.{input_names, inputs_of, keep_of, out_of, reads_files, request_of}
+use Rattle.mufom_task.specs.Tasks.{input_names, inputs_of, keep_of, out_of, reads_files}
 use Rattle.mufom_task.proofs.InputLaws.{call_between}
 use Rattle.mufom_task.proofs.InputsLaws.{over-map}
 use Rattle.mufom_command.specs.Explain.{EndsBy, EndsFor, EndsWith}

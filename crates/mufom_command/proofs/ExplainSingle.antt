@@ -11,19 +11,18 @@ use Rattle.mufom_words.specs.Answer.{answer_of}
 use Rattle.mufom_words.specs.Explain.{explained}
 use Rattle.mufom_words.specs.Tree.{Forest, tree_of}
 use Rattle.mufom_groups.specs.Linked.{first_name, members, roots}
-use Rattle.mufom_groups.specs.Refused.{IsRefusedFlatList, IsRefusedList, flat_list, linked_lists, refused_among}
+use Rattle.mufom_groups.specs.Refused.{IsRefusedFlatList, IsRefusedList, flat_list}
 use Rattle.mufom_groups.specs.Refusals.{link_refusal}
 use Rattle.mufom_groups.specs.Work.{IsSingle, Reached, Work, ◌>>=◌, gives, one_with, stops, sure}
 use Rattle.mufom_groups.proofs.Works.{one_with-single, stop_at-single, sure-single, then-single, value-same}
 use Rattle.mufom_origins.specs.Origins.{FileModule, modules_of}
 use Rattle.mufom_origins.specs.Words.{ModuleFiles}
 use Rattle.mufom_explain.specs.Details.{link_details, locate_details, name_details, shared_details}
-use Rattle.mufom_explain.specs.Lines.{file_line}
 use Rattle.mufom_text.specs.Words.{Text}
 use Rattle.mufom_outcome.specs.Stop.{Stop, words_refused, plan_refused, file_refused, past_limit, link_fact, keep_unknown, name_shared, locate_fact, bytes_refused}
 use Rattle.mufom_outcome.specs.Stop.{text_refused, listing_refused, too_many_modules}
 use Rattle.mufom_command.specs.Roots.{roots_by}
-use Rattle.mufom_command.specs.Works.{Kept, Output, kept_of, printed, work_by}
+use Rattle.mufom_command.specs.Works.{Kept, Output, kept_of, printed}
 use Rattle.mufom_task.specs.Inputs.{module_files}
 use Rattle.mufom_task.specs.Reading.{modules_in, plan_in}
 use Rattle.mufom_command.specs.Contract.{run_by, run_of, work_with}

@@ -5,9 +5,8 @@ use Rattle.std.proofs.lemmas.Grind.{flat_map-append}
 use Rattle.std.proofs.lemmas.List.{drop-map, map-append}
 use Rattle.mufom_host.specs.World.{NamedFile}
 use Rattle.mufom_module.specs.declared.module.Parts.{Parts}
-use Rattle.mufom_module.specs.Defects.{IsValid}
 use Rattle.mufom_plan.specs.declared.plan.Plan.{Plan}
-use Rattle.mufom_meaning.specs.Selection.{IsSelected, members_at}
+use Rattle.mufom_meaning.specs.Selection.{members_at}
 use Rattle.mufom_meaning.specs.Staging.{AreValid}
 use Rattle.mufom_meaning.specs.StagingLaws.{MeansTheSame}
 use Rattle.mufom_planned.specs.PlanSymbols.{with_symbols}
@@ -22,7 +21,6 @@ use Rattle.mufom_groups.specs.Work.{gives}
 use Rattle.mufom_groups.proofs.GroupsAlike.{linked-flat}
 use Rattle.mufom_groups.proofs.RefusedLaws.{numbers-count}
 use Rattle.mufom_groups.proofs.Singles.{flat_list-single}
-use Rattle.mufom_origins.specs.declared.origins.Origin.{Origin}
 use Rattle.mufom_origins.specs.Origins.{FileModule, modules_of, numbered, origins_of}
 use Rattle.mufom_origins.specs.Words.{ModuleFiles}
 use Rattle.mufom_origins.specs.Places.{at_positions, with_chosen}

@@ -24,7 +24,7 @@ use Rattle.mufom_groups.specs.Linked.{first_name}
 use Rattle.mufom_groups.specs.Work.{Reached, gives, stops}
 use Rattle.mufom_outcome.specs.Stop.{Stop, keep_unknown}
 use Rattle.mufom_command.specs.Roots.{Roots, first_unknown}
-use Rattle.mufom_command.specs.Works.{Kept, all_of, kept_of, kept_unless, rest_of}
+use Rattle.mufom_command.specs.Works.{Kept, kept_of, kept_unless, rest_of}
 use Rattle.mufom_command.specs.WorkEnds.{EndsAt, own_kept, own_rest}
 use Rattle.mufom_outcome.specs.Outcomes.{outcome_of_prune}
 

@@ -1,5 +1,5 @@
 -- The location of the module into which a list is linked is that of the list.
-use Rattle.std.proofs.Common.{◌≡◌, ◌⊎◌, ℕ, List, [], ◌∷◌, length, Option, Some, None, refl, sym, ap, subst, ◌∙◌, unwrap_or, inl, inr}
+use Rattle.std.proofs.Common.{◌≡◌, ◌⊎◌, ℕ, List, [], ◌∷◌, length, Option, Some, None, refl, sym, ap, subst, ◌∙◌, inl, inr}
 use Rattle.std.proofs.lemmas.List.{append-nil}
 use Rattle.mufom_names.specs.Names.{AreDistinct, names_of}
 use Rattle.mufom_module.specs.declared.module.Parts.{Parts}

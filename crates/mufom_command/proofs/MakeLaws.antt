@@ -1,10 +1,10 @@
 -- The generated modules, and the arguments of a command that prints a text of the program.
-use Rattle.std.proofs.Common.{◌≡◌, ◌≢◌, ℕ, zero, suc, ◌≤◌, Bool, true, false, ◌||◌, List, [], ◌∷◌, Option, None, Some, Result, Ok, Err, codes, cond}
-use Rattle.std.proofs.Common.{IfSome, IsSome, refl, sym, ap, subst, ◌∙◌, inl, inr, arith}
+use Rattle.std.proofs.Common.{◌≡◌, ◌≢◌, ℕ, zero, suc, ◌≤◌, Bool, true, false, ◌||◌, List, [], ◌∷◌, Option, None, Some, Result, Ok, codes, cond}
+use Rattle.std.proofs.Common.{IsSome, refl, sym, ap, subst, ◌∙◌, inl, inr, arith}
 use Rattle.std.specs.Result.{result_unwrap_or}
 use Rattle.std.specs.Str.{bytes_eq}
-use Rattle.mufom_host.specs.World.{Faults, Meaning, NamedFile, GrowsBy, OnlyOpens}
-use Rattle.mufom_make.specs.Generated.{made_modules, made_plan}
+use Rattle.mufom_host.specs.World.{NamedFile}
+use Rattle.mufom_make.specs.Generated.{made_modules}
 use Rattle.mufom_words.specs.declared.command.Command.{Command}
 use Rattle.mufom_words.specs.declared.command.Verb.{Verb}
 use Rattle.mufom_words.specs.declared.command.Verb.TheVariants as verb

@@ -1,16 +1,13 @@
 -- The flat list with its files, and the maps of lists that mean the same, and of what is kept of them.
 use Rattle.std.proofs.Common.{◌≡◌, ◌<◌, ℕ, arith, zero, suc, List, [], ◌∷◌, ◌++◌, length, take, drop}
-use Rattle.std.proofs.Common.{option_to_list, Option, None, Some, true, refl, sym, ap, subst, ◌∙◌, inl, inr}
+use Rattle.std.proofs.Common.{option_to_list, Option, None, Some, refl, sym, ap, subst, ◌∙◌, inl, inr}
 use Rattle.std.specs.Prelude.{slice_get}
 use Rattle.mufom_names.specs.Names.{AreDistinct, names_of}
 use Rattle.mufom_module.specs.declared.module.Parts.{Parts}
-use Rattle.mufom_module.specs.Defects.{IsValid}
 use Rattle.mufom_module.specs.Written.{weight}
 use Rattle.mufom_plan.specs.declared.plan.Plan.{Plan}
 use Rattle.mufom_locating.specs.Light.{weight_limit}
 use Rattle.mufom_locating.specs.Plans.{IsReadPlan}
-use Rattle.mufom_image.specs.Refusals.{IsMet}
-use Rattle.mufom_meaning.specs.LocateAnswer.{locate_answer}
 use Rattle.mufom_planned.specs.Layout.{Layout}
 use Rattle.mufom_planned.specs.PlanSymbols.{with_symbols}
 use Rattle.mufom_planned.specs.Planned.{IsPlanned}
@@ -18,13 +15,7 @@ use Rattle.mufom_planned.proofs.Alike.{layout_same}
 use Rattle.mufom_command.specs.Same.{AreSame}
 use Rattle.mufom_planned.specs.PlanLaws.{HasSoundSymbols}
 use Rattle.mufom_meaning.specs.declared.located.LocatedParts.{LocatedParts}
-use Rattle.mufom_meaning.specs.Flat.{flat_sections, public_names}
-use Rattle.mufom_meaning.specs.Placed.{placed_commons, planned_bases}
-use Rattle.mufom_meaning.specs.Readings.{Readings, readings}
-use Rattle.mufom_meaning.specs.Selection.{IsSelected}
 use Rattle.mufom_meaning.specs.Staging.{AreValid}
-use Rattle.mufom_meaning.specs.StagingLaws.{MeansTheSame}
-use Rattle.mufom_meaning.proofs.Placed.{same_placed_commons}
 use Rattle.mufom_meaning.proofs.locations.SelectionSingle.{selection_is_single}
 use Rattle.mufom_words.specs.Sound.{numbers_from}
 use Rattle.mufom_words.specs.Tree.{Forest, leaves}
@@ -36,7 +27,6 @@ use Rattle.mufom_origins.specs.Origins.{numbered, origin_of, origins_left, origi
 use Rattle.mufom_origins.specs.Places.{at_positions, with_chosen}
 use Rattle.mufom_origins.proofs.FlatLaws.{chosen-map}
 use Rattle.mufom_map.specs.Mapped.{mapped_by, planned_layout}
-use Rattle.mufom_plan.specs.Names.{has_name}
 use Rattle.mufom_prune.specs.declared.pruning.Pruned.{Pruned}
 use Rattle.mufom_prune.specs.Marked.{IsPrunedWithMarksFor}
 use Rattle.mufom_prune.specs.Pruned.{Remains, remains}

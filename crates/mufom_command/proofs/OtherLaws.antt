@@ -10,7 +10,7 @@ use Rattle.mufom_planned.specs.Planned.{PlanFact, of_list}
 use Rattle.mufom_module.specs.declared.module.Parts.{Parts}
 use Rattle.mufom_titxt.specs.declared.refusal.TxtRefusal.{TxtRefusal}
 use Rattle.mufom_titxt.specs.Texts.{txt_refusal}
-use Rattle.mufom_groups.specs.Work.{Work, gives, stops}
+use Rattle.mufom_groups.specs.Work.{Work, stops}
 use Rattle.mufom_outcome.specs.declared.outcome.Outcome.{Outcome}
 use Rattle.mufom_outcome.specs.declared.outcome.Outcome.TheVariants as outcome
 use Rattle.mufom_outcome.specs.Stop.{Stop, words_refused, plan_refused, file_refused, past_limit, link_fact, keep_unknown, name_shared, locate_fact, bytes_refused}
@@ -24,7 +24,6 @@ use Rattle.mufom_outcome.specs.declared.outcome.Input.TheVariants as input
 use Rattle.mufom_task.specs.Ends.{IsInputReached, IsStopped, OverFiles}
 use Rattle.mufom_task.specs.InputsRead.{KeepsPlan, ReadingStops}
 use Rattle.mufom_outcome.specs.declared.outcome.Refusal.TheVariants as refusal
-use Rattle.mufom_task.specs.Reading.{text_in}
 use Rattle.mufom_task.specs.Sound.{IsSoundInputs, IsSoundTask}
 use Rattle.mufom_task.specs.Tasks.{inputs_of, no_inputs, reads_files}
 use Rattle.mufom_task.proofs.InputLaws.{call_between}

@@ -1,5 +1,5 @@
 -- A task whose inputs were read has its output ready; or it has none, since they were not read or the work on them ended.
-use Rattle.std.proofs.Common.{◌≡◌, ℕ, true, false, List, Option, None, IfSome, refl}
+use Rattle.std.proofs.Common.{◌≡◌, ℕ, true, List, None, IfSome, refl}
 use Rattle.mufom_host.specs.World.{Faults, Meaning, NamedFile, GrowsBy}
 use Rattle.mufom_groups.specs.Work.{Work, gives, stops}
 use Rattle.mufom_outcome.specs.declared.outcome.Outcome.{Outcome}
@@ -14,7 +14,7 @@ use Rattle.mufom_task.proofs.InputLaws.{call_between, grows_by_none}
 use Rattle.mufom_task.proofs.InputsLaws.{over-map}
 use Rattle.mufom_command.specs.declared.ready.Ready.{Ready}
 use Rattle.mufom_command.specs.Ready.{IsReady, ready_output}
-use Rattle.mufom_command.specs.Run.{IsOutput, file_name}
+use Rattle.mufom_command.specs.Run.{file_name}
 use Rattle.mufom_command.specs.RunParts.{IsPrepared, IsUnprepared}
 use Rattle.mufom_command.specs.WorkEnds.{EndsAt}
 use Rattle.mufom_command.specs.Works.{making, work_of}

@@ -1,6 +1,6 @@
 -- A run comes to one end at most, since each of its parts does.
-use Rattle.std.proofs.Common.{◌≡◌, ◌⊎◌, ℕ, ◌*◌, ◌<◌, List, ◌∷◌, Option, Some, None, Result, Ok, Err, IfSome, not, Bool, false, true, nat_lt, length}
-use Rattle.std.proofs.Common.{◌≤◌, unwrap_or, [], refl, sym, ap, subst, ◌∙◌, flat_map, inl, inr, if◌then◌else◌}
+use Rattle.std.proofs.Common.{◌≡◌, ◌⊎◌, ℕ, ◌*◌, ◌<◌, List, ◌∷◌, Option, Some, None, Result, Ok, Err, IfSome, Bool, false, true, nat_lt, length}
+use Rattle.std.proofs.Common.{[], refl, sym, ap, subst, ◌∙◌, flat_map, inl, inr, if◌then◌else◌}
 use Rattle.mufom_host.specs.World.{HoldBytes, NamedFile, file_named}
 use Rattle.mufom_words.specs.declared.command.Command.{Command}
 use Rattle.mufom_words.specs.declared.stop.WordsStop.{WordsStop}
@@ -24,11 +24,9 @@ use Rattle.mufom_words.specs.Tree.{Forest, tree_of}
 use Rattle.mufom_outcome.specs.declared.outcome.Outcome.{Outcome}
 use Rattle.mufom_outcome.specs.declared.outcome.Outcome.TheVariants as outcome
 use Rattle.mufom_groups.specs.Linked.{first_name, joined, linked}
-use Rattle.mufom_meaning.specs.Flat.{public_names}
 use Rattle.mufom_meaning.specs.Joined.{IsJoined}
 use Rattle.mufom_meaning.proofs.staging.JoinedSingle.{joined_is_single}
 use Rattle.mufom_module.specs.Defects.{IsValid}
-use Rattle.mufom_plan.specs.Names.{has_name}
 use Rattle.mufom_prune.specs.Kept.{IsKeptFor}
 use Rattle.mufom_prune.specs.Pruned.{remains}
 use Rattle.mufom_prune.proofs.Single.{kept_is_single}

@@ -1,5 +1,5 @@
 -- What a text comes to: its runs and the module of these, or the errors of it.
-use Rattle.std.proofs.Common.{◌≡◌, ℕ, ◌*◌, List, Option, Some, refl, sym, ap, subst, inl, inr}
+use Rattle.std.proofs.Common.{◌≡◌, ℕ, ◌*◌, List, Option, Some, refl, sym, subst, inl, inr}
 use Rattle.mufom_host.specs.World.{NamedFile}
 use Rattle.mufom_meaning.specs.declared.located.Run.{Run}
 use Rattle.mufom_module.specs.declared.module.Parts.{Parts}

@@ -1,5 +1,5 @@
 -- How a task that links files ends, by what its parts come to: a link fact, a name that is unknown, a locate fact, or a location.
-use Rattle.std.proofs.Common.{◌≡◌, ◌≢◌, ◌⊎◌, ℕ, List, [], ◌∷◌, ◌++◌, length, Option, Some, None, IfSome, true, refl, sym, ap, subst, ◌∙◌, inl, inr}
+use Rattle.std.proofs.Common.{◌≡◌, ◌≢◌, ◌⊎◌, ℕ, List, [], ◌∷◌, ◌++◌, Option, Some, None, IfSome, true, refl, sym, ap, subst, ◌∙◌, inl, inr}
 use Rattle.mufom_host.specs.World.{NamedFile}
 use Rattle.mufom_module.specs.declared.module.Parts.{Parts}
 use Rattle.mufom_module.specs.Written.{written}
@@ -12,7 +12,6 @@ use Rattle.mufom_image.specs.declared.refusal.LocateRefusal.TheVariants as locat
 use Rattle.mufom_image.specs.Refusals.{IsMet}
 use Rattle.mufom_link.specs.declared.refusal.LinkRefusal.{LinkRefusal}
 use Rattle.mufom_link.specs.declared.refusal.LinkRefusal.TheVariants as link
-use Rattle.mufom_meaning.specs.declared.located.LocatedParts.{LocatedParts}
 use Rattle.mufom_meaning.specs.Facts.{LinkFact, LocateFact, placement, undefined, common_unplaced, cycle, image_limit, zero_divisor, load_outside}
 use Rattle.mufom_meaning.specs.Facts.{loaded_twice, overflow}
 use Rattle.mufom_meaning.specs.Joined.{HasFirstHeader, IsJoined}
@@ -31,7 +30,7 @@ use Rattle.mufom_groups.specs.Linked.{first_name, linked, linked_module}
 use Rattle.mufom_groups.specs.Refusals.{link_refusal}
 use Rattle.mufom_groups.specs.Work.{gives, stops}
 use Rattle.mufom_origins.specs.declared.origins.Origin.{Origin}
-use Rattle.mufom_origins.specs.Origins.{FileModule, modules_of, origins_of}
+use Rattle.mufom_origins.specs.Origins.{FileModule, modules_of}
 use Rattle.mufom_origins.specs.Words.{ModuleFiles}
 use Rattle.mufom_outcome.specs.declared.outcome.Outcome.{Outcome}
 use Rattle.mufom_outcome.specs.declared.outcome.Outcome.TheVariants as outcome
@@ -45,7 +44,7 @@ use Rattle.mufom_task.specs.declared.task.Task.{Task}
 use Rattle.mufom_task.specs.declared.task.Task.TheVariants as task
 use Rattle.mufom_task.specs.Ends.{stop_outcome}
 use Rattle.mufom_task.specs.InputsRead.{inputs_in}
-use Rattle.mufom_task.specs.Tasks.{file_of, inputs_of, keep_of, reads_files}
+use Rattle.mufom_task.specs.Tasks.{file_of, inputs_of, reads_files}
 use Rattle.mufom_task.proofs.InputsLaws.{known-map, over-map}
 use Rattle.mufom_command.specs.declared.locating.Location.{Location}
 use Rattle.mufom_command.specs.declared.ready.Ready.{Ready}
@@ -55,7 +54,7 @@ use Rattle.mufom_command.specs.Locations.{AreMapped, shown_of}
 use Rattle.mufom_command.specs.Ready.{ready_output}
 use Rattle.mufom_command.specs.RunParts.{AreReadFrom, AreReadOver, AreUnkept, AreUnlocated, EndsOver, IsLocatedAs, IsLocatedWith, LinksLists, MakesLink}
 use Rattle.mufom_command.specs.Roots.{roots_by}
-use Rattle.mufom_command.specs.Works.{Kept, Output, kept_of, located, made, maus_of, product_of, work_of}
+use Rattle.mufom_command.specs.Works.{kept_of, located, made, product_of, work_of}
 use Rattle.mufom_command.specs.WorkEnds.{EndsAt, IsOfModules}
 use Rattle.mufom_command.proofs.EndLaws.{is-unlocated, listed, met-listed, unshared-by}
 use Rattle.mufom_command.proofs.LocatingLaws.{located-forth}

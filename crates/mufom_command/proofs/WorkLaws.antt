@@ -1,6 +1,6 @@
 -- What the work of a task comes to, from what its inputs and their modules come to.
 use Rattle.std.proofs.Common.{◌≡◌, ◌<◌, ◌≤◌, ℕ, Bool, false, true, nat_lt, arith, rules, length, List, Option, Some, None, refl, sym, ap, subst}
-use Rattle.std.proofs.Common.{◌∙◌, ◌⊎◌, IfSome, inl, inr, if◌then◌else◌}
+use Rattle.std.proofs.Common.{◌⊎◌, IfSome, inl, inr, if◌then◌else◌}
 use Rattle.std.proofs.lemmas.Bool.{ltb-true}
 use Rattle.mufom_numbers.specs.declared.limits.TheConstants.{MOST_FILE_BYTES}
 use Rattle.mufom_host.specs.World.{NamedFile}
@@ -15,7 +15,6 @@ use Rattle.mufom_words.specs.Tree.{tree_of}
 use Rattle.mufom_write.specs.Raw.{raw_image}
 use Rattle.mufom_groups.specs.Linked.{linked_module}
 use Rattle.mufom_groups.specs.Work.{Reached, Work, gives, stops, with_stops}
-use Rattle.mufom_origins.specs.Origins.{origins_of}
 use Rattle.mufom_outcome.specs.declared.outcome.BinRefusal.{BinRefusal}
 use Rattle.mufom_outcome.specs.declared.outcome.BinRefusal.TheVariants as bins
 use Rattle.mufom_outcome.specs.declared.outcome.Outcome.{Outcome}

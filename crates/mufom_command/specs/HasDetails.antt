@@ -1,5 +1,5 @@
 -- The lines about what the outcome of a task names: files, the plan, sections, regions, and the modules that mention a name.
-use Rattle.std.specs.Prelude.{◌++◌, ◌≡◌, ◌⊎◌, ℕ, ◌<◌, List, [], ◌∷◌, length, Option, Some, None, IfSome, if◌then◌else◌}
+use Rattle.std.specs.Prelude.{◌++◌, ◌≡◌, ℕ, ◌<◌, List, [], ◌∷◌, length, Option, Some, None, IfSome, if◌then◌else◌}
 use Rattle.mufom_host.specs.World.{NamedFile, file_named}
 use Rattle.mufom_host.specs.declared.cause.Cause.{Cause}
 use Rattle.mufom_module.specs.declared.module.Parts.{Parts}

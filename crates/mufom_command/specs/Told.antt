@@ -1,5 +1,5 @@
 -- The text that `explain` prints, from the values that the code has for it.
-use Rattle.std.specs.Prelude.{List, [], ◌++◌, Option, Some, map, option_map, IfSome}
+use Rattle.std.specs.Prelude.{[], ◌++◌, Some, map, option_map}
 use Rattle.std.specs.String.{string_bytes}
 use Rattle.mufom_text.specs.Words.{Text}
 use Rattle.mufom_explain.specs.Explained.{link_text, locate_text, name_text, shared_text}

@@ -1,29 +1,17 @@
 -- How the work on modules or on a text ends before it has an output.
-use Rattle.std.specs.Prelude.{◌≡◌, ◌≢◌, ◌⊎◌, ℕ, ◌≤◌, List, [], ◌∷◌, length, Option, Some, None, Bool, true, false}
-use Rattle.mufom_image.specs.declared.refusal.LocateRefusal.{LocateRefusal}
-use Rattle.mufom_image.specs.declared.refusal.LocateRefusal.TheVariants as locate
-use Rattle.mufom_link.specs.declared.refusal.LinkRefusal.{LinkRefusal}
-use Rattle.mufom_link.specs.declared.refusal.LinkRefusal.TheVariants as link
+use Rattle.std.specs.Prelude.{◌≡◌, ◌≢◌, ◌⊎◌, ℕ, List, [], ◌∷◌, Option, Some, None}
 use Rattle.mufom_module.specs.declared.module.Parts.{Parts}
 use Rattle.mufom_plan.specs.declared.plan.Plan.{Plan}
-use Rattle.mufom_prune.specs.declared.refusal.PruneRefusal.{PruneRefusal}
-use Rattle.mufom_prune.specs.declared.refusal.PruneRefusal.TheVariants as prune
 use Rattle.mufom_place.specs.declared.refusal.PlaceRefusal.TheVariants as place_refusal
 use Rattle.mufom_meaning.specs.Facts.{placement}
 use Rattle.mufom_meaning.specs.declared.located.LocatedParts.{LocatedParts}
-use Rattle.mufom_meaning.specs.Staging.{AreValid}
-use Rattle.mufom_meaning.specs.StagingLaws.{total_weight}
 use Rattle.mufom_words.specs.Tree.{Forest}
-use Rattle.mufom_groups.specs.Groups.{most_weight}
 use Rattle.mufom_groups.specs.Linked.{linked}
-use Rattle.mufom_groups.specs.Work.{Work, ◌>>=◌, gives, stop_at, stops, sure, with_stops}
-use Rattle.mufom_host.specs.World.{NamedFile}
+use Rattle.mufom_groups.specs.Work.{Work, ◌>>=◌, stop_at, stops, sure, with_stops}
 use Rattle.mufom_command.specs.Roots.{Roots, first_unknown}
 use Rattle.mufom_command.specs.Works.{Kept, all_of, kept_of, located, rest_of_module}
-use Rattle.mufom_task.specs.InputsRead.{inputs_in}
 use Rattle.mufom_outcome.specs.declared.outcome.Outcome.{Outcome}
 use Rattle.mufom_outcome.specs.declared.outcome.Outcome.TheVariants as outcome
-use Rattle.mufom_outcome.specs.declared.outcome.Refusal.TheVariants as refusal
 use Rattle.mufom_outcome.specs.Stop.{Stop, link_fact, keep_unknown, name_shared, locate_fact, bytes_refused, text_refused, listing_refused}
 use Rattle.mufom_task.specs.Ends.{stop_outcome}
 

@@ -1,5 +1,5 @@
 -- The table of tasks: the work of each, from its inputs to its output. The result of a run depends only on the arguments and the files.
-use Rattle.std.specs.Prelude.{◌≡◌, ℕ, ◌*◌, Bool, true, false, List, [], ◌∷◌, flat_map, length, nat_lt, not, unwrap_or, Option, Some, None, Result, Ok}
+use Rattle.std.specs.Prelude.{ℕ, ◌*◌, Bool, List, [], ◌∷◌, flat_map, length, nat_lt, Option, Some, None, Result, Ok}
 use Rattle.std.specs.Prelude.{Err, if◌then◌else◌}
 use Rattle.std.specs.List.{find}
 use Rattle.std.specs.Str.{bytes_eq}
@@ -21,14 +21,14 @@ use Rattle.mufom_meaning.specs.declared.located.LocatedParts.{LocatedParts}
 use Rattle.mufom_meaning.specs.Absolute.{absolute_of}
 use Rattle.mufom_planned.specs.Planned.{IsPlanned, PlanFact, of_list, planned_answer, shared_name}
 use Rattle.mufom_make.specs.Generated.{made_modules, made_plan, summary}
-use Rattle.mufom_groups.specs.Work.{gives, stops, Work, ◌>>=◌, sure, one_with, stop_at, nowhere, with_stops}
+use Rattle.mufom_groups.specs.Work.{gives, stops, Work, ◌>>=◌, sure, one_with, stop_at, with_stops}
 use Rattle.mufom_groups.specs.Linked.{first_name, joined, linked}
 use Rattle.mufom_meaning.specs.Joined.{IsJoined}
 use Rattle.mufom_module.specs.Defects.{IsValid}
 use Rattle.mufom_module.specs.Made.{IsMade}
 use Rattle.mufom_prune.specs.Kept.{IsKeptFor}
 use Rattle.mufom_prune.specs.Pruned.{Remains, remains, without_others}
-use Rattle.mufom_outcome.specs.Stop.{Stop, words_refused, plan_refused, file_refused, past_limit, link_fact, keep_unknown, name_shared, locate_fact, bytes_refused}
+use Rattle.mufom_outcome.specs.Stop.{Stop, words_refused, link_fact, keep_unknown, name_shared, locate_fact, bytes_refused}
 use Rattle.mufom_outcome.specs.Stop.{text_refused, listing_refused}
 use Rattle.mufom_outcome.specs.declared.outcome.BinRefusal.{BinRefusal}
 use Rattle.mufom_outcome.specs.declared.outcome.BinRefusal.TheVariants as bins

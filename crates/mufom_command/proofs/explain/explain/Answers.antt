@@ -1,4 +1,4 @@
-use Rattle.std.proofs.Common.{List, map, sym, ℕ}
+use Rattle.std.proofs.Common.{map, sym}
 use Rattle.std.specs.String.{string_bytes}
 use Rattle.mufom_command.proofs.ExplainReading.{lacking-all}
 use Rattle.mufom_command.proofs.explain.explain.Goals as goal

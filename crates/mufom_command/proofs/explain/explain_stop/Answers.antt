@@ -1,4 +1,4 @@
-use Rattle.std.proofs.Common.{List, map, sym, ℕ}
+use Rattle.std.proofs.Common.{List, map, ℕ}
 use Rattle.std.specs.String.{string_bytes}
 use Rattle.mufom_command.proofs.ExplainReading.{lacking-all, words-explain}
 use Rattle.mufom_command.specs.Told.{told_text}

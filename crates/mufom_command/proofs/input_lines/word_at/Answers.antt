@@ -1,4 +1,4 @@
-use Rattle.std.proofs.Common.{◌∙◌, Option, Some, None, String, Global, length, refl, subst}
+use Rattle.std.proofs.Common.{◌∙◌, Some, None, length, refl, subst}
 use Rattle.std.proofs.lemmas.Option.{slice_get_past, slice_get_read}
 use Rattle.std.specs.Slice.{IsItemAt}
 use Rattle.mufom_command.proofs.ArgumentLaws.{word-past, word-there}

@@ -1,9 +1,8 @@
-use Rattle.std.proofs.Common.{List, ap, arith, inr, length, refl, sym, subst, ◌∙◌, ◌≡◌, ◌<◌, ◌≤◌, ℕ}
-use Rattle.mufom_command.proofs.WorkLaws.{bytes-give, bytes-stop, not-too-many, too-many}
+use Rattle.std.proofs.Common.{List, ap, inr, length, refl, sym, ◌∙◌, ◌≡◌}
+use Rattle.mufom_command.proofs.WorkLaws.{bytes-stop, too-many}
 use Rattle.mufom_command.specs.Works.{length_fact}
 use Rattle.mufom_meaning.specs.declared.located.LocatedParts.{LocatedParts}
 use Rattle.mufom_meaning.specs.declared.located.Run.{Run}
-use Rattle.mufom_numbers.specs.declared.limits.TheConstants.{MOST_FILE_BYTES}
 use Rattle.mufom_outcome.specs.declared.outcome.BinRefusal.TheVariants as bins
 use Rattle.mufom_outcome.specs.Stop.{bytes_refused}
 use Rattle.mufom_write.specs.Raw.{raw_image}

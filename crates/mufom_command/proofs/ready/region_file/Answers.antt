@@ -1,9 +1,7 @@
-use Rattle.std.proofs.Common.{[], ◌≡◌, ◌∙◌, Option, Some, None, ℕ, List, ap, refl, subst, sym}
+use Rattle.std.proofs.Common.{[], ◌≡◌, ◌∙◌, Option, Some, None, ap, subst, sym}
 use Rattle.std.specs.Prelude.{IfErr, IfOk, option_map}
-use Rattle.mufom_plan.specs.declared.plan.Plan.{Plan}
 use Rattle.mufom_plan.specs.declared.plan.Region.{Region}
 use Rattle.mufom_groups.specs.Work.{gives}
-use Rattle.mufom_outcome.specs.declared.outcome.Outcome.{Outcome}
 use Rattle.mufom_command.proofs.WorkLaws.{region-unknown}
 use Rattle.mufom_command.specs.Ready.{ready_output}
 use Rattle.mufom_command.specs.WorkEnds.{EndsAt}
