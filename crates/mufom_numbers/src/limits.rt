@@ -10,5 +10,5 @@ pub const MOST_FILE_BYTES: usize = 67_108_864;
 pub const MOST_IMAGE_BYTES: u64 = 67_108_864;
 /// The greatest length of the file of a memory plan, in bytes.
 pub const MOST_PLAN_BYTES: usize = 65_536;
-/// The greatest number of modules that the command `make` generates and links.
+/// The greatest number of modules of a run: those of its files, and those that `make` generates.
 pub const MOST_MODULES: u32 = 65_536;
