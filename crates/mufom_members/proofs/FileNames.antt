@@ -25,7 +25,8 @@ members_are bytes members l =
     ∙ ap (names_of_entries bytes) (entries_are (length bytes) bytes 8 l.entries l.next l.found l.last (omega arith))
 
 -- no archive is accepted for its first bytes alone
-prefix_not_accepted : (bytes : List ℕ) (names : Option (List (List ℕ))) (ms : List Parts) (first : Verdict) → accepted names ms ≡ verdict_on_prefix bytes first → ⊥
+prefix_not_accepted : (bytes : List ℕ) (names : Option (List (List ℕ))) (ms : List Parts) (first : Verdict)
+    → accepted names ms ≡ verdict_on_prefix bytes first → ⊥
 prefix_not_accepted bytes names ms (accepted others ns) is = cc
 prefix_not_accepted bytes names ms (refused offset reason) is = cc
 prefix_not_accepted bytes names ms (bad_archive offset) is = by_test (lacks_header bytes offset || lacks_long_name bytes offset) is where

@@ -14,7 +14,8 @@ use Rattle.mufom_read.specs.Judging.{IsJudged, IsModule, refusal}
 use Rattle.mufom_archive.specs.declared.entry.Entry.{Entry}
 use Rattle.mufom_archive.specs.declared.listing.BadArchive.{BadArchive}
 use Rattle.mufom_archive.specs.Names.{begins_past, ends_name, is_long_names, is_member, is_reference, long_name, name_of, trimmed, without_slash}
-use Rattle.mufom_archive.specs.Entries.{AreEntries, contents_of, contents_of_table, entry_at, entry_of, lacks_header, long_names, next_offset, offset_after, room_for_names}
+use Rattle.mufom_archive.specs.Entries.{AreEntries, contents_of, contents_of_table, entry_at, entry_of, lacks_header}
+use Rattle.mufom_archive.specs.Entries.{long_names, next_offset, offset_after, room_for_names}
 use Rattle.mufom_archive.specs.Entries.{size_of_table, table_among}
 use Rattle.mufom_archive.specs.Listings.{IsListing, Member, first_error, first_nameless, is_at, is_refused, lacks_long_name, lacks_name, member_of, members_of}
 use Rattle.mufom_archive.proofs.EntryLaws.{entries_are, entries_stay, entry_parts, found_entry, header_stays, one_reading}
@@ -23,7 +24,8 @@ use Rattle.mufom_archive.proofs.OnlyLaws.{all_before}
 use Rattle.mufom_members.specs.Files.{AreModulesOf, IsArchiveVerdict, IsFirstRefused, accepted, bad_archive, contents_at, past_limit, refused}
 use Rattle.mufom_members.specs.Laws.{PrefixErrorsStay}
 use Rattle.mufom_members.proofs.EntryOrder.{contents_grow, contents_stay, part_of}
-use Rattle.mufom_members.proofs.Walk.{ends_inside, find_fails, find_passes, first_fails, first_passes, member_named, members_none, members_some, not_member, the_member}
+use Rattle.mufom_members.proofs.Walk.{ends_inside, find_fails, find_passes, first_fails, first_passes, member_named}
+use Rattle.mufom_members.proofs.Walk.{members_none, members_some, not_member, the_member}
 
 -- ---- lists of entries
 
@@ -346,13 +348,15 @@ module _ (options : ReadOptions) (bytes more : List ℕ) where
     stays : (t : Entry) → table_among l.entries ≡ Some t → table_among (l.entries ++ split.0) ≡ Some t
     stays t some = find_stays (λ e. is_long_names e.label) l.entries split.0 t some
 
-    first : (extra : List Entry) × (before_first (is_refused (long_names (bytes ++ more) (l.entries ++ split.0)) (length (bytes ++ more))) (l.entries ++ split.0)
+    first : (extra : List Entry) × (before_first (is_refused (long_names (bytes ++ more) (l.entries ++ split.0)) (length (bytes ++ more)))
+        (l.entries ++ split.0)
         ≡ before_first (is_refused (long_names bytes l.entries) (length bytes)) l.entries ++ extra)
     first = first_stays (is_refused (long_names bytes l.entries) (length bytes))
         (is_refused (long_names (bytes ++ more) (l.entries ++ split.0)) (length (bytes ++ more)))
         (kept_still bytes more l.entries (l.entries ++ split.0) stays) l.entries split.0
 
-    listed : each.0 ≡ members_of (long_names (bytes ++ more) (l.entries ++ split.0)) (before_first (is_refused (long_names bytes l.entries) (length bytes)) l.entries)
+    listed : each.0 ≡ members_of (long_names (bytes ++ more) (l.entries ++ split.0))
+        (before_first (is_refused (long_names bytes l.entries) (length bytes)) l.entries)
         ++ members_of (long_names (bytes ++ more) (l.entries ++ split.0)) first.0
     listed =
         each.2.listed
@@ -403,7 +407,8 @@ module _ (options : ReadOptions) (bytes more : List ℕ) where
         wrong e is = no_and (nat_le (offset + 60) (length bytes))
             (sym (ap (λ (o : Option Entry). nat_le (offset + 60) (length bytes) && is_none o) is) ∙ lacks)
     by_found None found is = by_test (nat_lt l.next (length bytes)) is where
-      by_test : (b : Bool) → ◌≡◌ {A = Option BadArchive} (Some (record { offset = offset })) (if b then Some (record { offset = l.next }) else None) → IsLast l.entries l.next offset
+      by_test : (b : Bool) → ◌≡◌ {A = Option BadArchive} (Some (record { offset = offset }))
+          (if b then Some (record { offset = l.next }) else None) → IsLast l.entries l.next offset
       by_test true is =
           let error = bad_same offset l.next is in
           record { none = found; place = error }
@@ -568,7 +573,8 @@ module _ (options : ReadOptions) (bytes more : List ℕ) where
         (subst (λ es. AreEntries (bytes ++ more) 8 es each.2.next) split.1 each.2.found) each.2.last stays it.room
 
     both : (find (is_refused (long_names (bytes ++ more) (l.entries ++ split.0)) (length (bytes ++ more))) (l.entries ++ split.0) ≡ Some it.entry)
-        × (before_first (is_refused (long_names (bytes ++ more) (l.entries ++ split.0)) (length (bytes ++ more))) (l.entries ++ split.0)
+        × (before_first (is_refused (long_names (bytes ++ more) (l.entries ++ split.0)) (length (bytes ++ more)))
+        (l.entries ++ split.0)
         ≡ before_first (is_refused (long_names bytes l.entries) (length bytes)) l.entries)
     both = find_both (is_refused (long_names bytes l.entries) (length bytes))
         (is_refused (long_names (bytes ++ more) (l.entries ++ split.0)) (length (bytes ++ more)))
@@ -579,10 +585,12 @@ module _ (options : ReadOptions) (bytes more : List ℕ) where
     error : each.1 ≡ Some (record { offset = offset })
     error =
         each.2.refused
-        ∙ (λ i. first_error (length (bytes ++ more)) each.2.next (find (is_refused (long_names (bytes ++ more) (split.1 i)) (length (bytes ++ more))) (split.1 i)))
+        ∙ (λ i. first_error (length (bytes ++ more)) each.2.next
+            (find (is_refused (long_names (bytes ++ more) (split.1 i)) (length (bytes ++ more))) (split.1 i)))
         ∙ ap (first_error (length (bytes ++ more)) each.2.next) both.0 ∙ ap (λ n. Some (record { offset = n })) it.place
 
-    listed : each.0 ≡ members_of (long_names (bytes ++ more) (l.entries ++ split.0)) (before_first (is_refused (long_names bytes l.entries) (length bytes)) l.entries)
+    listed : each.0 ≡ members_of (long_names (bytes ++ more) (l.entries ++ split.0))
+        (before_first (is_refused (long_names bytes l.entries) (length bytes)) l.entries)
     listed =
         each.2.listed
         ∙ (λ i. members_of (long_names (bytes ++ more) (split.1 i))

@@ -11,7 +11,8 @@ use Rattle.mufom_members.specs.declared.content.Content.{Content}
 use Rattle.mufom_members.specs.declared.members.Members.{Members}
 use Rattle.mufom_members.specs.declared.members.MembersStop.{MembersStop}
 use Rattle.mufom_members.specs.declared.members.MembersStop.TheVariants as stop
-use Rattle.mufom_members.specs.Contents.{GoesOn, HasBegunWith, HasFed, HasReadChunk, HasReadOf, HasReadRest, HasReadWhole, IsVerdictAs, Kind, ReadsMembers, kind_of}
+use Rattle.mufom_members.specs.Contents.{GoesOn, HasBegunWith, HasFed, HasReadChunk, HasReadOf, HasReadRest, HasReadWhole, IsVerdictAs}
+use Rattle.mufom_members.specs.Contents.{Kind, ReadsMembers, kind_of}
 use Rattle.mufom_members.specs.Files.{IsVerdict, Verdict}
 use Rattle.mufom_members.specs.Results.{HasModules, SaysNothing, StopsBy}
 use Rattle.mufom_members.proofs.Feeding.{has_modules, stops_by}

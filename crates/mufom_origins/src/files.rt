@@ -36,8 +36,8 @@ impl ModuleFiles {
         }
     }
 
-    /// Adds the modules of the file with this number and name: so many modules, those of the listing if the file
-    /// is an archive.
+    /// Adds a file with its number, its name and the number of its modules. If the file is an archive, the modules
+    /// are those of the listing's entries. Out of memory is the only error.
     pub fn add(
         &mut self,
         alloc: Global,

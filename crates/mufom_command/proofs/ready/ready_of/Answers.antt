@@ -16,7 +16,8 @@ returns-in-Raw-clause-ok c = rw c.in-Raw.is c.raw_file.ensures.ok
 
 pub returns-in-Absolute-clause-stops : goal.returns-in-Absolute-clause-stops
 returns-in-Absolute-clause-stops c = if-err-map c.absolute_file.result (λ (o : Outcome). o ≡ outcome.NoMemory)
-    (EndsAt (product_of c.args.product.now (all_files c.args.names) (shown_of c.args.location) c.args.location.located)) (λ o lacks. inl lacks) c.absolute_file.ensures.err
+    (EndsAt (product_of c.args.product.now (all_files c.args.names) (shown_of c.args.location) c.args.location.located))
+    (λ o lacks. inl lacks) c.absolute_file.ensures.err
 
 pub returns-in-Raw-clause-stops : goal.returns-in-Raw-clause-stops
 returns-in-Raw-clause-stops c = rw c.in-Raw.is c.raw_file.ensures.stops

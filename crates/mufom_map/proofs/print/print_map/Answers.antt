@@ -15,7 +15,8 @@ returns-clause-done g c =
 pub returns-clause-fault : goal.returns-clause-fault
 returns-clause-fault g c = λ failed.
     let prefix = c.print_lines.ensures.fault failed in (
-      subst (λ (m : Mapped). GrowsByPrefix (g.H.World.meaning c.args.host.now).out (g.H.World.meaning c.print_lines.new.host).out (map_text (all_files c.args.names.now) m))
+      subst (λ (m : Mapped). GrowsByPrefix (g.H.World.meaning c.args.host.now).out (g.H.World.meaning c.print_lines.new.host).out
+          (map_text (all_files c.args.names.now) m))
           c.in-Ok.ensures prefix.0,
       prefix.1,
     )
