@@ -30,7 +30,7 @@ use Rattle.mufom_meaning.specs.AddressMap.{AreApart}
 use Rattle.mufom_titxt.specs.TextModules.{EndBelow, HaveModule, HaveText, literals, loads_from, run_section, text_parts}
 use Rattle.mufom_titxt.proofs.ModuleValid.{text_is_valid}
 use Rattle.mufom_task.specs.Inputs.{ComeTo, accepted}
-use Rattle.mufom_command.specs.Works.{IsHeld}
+use Rattle.mufom_works.specs.Works.{IsHeld}
 use Rattle.mufom_headline.proofs.Places.{accepted-alone}
 
 -- ---- sections
