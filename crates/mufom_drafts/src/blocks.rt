@@ -1,8 +1,8 @@
 //! The debug items of a draft.
 
 use crate::draft::Draft;
-use crate::tokens::{expression, note};
 use crate::fault::DraftFault;
+use crate::tokens::{expression, note};
 use arrayvec::ArrayVec;
 use mufom_debug::{Block, BlockHead, Boxed, DebugItem};
 use mufom_expr::Token;

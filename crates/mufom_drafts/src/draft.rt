@@ -1,7 +1,7 @@
 //! A module that grows by its entries.
 
-use crate::tokens::{expression, note};
 use crate::fault::DraftFault;
+use crate::tokens::{expression, note};
 use mufom_debug::Block;
 use mufom_expr::{FieldKind, Token};
 use mufom_loads::{Item, Load};

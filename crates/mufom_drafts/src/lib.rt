@@ -10,10 +10,12 @@ mod draft;
 mod fault;
 pub mod files;
 mod records;
+mod samples;
 mod tokens;
 
 pub use blocks::Head;
 pub use draft::{Data, Draft, SectionRow};
 pub use fault::DraftFault;
 pub use records::Records;
+pub use samples::{CODE, loaded, small};
 pub use tokens::{expression, note};
