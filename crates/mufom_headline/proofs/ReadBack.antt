@@ -8,7 +8,7 @@ use Rattle.mufom_module.specs.declared.module.Parts.{Parts}
 use Rattle.mufom_module.specs.Written.{written}
 use Rattle.mufom_module.proofs.OneModule.{one_module}
 use Rattle.mufom_write.proofs.Stated.{stated}
-use Rattle.mufom_read.specs.Judging.{IsModule}
+use Rattle.mufom_judging.specs.Judging.{IsModule}
 use Rattle.mufom_groups.specs.Work.{gives}
 use Rattle.mufom_task.specs.declared.task.Inputs.{Inputs}
 use Rattle.mufom_task.specs.Inputs.{AreModules, ComeTo, accepted, root_count}

@@ -4,7 +4,7 @@ use Rattle.mufom_numbers.specs.declared.limits.TheConstants.{MOST_FILE_BYTES}
 use Rattle.mufom_module.specs.declared.module.Parts.{Parts}
 use Rattle.mufom_module.specs.Written.{written}
 use Rattle.mufom_write.proofs.Stated.{stated}
-use Rattle.mufom_read.specs.Judging.{IsModule}
+use Rattle.mufom_judging.specs.Judging.{IsModule}
 use Rattle.mufom_meaning.specs.Absolute.{absolute_of}
 use Rattle.mufom_planned.proofs.Absolute.{planned_located_as_itself}
 use Rattle.mufom_meaning.proofs.staging.Staging.{joined_stands_for}

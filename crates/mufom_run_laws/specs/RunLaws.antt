@@ -9,7 +9,7 @@ use Rattle.mufom_words.specs.Tree.{tree_of}
 use Rattle.mufom_names.specs.Names.{AreDistinct}
 use Rattle.mufom_module.specs.declared.module.Parts.{Parts}
 use Rattle.mufom_module.specs.Written.{written}
-use Rattle.mufom_read.specs.Judging.{IsModule}
+use Rattle.mufom_judging.specs.Judging.{IsModule}
 use Rattle.mufom_plan.specs.declared.plan.Plan.{Plan}
 use Rattle.mufom_meaning.specs.declared.located.LocatedParts.{LocatedParts}
 use Rattle.mufom_meaning.specs.Absolute.{absolute_of, no_regions}

@@ -7,8 +7,8 @@ use Rattle.mufom_words.specs.declared.stop.WordsStop.{WordsStop}
 use Rattle.mufom_words.specs.Answer.{answer_of}
 use Rattle.mufom_module.specs.declared.module.Parts.{Parts}
 use Rattle.mufom_module.specs.Written.{written}
-use Rattle.mufom_read.proofs.judged.PrefixJudged.{has_one_judgment}
-use Rattle.mufom_read.proofs.spelled.Judged.{judgments_exclude_each_other}
+use Rattle.mufom_judging.proofs.judged.PrefixJudged.{has_one_judgment}
+use Rattle.mufom_judging.proofs.spelled.Judged.{judgments_exclude_each_other}
 use Rattle.mufom_text.specs.Image.{image_text}
 use Rattle.mufom_text.specs.Show.{text_of}
 use Rattle.mufom_make.specs.Generated.{made_modules, made_plan, summary}
