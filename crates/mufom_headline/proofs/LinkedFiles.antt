@@ -22,9 +22,9 @@ use Rattle.mufom_task.specs.Sound.{IsSoundInputs, IsSoundRequest}
 use Rattle.mufom_task.proofs.RequestLaws.{sound-request}
 use Rattle.mufom_task.specs.Calls.{Call}
 use Rattle.mufom_task.specs.Inputs.{root_count}
-use Rattle.mufom_command.specs.Works.{Output, linked_file, writes_module}
-use Rattle.mufom_command.specs.Run.{PutsOut}
-use Rattle.mufom_command.proofs.Runs.{of-files}
+use Rattle.mufom_works.specs.Works.{Output, linked_file, writes_module}
+use Rattle.mufom_works.specs.Run.{PutsOut}
+use Rattle.mufom_works.proofs.Runs.{of-files}
 use Rattle.mufom_run_laws.specs.RunLaws.{Accepts, IsSameWork}
 use Rattle.mufom_run_laws.proofs.Accepted.{accepted-fact, accepted-gives}
 use Rattle.mufom_run_laws.proofs.Calm.{done-comes}

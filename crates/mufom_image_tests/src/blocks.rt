@@ -1,69 +1,28 @@
 //! Debug items, with numbers in the place of their expressions.
 
-use crate::draft::{BASE, Draft, PLUS, bytes, expression, locates};
-use arrayvec::ArrayVec;
-use mufom_debug::{Block, BlockHead, Boxed, DebugItem, addresses, is_within_depth};
+use crate::located::{BASE, PLUS, locates};
+use mufom_debug::{addresses, is_within_depth};
+use mufom_drafts::{Draft, Head};
 use mufom_expr::Token::{self, Number};
-use mufom_names::Note;
-use mufom_numbers::List;
 use std::alloc::Global;
-use std::process::Abort;
 
 // The address at which the one section is placed.
 const AT_256: &str = "[[region]]\nname = \"r\"\nbase = 256\nsize = 16\nsections = [\"t\"]\n";
 
-// What a function declares: a local name, a note on it, and its value.
-fn locals(rt: &impl Abort, alloc: Global) -> List<DebugItem> {
-    let mut numbers = ArrayVec::new();
-    numbers.push(12);
-    numbers.push(0);
-    let note = Note {
-        type_index: 0,
-        attribute: 7,
-        numbers,
-    };
-    let value = expression(rt, alloc, &[BASE, Number(2), PLUS]);
-    let mut items = List::new(alloc);
-    items
-        .push(DebugItem::Name(bytes(rt, alloc, b"l")))
-        .expect(rt, "memory");
-    items
-        .push(DebugItem::Note { name: 1, note })
-        .expect(rt, "memory");
-    items
-        .push(DebugItem::Value { name: 1, value })
-        .expect(rt, "memory");
-    items
-}
-
-// A global function from the base of the section to 15 past it.
-fn function(rt: &impl Abort, alloc: Global) -> Block {
-    Block {
-        head: BlockHead::Global {
-            stack: 0,
-            type_index: 0,
-            offset: expression(rt, alloc, &[BASE]),
-        },
-        name: bytes(rt, alloc, b"main"),
-        items: locals(rt, alloc),
-        end: Some(expression(rt, alloc, &[BASE, Number(15), PLUS])),
-    }
-}
-
-// A module block with a name and the function.
-fn program(rt: &impl Abort, alloc: Global) -> Block {
-    let mut items = List::new(alloc);
-    items
-        .push(DebugItem::Name(bytes(rt, alloc, b"x")))
-        .expect(rt, "memory");
-    let inner = Boxed::new(alloc, function(rt, alloc)).expect(rt, "memory");
-    items.push(DebugItem::Block(inner)).expect(rt, "memory");
-    Block {
-        head: BlockHead::Module,
-        name: bytes(rt, alloc, b"prog"),
-        items,
-        end: None,
-    }
+// A module block with a name and a global function, from the base of the section to 15 past it. The function declares
+// a local name, a note on it, and its value.
+fn program(alloc: Global) -> Draft {
+    let mut draft = Draft::new(alloc, 4);
+    draft.section(b"t", 16, None);
+    draft.begin(Head::Module, b"prog");
+    draft.name(b"x");
+    draft.begin(Head::Global(0, 0, &[BASE]), b"main");
+    draft.name(b"l");
+    draft.note(1, 0, 7, &[12, 0]);
+    draft.value(1, &[BASE, Number(2), PLUS]);
+    draft.end(&[BASE, Number(15), PLUS]);
+    draft.end(&[]);
+    draft
 }
 
 // The number that an expression is, if it is one.
@@ -77,10 +36,7 @@ fn number(tokens: &[Token]) -> Option<u64> {
 #[test]
 fn debug_expressions_become_numbers(rt: HostRuntime) {
     let alloc = rt.alloc();
-    let mut draft = Draft::new(alloc, 4);
-    draft.section(&rt, 16, None);
-    draft.block(&rt, program(&rt, alloc));
-    let located = locates(&rt, alloc, draft, AT_256);
+    let located = locates(&rt, alloc, program(alloc), AT_256);
     let items = located.parts().debug.as_slice();
     assert!(rt; is_within_depth(items, 2));
     let all = addresses(alloc, items).expect(&rt, "memory");

@@ -1,9 +1,9 @@
 //! The values of names, and names that keep a module from being located.
 
-use crate::draft::{Draft, PLUS, refuses, values};
+use crate::located::{PLUS, refuses, values};
+use mufom_drafts::Draft;
 use mufom_expr::Token::{Fun, Number, Var};
 use mufom_expr::{Function, Letter, Token};
-use mufom_names::Weak;
 use std::alloc::Global;
 use std::process::Abort;
 
@@ -15,16 +15,16 @@ const DIVIDE: Token = Fun(Function::Divide);
 fn the_first_public_on_a_cycle_is_named(rt: HostRuntime) {
     let alloc = rt.alloc();
     let mut draft = Draft::new(alloc, 4);
-    draft.public(&rt, b"c", &[Var(Letter::I, 1)]);
-    draft.public(&rt, b"a", &[Var(Letter::I, 2), Number(1), PLUS]);
-    draft.public(&rt, b"b", &[Var(Letter::I, 1), Number(1), MINUS]);
+    draft.public(b"c", &[Var(Letter::I, 1)]);
+    draft.public(b"a", &[Var(Letter::I, 2), Number(1), PLUS]);
+    draft.public(b"b", &[Var(Letter::I, 1), Number(1), MINUS]);
     refuses(&rt, alloc, draft, "", "Cycle(Bytes { held: [97] })");
 }
 
 // A public that divides by 0, which nothing uses.
-fn dividing(rt: &impl Abort, alloc: Global) -> Draft {
+fn dividing(alloc: Global) -> Draft {
     let mut draft = Draft::new(alloc, 4);
-    draft.public(rt, b"d", &[Number(1), Number(0), DIVIDE]);
+    draft.public(b"d", &[Number(1), Number(0), DIVIDE]);
     draft
 }
 
@@ -32,14 +32,10 @@ fn dividing(rt: &impl Abort, alloc: Global) -> Draft {
 fn the_earlier_of_two_facts_is_answered(rt: HostRuntime) {
     let alloc = rt.alloc();
     let refusal = "DivideByZero(Public(Bytes { held: [100] }))";
-    refuses(&rt, alloc, dividing(&rt, alloc), "", refusal);
-    let mut draft = dividing(&rt, alloc);
-    let weak = Weak {
-        size: 4,
-        default: 0,
-    };
-    draft.reference(&rt, b"c", Some(weak));
-    draft.reference(&rt, b"q", None);
+    refuses(&rt, alloc, dividing(alloc), "", refusal);
+    let mut draft = dividing(alloc);
+    draft.weak(b"c", 4, 0);
+    draft.reference(b"q");
     refuses(&rt, alloc, draft, "", "Undefined(Bytes { held: [113] })");
 }
 
@@ -53,9 +49,9 @@ fn chain(rt: &impl Abort, alloc: Global, count: u32, more: Option<u64>, end: Tok
             Some(number) => Number(number),
             None => next,
         };
-        draft.public(rt, name.as_bytes(), &[next, other, PLUS]);
+        draft.public(name.as_bytes(), &[next, other, PLUS]);
     }
-    draft.public(rt, b"e", &[end]);
+    draft.public(b"e", &[end]);
     draft
 }
 

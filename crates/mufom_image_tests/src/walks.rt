@@ -1,13 +1,13 @@
 //! One walk over the loads: each copy of a field has a counter of its own, and of the bytes that
 //! are loaded twice the first goes by the order of the loads.
 
-use crate::draft::{COUNTER, Draft, module};
+use crate::located::COUNTER;
+use mufom_drafts::{Data, Draft};
 use mufom_expr::FieldKind::Unsigned;
 use mufom_expr::Token::Number;
 use mufom_expr::{Env, Letter, Postfix};
 use mufom_image_bytes::{ImageStop, LoadRefusal, Values, image_of_module};
 use std::alloc::Global;
-use std::process::Abort;
 
 // The program counter, which each variable means.
 #[derive(Drop)]
@@ -39,42 +39,42 @@ impl Values for Counted {
 }
 
 // One section of 16 bytes, into which all is put.
-fn section(rt: &impl Abort, alloc: Global) -> Draft {
+fn section(alloc: Global) -> Draft {
     let mut draft = Draft::new(alloc, 2);
-    draft.section(rt, 16, None);
-    draft.select(rt, 0);
+    draft.section(b"t", 16, None);
+    draft.select(0);
     draft
 }
 
 // One byte at an address.
-fn byte_at(rt: &impl Abort, draft: &mut Draft, address: u64) {
-    draft.counter(rt, &[Number(address)]);
-    draft.once(rt, b"x");
+fn byte_at(draft: &mut Draft, address: u64) {
+    draft.counter(0, &[Number(address)]);
+    draft.once(Data::Bytes(b"x"));
 }
 
 // A byte at 264, and a field of two bytes with the counter, three times from 256 on.
-fn copies(rt: &impl Abort, alloc: Global) -> Draft {
-    let mut draft = section(rt, alloc);
-    byte_at(rt, &mut draft, 264);
-    draft.counter(rt, &[Number(256)]);
-    draft.field(rt, 3, Unsigned, 2, &[COUNTER]);
+fn copies(alloc: Global) -> Draft {
+    let mut draft = section(alloc);
+    byte_at(&mut draft, 264);
+    draft.counter(0, &[Number(256)]);
+    draft.repeat(3, &[Data::Field(Unsigned, 2, &[COUNTER])]);
     draft
 }
 
 // Bytes at 260 and 256, and again both.
-fn doubles(rt: &impl Abort, alloc: Global) -> Draft {
-    let mut draft = section(rt, alloc);
-    byte_at(rt, &mut draft, 260);
-    byte_at(rt, &mut draft, 256);
-    byte_at(rt, &mut draft, 260);
-    byte_at(rt, &mut draft, 256);
+fn doubles(alloc: Global) -> Draft {
+    let mut draft = section(alloc);
+    byte_at(&mut draft, 260);
+    byte_at(&mut draft, 256);
+    byte_at(&mut draft, 260);
+    byte_at(&mut draft, 256);
     draft
 }
 
 #[test]
 fn copies_of_a_field_have_their_own_counters(rt: HostRuntime) {
     let alloc = rt.alloc();
-    let module = module(&rt, copies(&rt, alloc));
+    let module = copies(alloc).module().expect(&rt, "a module");
     let Ok(runs) = image_of_module(alloc, module.parts(), &[256], &Counted) else {
         panic!(rt; "no image");
     };
@@ -90,7 +90,7 @@ fn copies_of_a_field_have_their_own_counters(rt: HostRuntime) {
 #[test]
 fn the_first_double_goes_by_the_order_of_the_loads(rt: HostRuntime) {
     let alloc = rt.alloc();
-    let module = module(&rt, doubles(&rt, alloc));
+    let module = doubles(alloc).module().expect(&rt, "a module");
     match image_of_module(alloc, module.parts(), &[256], &Counted) {
         Err(ImageStop::Refused(LoadRefusal::Twice { address })) => assert_eq!(rt; address, 260),
         _ => panic!(rt; "no double"),

@@ -1,19 +1,15 @@
 //! Copies of a section and of debug items.
 
-use crate::files::{FOUR, Records, module};
+use crate::files::module;
 use mufom_copies::{copy_debug_items, copy_section};
+use mufom_drafts::Records;
 
 // An absolute section `code` of four bytes at 0100, aligned to 2, and a block of a global function, which ends at 7,
 // with a name in it.
 const ENTRIES: Records<'static> = Records {
-    descriptor: FOUR,
-    extension: b"",
-    environment: b"",
     sections: b"\xE6\x01\xC1\xD3\x04code\xE7\x01\x02\xE2\xD3\x01\x04\xE2\xCC\x01\x82\x01\x00",
-    external: b"",
     debug: b"\xF8\x04\x00\x01f\x01\x02\x03\xF0\x20\x01n\xF9\x07",
-    data: b"",
-    trailer: b"",
+    ..Records::NONE
 };
 
 #[test]

@@ -1,6 +1,7 @@
 //! Three modules with something of every kind, linked from copies and from the modules themselves.
 
-use crate::files::{FOUR, Records, links_to};
+use crate::files::links_to;
+use mufom_drafts::Records;
 
 // An absolute section `p` of eight bytes of read-only memory at 0100, and `t` of 40 bytes.
 const SECTIONS: &[u8] = b"\
@@ -35,9 +36,7 @@ const LOADS: &[u8] = b"\
 
 // The public `a` with a note, a common `w` with a note, and the reference `b`.
 const A: Records<'static> = Records {
-    descriptor: FOUR,
     extension: b"a",
-    environment: b"",
     sections: SECTIONS,
     external: b"\
     \xE8\x20\x01a\xF1\xC9\x20\x00\x07\x03\xE2\xC9\x20\xCC\x02\x04\xA5\
@@ -45,14 +44,12 @@ const A: Records<'static> = Records {
     \xE9\x0C\x01b",
     debug: DEBUG,
     data: LOADS,
-    trailer: b"",
+    ..Records::NONE
 };
 
 // As that one, with the public `b`.
 const B: Records<'static> = Records {
-    descriptor: FOUR,
     extension: b"b",
-    environment: b"",
     sections: SECTIONS,
     external: b"\
     \xE8\x20\x01b\xF1\xC9\x20\x00\x07\x03\xE2\xC9\x20\xCC\x02\x04\xA5\
@@ -60,14 +57,12 @@ const B: Records<'static> = Records {
     \xE9\x0C\x01b",
     debug: DEBUG,
     data: LOADS,
-    trailer: b"",
+    ..Records::NONE
 };
 
 // As that one, with the public `c`.
 const C: Records<'static> = Records {
-    descriptor: FOUR,
     extension: b"c",
-    environment: b"",
     sections: SECTIONS,
     external: b"\
     \xE8\x20\x01c\xF1\xC9\x20\x00\x07\x03\xE2\xC9\x20\xCC\x02\x04\xA5\
@@ -75,7 +70,7 @@ const C: Records<'static> = Records {
     \xE9\x0C\x01b",
     debug: DEBUG,
     data: LOADS,
-    trailer: b"",
+    ..Records::NONE
 };
 
 // The sections of the second module are 3 and 4, those of the third 5 and 6.
@@ -161,14 +156,12 @@ const ALL_LOADS: &[u8] = b"\
 
 // The extension is that of the first module.
 const ALL: Records<'static> = Records {
-    descriptor: FOUR,
     extension: b"a",
-    environment: b"",
     sections: ALL_SECTIONS,
     external: ALL_NAMES,
     debug: ALL_DEBUG,
     data: ALL_LOADS,
-    trailer: b"",
+    ..Records::NONE
 };
 
 #[test]

@@ -1,7 +1,8 @@
 //! Lists of two modules that are linked: two halves that need each other, each refusal, and
 //! references that become one, stay apart or are met.
 
-use crate::files::{FOUR, Records, Unlinked, links_to, refuses};
+use crate::files::{Unlinked, links_to, refuses};
+use mufom_drafts::Records;
 use mufom_link::may_be_linked;
 use mufom_meaning::Descriptor;
 use mufom_module::Order;
@@ -18,41 +19,29 @@ const FOUR_BYTES: &[u8] = b"\xE6\x01\xC3\x01t\xE2\xD3\x01\x04";
 
 // It has the public `f`, which is the base of its section, and a field of the reference `g`.
 const F_HALF: Records<'static> = Records {
-    descriptor: FOUR,
-    extension: b"",
-    environment: b"",
     sections: FOUR_BYTES,
     external: b"\xE8\x20\x01f\xE2\xC9\x20\xD2\x01\xE9\x0B\x01g",
-    debug: b"",
     data: b"\xE5\x01\xE4\xBE\xD8\x0B\x90\x04\xBF",
-    trailer: b"",
+    ..Records::NONE
 };
 
 // It has the public `g`, which is one more than the base of its section, and a field of the reference `f` and 2.
 const G_HALF: Records<'static> = Records {
-    descriptor: FOUR,
-    extension: b"",
-    environment: b"",
     sections: FOUR_BYTES,
     external: b"\xE8\x20\x01g\xE2\xC9\x20\xD2\x01\x01\xA5\xE9\x0B\x01f",
-    debug: b"",
     data: b"\xE5\x01\xE4\xBE\xD8\x0B\x02\xA5\x90\x04\xBF",
-    trailer: b"",
+    ..Records::NONE
 };
 
 // The section of the second half is 2 here, and its public 21. Both references are gone, and the publics are in
 // their places: I 21 for `g`, and I 20 for `f`.
 const HALVES: Records<'static> = Records {
-    descriptor: FOUR,
-    extension: b"",
-    environment: b"",
     sections: b"\xE6\x01\xC3\x01t\xE2\xD3\x01\x04\xE6\x02\xC3\x01t\xE2\xD3\x02\x04",
     external: b"\xE8\x20\x01f\xE2\xC9\x20\xD2\x01\
     \xE8\x21\x01g\xE2\xC9\x21\xD2\x02\x01\xA5",
-    debug: b"",
     data: b"\xE5\x01\xE4\xBE\xC9\x21\x90\x04\xBF\
     \xE5\x02\xE4\xBE\xC9\x20\x02\xA5\x90\x04\xBF",
-    trailer: b"",
+    ..Records::NONE
 };
 
 #[test]
@@ -69,60 +58,35 @@ const MAIN: &[u8] = b"\xE8\x20\x04main\xE2\xC9\x20\x00";
 const START: &[u8] = b"\xE2\xC7\xBE\x82\x10\x00\xBF";
 
 const DEFINING: Records<'static> = Records {
-    descriptor: FOUR,
-    extension: b"",
-    environment: b"",
-    sections: b"",
     external: MAIN,
-    debug: b"",
-    data: b"",
-    trailer: b"",
+    ..Records::NONE
 };
 
 const STARTING: Records<'static> = Records {
-    descriptor: FOUR,
-    extension: b"",
-    environment: b"",
-    sections: b"",
-    external: b"",
-    debug: b"",
-    data: b"",
     trailer: START,
+    ..Records::NONE
 };
 
 const BOTH: Records<'static> = Records {
-    descriptor: FOUR,
-    extension: b"",
-    environment: b"",
-    sections: b"",
     external: MAIN,
-    debug: b"",
-    data: b"",
     trailer: START,
+    ..Records::NONE
 };
 
 // As that one, with two units in an address.
 const TWO_UNITS: Records<'static> = Records {
     descriptor: b"\xEC\x08\x02\xCD",
-    extension: b"",
-    environment: b"",
-    sections: b"",
     external: MAIN,
-    debug: b"",
-    data: b"",
     trailer: START,
+    ..Records::NONE
 };
 
 // As that one, with the least significant byte first.
 const LEAST_FIRST: Records<'static> = Records {
     descriptor: b"\xEC\x08\x04\xCC",
-    extension: b"",
-    environment: b"",
-    sections: b"",
     external: MAIN,
-    debug: b"",
-    data: b"",
     trailer: START,
+    ..Records::NONE
 };
 
 // The descriptors of these modules.
@@ -178,74 +142,48 @@ const FIRST_AND_SECOND: &[u8] =
 
 // The reference `q`.
 const STRONG: Records<'static> = Records {
-    descriptor: FOUR,
-    extension: b"",
-    environment: b"",
     sections: ONE_BYTE,
     external: b"\xE9\x0B\x01q",
-    debug: b"",
     data: FIELD,
-    trailer: b"",
+    ..Records::NONE
 };
 
 // The reference `q` with a note.
 const NOTED: Records<'static> = Records {
-    descriptor: FOUR,
-    extension: b"",
-    environment: b"",
     sections: ONE_BYTE,
     external: b"\xE9\x0B\x01q\xF1\xD8\x0B\x00\x07\x01",
-    debug: b"",
     data: FIELD,
-    trailer: b"",
+    ..Records::NONE
 };
 
 // The weak reference `q`, with the default 1.
 const WEAK_ONE: Records<'static> = Records {
-    descriptor: FOUR,
-    extension: b"",
-    environment: b"",
     sections: ONE_BYTE,
     external: b"\xE9\x0B\x01q\xF4\x0B\x00\x01",
-    debug: b"",
     data: FIELD,
-    trailer: b"",
+    ..Records::NONE
 };
 
 // The weak reference `q`, with the default 2.
 const WEAK_TWO: Records<'static> = Records {
-    descriptor: FOUR,
-    extension: b"",
-    environment: b"",
     sections: ONE_BYTE,
     external: b"\xE9\x0B\x01q\xF4\x0B\x00\x02",
-    debug: b"",
     data: FIELD,
-    trailer: b"",
+    ..Records::NONE
 };
 
 // The public `q`, which is 7.
 const PUBLIC: Records<'static> = Records {
-    descriptor: FOUR,
-    extension: b"",
-    environment: b"",
-    sections: b"",
     external: b"\xE8\x20\x01q\xE2\xC9\x20\x07",
-    debug: b"",
-    data: b"",
-    trailer: b"",
+    ..Records::NONE
 };
 
 // The field of the second module has the one reference too.
 const ONE_REFERENCE: Records<'static> = Records {
-    descriptor: FOUR,
-    extension: b"",
-    environment: b"",
     sections: TWO_OF_ONE_BYTE,
     external: b"\xE9\x0B\x01q",
-    debug: b"",
     data: b"\xE5\x01\xE4\xBC\xD8\x0B\x90\x01\xBD\xE5\x02\xE4\xBC\xD8\x0B\x90\x01\xBD",
-    trailer: b"",
+    ..Records::NONE
 };
 
 #[test]
@@ -255,14 +193,10 @@ fn equal_references_become_one(rt: HostRuntime) {
 
 // The second reference, with its note, is 0C here.
 const NOTED_APART: Records<'static> = Records {
-    descriptor: FOUR,
-    extension: b"",
-    environment: b"",
     sections: TWO_OF_ONE_BYTE,
     external: b"\xE9\x0B\x01q\xE9\x0C\x01q\xF1\xD8\x0C\x00\x07\x01",
-    debug: b"",
     data: FIRST_AND_SECOND,
-    trailer: b"",
+    ..Records::NONE
 };
 
 #[test]
@@ -272,26 +206,18 @@ fn a_note_keeps_references_apart(rt: HostRuntime) {
 
 // The second reference, with its default, is 0C here.
 const DEFAULTS_APART: Records<'static> = Records {
-    descriptor: FOUR,
-    extension: b"",
-    environment: b"",
     sections: TWO_OF_ONE_BYTE,
     external: b"\xE9\x0B\x01q\xF4\x0B\x00\x01\xE9\x0C\x01q\xF4\x0C\x00\x02",
-    debug: b"",
     data: FIRST_AND_SECOND,
-    trailer: b"",
+    ..Records::NONE
 };
 
 // I 20 replaces both references.
 const BOTH_MET: Records<'static> = Records {
-    descriptor: FOUR,
-    extension: b"",
-    environment: b"",
     sections: TWO_OF_ONE_BYTE,
     external: b"\xE8\x20\x01q\xE2\xC9\x20\x07",
-    debug: b"",
     data: b"\xE5\x01\xE4\xBC\xC9\x20\x90\x01\xBD\xE5\x02\xE4\xBC\xC9\x20\x90\x01\xBD",
-    trailer: b"",
+    ..Records::NONE
 };
 
 #[test]

@@ -1,7 +1,8 @@
 //! Members that are selected for roots: for members, for weak and defined names, in a circle and in
 //! a chain.
 
-use crate::files::{FOUR, Records, module};
+use crate::files::module;
+use mufom_drafts::Records;
 use mufom_module::Module;
 use mufom_select::select;
 use std::alloc::Global;
@@ -44,14 +45,8 @@ fn module_with(rt: &impl Abort, alloc: Global, names: &Names<'_>) -> Module {
     add_references(rt, &mut external, needs);
     add_weak(rt, &mut external, wants);
     let records = Records {
-        descriptor: FOUR,
-        extension: b"",
-        environment: b"",
-        sections: b"",
         external: &external,
-        debug: b"",
-        data: b"",
-        trailer: b"",
+        ..Records::NONE
     };
     module(rt, alloc, &records)
 }

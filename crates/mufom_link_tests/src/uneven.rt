@@ -1,14 +1,12 @@
 //! Three modules with unlike numbers of sections, publics, references and debug names, so that each kind of
 //! position moves by another number in each. Names are met in both directions across all three.
 
-use crate::files::{FOUR, Records, links_to};
+use crate::files::links_to;
+use mufom_drafts::Records;
 
 // One section and the public `one`, which is its base. The reference `three` is defined in the second module,
 // and `five` in the third; there is a field of each.
 const FIRST: Records<'static> = Records {
-    descriptor: FOUR,
-    extension: b"",
-    environment: b"",
     sections: b"\xE6\x01\xC3\x02a0\xE2\xD3\x01\x10",
     external: b"\
     \xE8\x20\x03one\xE2\xC9\x20\xD2\x01\
@@ -19,7 +17,7 @@ const FIRST: Records<'static> = Records {
     \xE5\x01\
     \xE4\xBE\xD8\x0B\x90\x04\xBF\
     \xE4\xBE\xD8\x0C\xD0\x01\xA6\x90\x04\xBF",
-    trailer: b"",
+    ..Records::NONE
 };
 
 // Three sections and two publics: `three` of a section, and `four` of a section, that public and a reference. The
@@ -27,9 +25,6 @@ const FIRST: Records<'static> = Records {
 // bytes, in the third. There are two debug names and a value of the second, and in the data a counter, a field of `lost`, and
 // repeats of a byte and a field of the counter and `six`.
 const SECOND: Records<'static> = Records {
-    descriptor: FOUR,
-    extension: b"",
-    environment: b"",
     sections: b"\xE6\x01\xC3\x02b0\xE2\xD3\x01\x10\xE6\x02\xC3\x02b1\xE2\xD3\x02\x10\xE6\x03\xC3\x02b2\xE2\xD3\x03\x10",
     external: b"\
     \xE8\x20\x05three\xE2\xC9\x20\xD2\x01\x08\xA5\
@@ -43,7 +38,7 @@ const SECOND: Records<'static> = Records {
     \xE2\xD0\x02\xCC\x02\x04\xA5\
     \xE4\xBE\xD8\x0C\x90\x04\xBF\
     \xF7\x02\xE4\x01\x09\xBA\xD0\x02\xD8\x0D\xA5\x90\x04\xBB",
-    trailer: b"",
+    ..Records::NONE
 };
 
 // Two sections and three publics: `five` of a section, `six` of a section and a reference, and `seven` of these two.
@@ -52,9 +47,6 @@ const SECOND: Records<'static> = Records {
 // holds a part of the first section with a name, a note of it, and a value of the name before. The start is of a
 // section and `four`.
 const THIRD: Records<'static> = Records {
-    descriptor: FOUR,
-    extension: b"",
-    environment: b"",
     sections: b"\xE6\x01\xC3\x02c0\xE2\xD3\x01\x10\xE6\x02\xC3\x02c1\xE2\xD3\x02\x10",
     external: b"\
     \xE8\x20\x04five\xE2\xC9\x20\xD2\x02\
@@ -83,6 +75,7 @@ const THIRD: Records<'static> = Records {
     \xE5\x02\
     \xE4\xBE\xD8\x0B\x90\x04\xBF",
     trailer: b"\xE2\xC7\xBE\xD2\x02\xD8\x0C\xA5\xBF",
+    ..Records::NONE
 };
 
 // Their link. The sections of the second module are 2 to 4, those of the third 5 and 6.
@@ -142,14 +135,12 @@ const LOADS: &[u8] = b"\
 
 // The start is that of the third module: its section moves by 4, and `four` defines its name.
 const ALL: Records<'static> = Records {
-    descriptor: FOUR,
-    extension: b"",
-    environment: b"",
     sections: SECTIONS,
     external: NAMES,
     debug: DEBUG,
     data: LOADS,
     trailer: b"\xE2\xC7\xBE\xD2\x06\xC9\x22\xA5\xBF",
+    ..Records::NONE
 };
 
 #[test]

@@ -7,15 +7,14 @@ ghost use Rattle.mufom_planned.specs.Planned.{copied_answer};
 ghost use Rattle.mufom_planned.specs.PlanLaws.{AreLoadedInPlace};
 ghost use Rattle.mufom_names.specs.Names.{names_of, AreDistinct};
 
+use mufom_drafts::Draft;
 use mufom_explain::{FlatModule, LocateContext, explain_locate};
 use mufom_host::MemHost;
 use mufom_image::{LocateRefusal, locate};
-use mufom_module::{Module, Order, Parts, assemble};
-use mufom_names::{Reference, Weak};
-use mufom_numbers::{Bytes, List};
+use mufom_module::Module;
+use mufom_numbers::List;
 use mufom_origins::{ModuleFiles, Origins};
 use mufom_plan::{Plan, read_plan};
-use mufom_sections::Section;
 use mufom_text::print_lines;
 use std::alloc::Global;
 use std::process::Abort;
@@ -45,56 +44,33 @@ const UNDEFINED: &str = "\
     module 1 \"b\" file 1: \"b.695\"\n\
     ";
 
-fn bytes(rt: &impl Abort, alloc: Global, text: &[u8]) -> Bytes {
-    Bytes::from_slice(alloc, text).expect(rt, "memory")
-}
+/// References by name, each with its size if it is weak.
+type References<'a> = &'a [(&'a [u8], Option<u64>)];
 
-// A reference that requests space if its size is above 0, and is strong if it has no size.
-fn reference(rt: &impl Abort, alloc: Global, name: &[u8], size: Option<u64>) -> Reference {
-    let weak = match size {
-        Some(size) => Some(Weak { size, default: 0 }),
-        None => None,
-    };
-    Reference {
-        name: bytes(rt, alloc, name),
-        weak,
-        notes: List::new(alloc),
+// The module of this name with sections `t` of four units and with these references.
+fn module(rt: &impl Abort, alloc: Global, name: &[u8], sections: u32, all: References) -> Module {
+    let mut draft = Draft::new(alloc, 4);
+    draft.title(b"", name);
+    for _ in 0..sections {
+        draft.section_row(&(b"t", false, None, 4, 4, None));
     }
-}
-
-fn section(rt: &impl Abort, alloc: Global) -> Section {
-    Section {
-        name: bytes(rt, alloc, b"t"),
-        absolute: false,
-        purpose: None,
-        size: 4,
-        align: 4,
-        base: None,
+    for (name, size) in all {
+        match size {
+            Some(size) => draft.weak(name, *size, 0),
+            None => draft.reference(name),
+        }
     }
+    draft.module().expect(rt, "a module")
 }
 
-// A module of this name with a section `t` of four units.
-fn parts(rt: &impl Abort, alloc: Global, name: &[u8]) -> Parts {
-    let mut parts = Parts::new(alloc, 4, Order::Most);
-    parts.name = bytes(rt, alloc, name);
-    let section = section(rt, alloc);
-    parts.sections.push(section).expect(rt, "memory");
-    parts
-}
-
-// The same with these references.
-fn module(
-    rt: &impl Abort,
-    alloc: Global,
-    name: &[u8],
-    references: &[(&[u8], Option<u64>)],
-) -> Module {
-    let mut parts = parts(rt, alloc, name);
-    for row in references {
-        let entry = reference(rt, alloc, row.0, row.1);
-        parts.names.references.push(entry).expect(rt, "memory");
-    }
-    assemble(parts).ok().expect(rt, "a module")
+// Modules `a` and `b` with these references.
+fn two(rt: &impl Abort, alloc: Global, first: References, second: References) -> Vec<Module> {
+    let mut modules = Vec::new(alloc);
+    let first = module(rt, alloc, b"a", 1, first);
+    modules.push(first).expect(rt, "memory");
+    let second = module(rt, alloc, b"b", 1, second);
+    modules.push(second).expect(rt, "memory");
+    modules
 }
 
 // The files of modules `a` and `b`.
@@ -174,43 +150,21 @@ fn explains(
     assert_eq!(rt; host.out(), lines.as_bytes());
 }
 
-// The module with a section of each of two modules, and with these references.
-fn object(rt: &impl Abort, alloc: Global, references: &[(&[u8], Option<u64>)]) -> Module {
-    let mut parts = parts(rt, alloc, b"a");
-    let section = section(rt, alloc);
-    parts.sections.push(section).expect(rt, "memory");
-    for row in references {
-        let entry = reference(rt, alloc, row.0, row.1);
-        parts.names.references.push(entry).expect(rt, "memory");
-    }
-    assemble(parts).ok().expect(rt, "a module")
-}
-
 #[test]
 fn a_common_does_not_fit(rt: HostRuntime) {
     let alloc = rt.alloc();
-    let mut modules = Vec::new(alloc);
-    modules
-        .push(module(&rt, alloc, b"a", &[(b"c", Some(4))]))
-        .expect(&rt, "memory");
-    modules
-        .push(module(&rt, alloc, b"b", &[(b"c", Some(6))]))
-        .expect(&rt, "memory");
-    let object = object(&rt, alloc, &[(b"c", Some(4)), (b"c", Some(6))]);
+    let modules = two(&rt, alloc, &[(b"c", Some(4))], &[(b"c", Some(6))]);
+    let all: References = &[(b"c", Some(4)), (b"c", Some(6))];
+    let object = module(&rt, alloc, b"a", 2, all);
     explains(&rt, alloc, &modules, &object, PLAN, MISFIT);
 }
 
 #[test]
 fn names_are_undefined(rt: HostRuntime) {
     let alloc = rt.alloc();
-    let mut modules = Vec::new(alloc);
-    modules
-        .push(module(&rt, alloc, b"a", &[(b"y", Some(0)), (b"z", None)]))
-        .expect(&rt, "memory");
-    modules
-        .push(module(&rt, alloc, b"b", &[(b"z", None), (b"y", None)]))
-        .expect(&rt, "memory");
-    let references: [(&[u8], Option<u64>); 3] = [(b"y", Some(0)), (b"z", None), (b"y", None)];
-    let object = object(&rt, alloc, &references);
+    let first: References = &[(b"y", Some(0)), (b"z", None)];
+    let modules = two(&rt, alloc, first, &[(b"z", None), (b"y", None)]);
+    let all: References = &[(b"y", Some(0)), (b"z", None), (b"y", None)];
+    let object = module(&rt, alloc, b"a", 2, all);
     explains(&rt, alloc, &modules, &object, PLAN, UNDEFINED);
 }

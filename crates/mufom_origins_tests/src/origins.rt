@@ -1,44 +1,27 @@
 //! Origins of three modules of one public each, of which the last has a start.
 
-use mufom_expr::Postfix;
-use mufom_module::{Module, Order, Parts, assemble};
-use mufom_names::Public;
-use mufom_numbers::{Bytes, List};
+use mufom_drafts::Draft;
+use mufom_expr::Token::Number;
 use mufom_origins::{Origins, Place};
 use std::alloc::Global;
 use std::process::Abort;
 
-fn bytes(rt: &impl Abort, alloc: Global, text: &[u8]) -> Bytes {
-    Bytes::from_slice(alloc, text).expect(rt, "memory")
-}
-
 // A module of this name with a public of that name.
-fn module(rt: &impl Abort, alloc: Global, name: &[u8], has_start: bool) -> Module {
-    let mut parts = Parts::new(alloc, 4, Order::Most);
-    parts.name = bytes(rt, alloc, name);
-    let public = Public {
-        name: bytes(rt, alloc, name),
-        value: Postfix::constant(alloc, 0).expect(rt, "memory"),
-        notes: List::new(alloc),
-    };
-    parts.names.publics.push(public).expect(rt, "memory");
-    if has_start {
-        parts.start = Some(Postfix::constant(alloc, 0).expect(rt, "memory"));
-    }
-    assemble(parts).ok().expect(rt, "a module")
+fn draft(alloc: Global, name: &[u8]) -> Draft {
+    let mut draft = Draft::new(alloc, 4);
+    draft.title(b"", name);
+    draft.public(name, &[Number(0)]);
+    draft
 }
 
 fn three(rt: &impl Abort, alloc: Global) -> Origins {
+    let mut last = draft(alloc, b"m1");
+    last.start(&[Number(0)]);
     let mut modules = Vec::new(alloc);
-    modules
-        .push(module(rt, alloc, b"r", false))
-        .expect(rt, "memory");
-    modules
-        .push(module(rt, alloc, b"m0", false))
-        .expect(rt, "memory");
-    modules
-        .push(module(rt, alloc, b"m1", true))
-        .expect(rt, "memory");
+    for draft in [draft(alloc, b"r"), draft(alloc, b"m0"), last] {
+        let module = draft.module().expect(rt, "a module");
+        modules.push(module).expect(rt, "memory");
+    }
     assert!(rt; modules.len() < 1 << 32);
     Origins::of(alloc, &modules).expect(rt, "memory")
 }

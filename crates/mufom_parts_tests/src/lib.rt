@@ -1,9 +1,11 @@
 //! Tests of the crates for the parts of a module (numbers, expressions, index tables, names, loads and
-//! debug items), of the host in memory and of the real host.
+//! debug items), of address queries over debug items, of the host in memory and of the real host.
 //!
 //! The tests are in a crate of their own, so that the gate proves the crates under test only once.
 #![tactic(auto)]
 
+#[cfg(test)]
+mod addr;
 #[cfg(test)]
 mod debug;
 #[cfg(test)]

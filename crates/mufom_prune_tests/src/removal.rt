@@ -1,12 +1,14 @@
 //! One module of three sections, of which a public needs two.
 
-use mufom_expr::{FieldKind, Letter, Postfix, Token};
+use mufom_drafts::{Data, Draft};
+use mufom_expr::FieldKind::Either;
+use mufom_expr::Letter::{R, X};
+use mufom_expr::Postfix;
+use mufom_expr::Token::Var;
 use mufom_loads::{Item, Load};
-use mufom_module::{Module, Order, Parts, assemble};
-use mufom_names::{Public, Reference};
+use mufom_module::{Module, Parts};
 use mufom_numbers::{Bytes, List};
 use mufom_prune::{PruneRefusal, prune, prune_for, prune_with_marks};
-use mufom_sections::Section;
 use std::alloc::Global;
 use std::process::Abort;
 
@@ -14,74 +16,31 @@ fn text(rt: &impl Abort, alloc: Global, bytes: &[u8]) -> Bytes {
     Bytes::from_slice(alloc, bytes).expect(rt, "memory")
 }
 
-fn add_section(rt: &impl Abort, alloc: Global, parts: &mut Parts, name: &[u8]) {
-    let section = Section {
-        name: text(rt, alloc, name),
-        absolute: false,
-        purpose: None,
-        size: 4,
-        align: 1,
-        base: None,
-    };
-    parts.sections.push(section).expect(rt, "memory");
-}
-
-fn add_public(rt: &impl Abort, alloc: Global, parts: &mut Parts, name: &[u8], section: u32) {
-    let public = Public {
-        name: text(rt, alloc, name),
-        value: Postfix::single(Token::Var(Letter::R, section)),
-        notes: List::new(alloc),
-    };
-    parts.names.publics.push(public).expect(rt, "memory");
-}
-
-fn add_field(rt: &impl Abort, parts: &mut Parts, letter: Letter, place: u32) {
-    let field = Item::Field {
-        kind: FieldKind::Either,
-        value: Postfix::single(Token::Var(letter, place)),
-        size: 4,
-    };
-    parts.loads.push(Load::One(field)).expect(rt, "memory");
-}
-
-fn add_load(rt: &impl Abort, parts: &mut Parts, load: Load) {
-    parts.loads.push(load).expect(rt, "memory");
-}
-
 // The sections `a`, `b` and `c`, the publics `main` in the first and `u` in the second, and the
 // reference `q`. The first section holds the address of the third one, the second one that of `q`.
-fn program_parts(rt: &impl Abort, alloc: Global) -> Parts {
-    let mut parts = Parts::new(alloc, 4, Order::Most);
-    add_section(rt, alloc, &mut parts, b"a");
-    add_section(rt, alloc, &mut parts, b"b");
-    add_section(rt, alloc, &mut parts, b"c");
-    add_public(rt, alloc, &mut parts, b"main", 0);
-    add_public(rt, alloc, &mut parts, b"u", 1);
-    let reference = Reference {
-        name: text(rt, alloc, b"q"),
-        weak: None,
-        notes: List::new(alloc),
-    };
-    parts.names.references.push(reference).expect(rt, "memory");
-    add_load(rt, &mut parts, Load::SetSection(0));
-    add_field(rt, &mut parts, Letter::R, 2);
-    add_load(rt, &mut parts, Load::SetSection(1));
-    add_field(rt, &mut parts, Letter::X, 0);
-    add_load(rt, &mut parts, Load::SetSection(2));
-    let bytes = text(rt, alloc, &[1, 2, 3, 4]);
-    add_load(rt, &mut parts, Load::One(Item::Literal(bytes)));
-    parts
+fn draft(alloc: Global) -> Draft {
+    let mut draft = Draft::new(alloc, 4);
+    draft.section(b"a", 4, None);
+    draft.section(b"b", 4, None);
+    draft.section(b"c", 4, None);
+    draft.public(b"main", &[Var(R, 0)]);
+    draft.public(b"u", &[Var(R, 1)]);
+    draft.reference(b"q");
+    draft.select(0);
+    draft.once(Data::Field(Either, 4, &[Var(R, 2)]));
+    draft.select(1);
+    draft.once(Data::Field(Either, 4, &[Var(X, 0)]));
+    draft.select(2);
+    draft.once(Data::Bytes(&[1, 2, 3, 4]));
+    draft
 }
 
-fn module_of(rt: &impl Abort, parts: Parts) -> Module {
-    match assemble(parts) {
-        Ok(module) => module,
-        Err(_) => panic!(rt; "the parts have a defect"),
-    }
+fn module_of(rt: &impl Abort, draft: Draft) -> Module {
+    draft.module().expect(rt, "a module")
 }
 
 fn program(rt: &impl Abort, alloc: Global) -> Module {
-    module_of(rt, program_parts(rt, alloc))
+    module_of(rt, draft(alloc))
 }
 
 fn has_section(rt: &impl Abort, parts: &Parts, place: usize, name: &[u8]) {
@@ -100,7 +59,7 @@ fn has_public(rt: &impl Abort, parts: &Parts, place: usize, name: &[u8]) {
 
 // A field that holds the base of this section.
 fn has_field(rt: &impl Abort, parts: &Parts, place: usize, section: u32) {
-    let base = Postfix::single(Token::Var(Letter::R, section));
+    let base = Postfix::single(Var(R, section));
     match parts.loads.get(place) {
         Some(Load::One(Item::Field { value, .. })) => assert!(rt;
             value.equals(&base),
@@ -144,9 +103,9 @@ fn a_name_that_no_public_has_is_unknown(rt: HostRuntime) {
 #[test]
 fn what_the_start_mentions_is_kept(rt: HostRuntime) {
     let alloc = rt.alloc();
-    let mut parts = program_parts(&rt, alloc);
-    parts.start = Some(Postfix::single(Token::Var(Letter::R, 1)));
-    match prune(alloc, &module_of(&rt, parts), b"main") {
+    let mut draft = draft(alloc);
+    draft.start(&[Var(R, 1)]);
+    match prune(alloc, &module_of(&rt, draft), b"main") {
         Ok(rest) => {
             let parts = rest.parts();
             assert_eq!(rt; parts.sections.len(), 3, "sections");
@@ -163,17 +122,9 @@ fn what_the_start_mentions_is_kept(rt: HostRuntime) {
 #[test]
 fn a_section_with_a_base_is_kept_and_marked(rt: HostRuntime) {
     let alloc = rt.alloc();
-    let mut parts = program_parts(&rt, alloc);
-    let section = Section {
-        name: text(&rt, alloc, b"d"),
-        absolute: true,
-        purpose: None,
-        size: 4,
-        align: 1,
-        base: Some(4096),
-    };
-    parts.sections.push(section).expect(&rt, "memory");
-    match prune_with_marks(alloc, &module_of(&rt, parts), b"main") {
+    let mut draft = draft(alloc);
+    draft.section(b"d", 4, Some(4096));
+    match prune_with_marks(alloc, &module_of(&rt, draft), b"main") {
         Ok(left) => {
             has_section(&rt, left.module.parts(), 2, b"d");
             let sections = [true, false, true, true];

@@ -18,11 +18,11 @@ use Rattle.mufom_stages.proofs.OldStages.{stages-are-links}
 use Rattle.mufom_groups.specs.Groups.{most_weight}
 use Rattle.mufom_groups.specs.Linked.{first_name}
 use Rattle.mufom_groups.proofs.ShortNames.{short-name}
-use Rattle.mufom_command.proofs.LocatingLaws.{link-means}
+use Rattle.mufom_works.proofs.LocatingLaws.{link-means}
 use Rattle.mufom_task.specs.declared.task.Inputs.{Inputs}
 use Rattle.mufom_task.specs.Inputs.{root_count}
 use Rattle.mufom_task.specs.Sound.{IsSoundInputs}
-use Rattle.mufom_command.specs.Works.{linked_file, locating_kept, product_with}
+use Rattle.mufom_works.specs.Works.{linked_file, locating_kept, product_with}
 use Rattle.mufom_run_laws.specs.Leaves.{LinksMakeNoDifference, StagesCameByLinks}
 use Rattle.mufom_run_laws.specs.RunLaws.{Accepts, PutOutAlike}
 use Rattle.mufom_run_laws.proofs.Light.{all-light, flat-light}
