@@ -1,5 +1,5 @@
 -- The result of a task that locates is that of locating the flat list, and each list from which that was linked in stages.
-use Rattle.std.proofs.Common.{◌≡◌, ◌⊎◌, ℕ, List, length, Option, Some, None, refl, sym, subst, ◌∙◌}
+use Rattle.std.proofs.Common.{◌≡◌, ◌≤◌, ◌⊎◌, ℕ, List, length, Option, Some, None, refl, sym, subst, ◌∙◌}
 use Rattle.std.proofs.Common.{inl, inr}
 use Rattle.mufom_host.specs.World.{HoldBytes, NamedFile}
 use Rattle.mufom_words.specs.Tree.{tree_of}
@@ -16,7 +16,12 @@ use Rattle.mufom_planned.proofs.Absolute.{planned_located_as_itself}
 use Rattle.mufom_planned.proofs.Single.{planned_location_is_single}
 use Rattle.mufom_task.proofs.PlanLaws.{plan-sound}
 use Rattle.mufom_meaning.specs.Staging.{AreValid}
+use Rattle.mufom_meaning.specs.StagingLaws.{total_weight}
+use Rattle.mufom_stages.specs.Stages.{named_as}
+use Rattle.mufom_stages.proofs.Linked.{lists-link-as-their-leaves}
+use Rattle.mufom_words.proofs.Sound.{words-sound}
 use Rattle.mufom_write.specs.Raw.{raw_image}
+use Rattle.mufom_groups.specs.Groups.{most_weight}
 use Rattle.mufom_groups.specs.Work.{Reached, gives, stops, Work}
 use Rattle.mufom_groups.proofs.Works.{value-same}
 use Rattle.mufom_map.specs.Mapped.{Mapped}
@@ -31,7 +36,10 @@ use Rattle.mufom_task.specs.declared.task.Inputs.{Inputs}
 use Rattle.mufom_task.specs.Inputs.{module_files}
 use Rattle.mufom_task.specs.declared.task.Product.{Product}
 use Rattle.mufom_task.specs.declared.task.Product.TheVariants as product
+use Rattle.mufom_task.specs.declared.task.Request.TheVariants as request
 use Rattle.mufom_task.specs.declared.task.Task.TheVariants as task
+use Rattle.mufom_task.specs.Sound.{IsSoundInputs, IsSoundRequest}
+use Rattle.mufom_task.proofs.RequestLaws.{sound-request}
 use Rattle.mufom_task.specs.Calls.{Call}
 use Rattle.mufom_works.specs.FlatFiles.{AreFlatFiles}
 use Rattle.mufom_works.specs.Run.{AnswersFor, MakesFile, PutsOut, outcome_of}
@@ -47,14 +55,14 @@ use Rattle.mufom_run_laws.specs.RunLaws.{Accepts, HasNoFact, IsSameWork, MayPutO
 use Rattle.mufom_run_laws.proofs.Accepted.{EndsAtFact, accepted-back, accepted-fact, accepted-gives, accepted-stops, no-link-fact}
 use Rattle.mufom_run_laws.proofs.Calm.{CameTo, done-comes, never-done}
 use Rattle.mufom_run_laws.proofs.Determined.{answers-determined}
+use Rattle.mufom_run_laws.proofs.Leaves.{accepted-light}
 use Rattle.mufom_run_laws.proofs.LocatingDone.{no-end, no-fact-there, product-never}
 use Rattle.mufom_run_laws.proofs.Plain.{plain-answers, plain-run}
-use Rattle.mufom_run_laws.proofs.StageLaws.{means-same}
 use Rattle.mufom_headline.specs.Headline.{HasLocated, MayBeWritten, LocatesAll, PutsOutLocation, TheHeadline}
 use Rattle.mufom_headline.specs.Linking.{IsRefusedLink}
 use Rattle.mufom_headline.proofs.Kept.{kept-means}
 use Rattle.mufom_headline.proofs.LinkedFiles.{file-made, flat-valid}
-use Rattle.mufom_headline.proofs.Maps.{flat-files, producing-known, producing-staged}
+use Rattle.mufom_headline.proofs.Maps.{flat-files, producing-known, producing-linked}
 
 -- ---- what is made of a location
 
@@ -188,10 +196,10 @@ module _ (files : List NamedFile) (call : Call) (result : Outcome) (c : Inputs) 
   -- a list of which the same is put out as of the flat list
   module _ (list : List Parts) (valid : AreValid list) (links : link_answer flat ≡ link_answer list)
       (facts : (f : LinkFact) → LinkFactStands flat f → LinkFactStands list f)
-      (alike : IsSameWork (outputs accepts.modules plan flat) (put_out_of list)) where
+      (alike : link_answer flat ≡ None → IsSameWork (outputs accepts.modules plan flat) (put_out_of list)) where
     list-output : (o : Output) → work_of (task.Locate c keep p) files (gives o) → (link_answer list ≡ None) × put_out_of list (gives o)
     list-output o comes =
-        let (linkable, puts) = accepted-gives files c plan flat bytes accepts outputs o comes in (sym links ∙ linkable, (alike (gives o)).0 puts)
+        let (linkable, puts) = accepted-gives files c plan flat bytes accepts outputs o comes in (sym links ∙ linkable, (alike linkable (gives o)).0 puts)
 
     none-stops : HasNoFact roots list plan → MayBeWritten roots p plan list → (s : Stop) → work_of (task.Locate c keep p) files (stops s) → ⊥
     none-stops none short s stopped = by (accepted-stops files c plan flat bytes accepts outputs s stopped) where
@@ -200,12 +208,13 @@ module _ (files : List NamedFile) (call : Call) (result : Outcome) (c : Inputs) 
       by (inr (linkable, ends)) =
           no-end (product_with p (module_files files c) origins plan) roots plan list
           (λ kept r keeps there s. product-never p (module_files files c) (mapped_kept origins plan kept r) r (short kept r keeps there) s) none s
-          ((alike (stops s)).0 ends)
+          ((alike linkable (stops s)).0 ends)
 
     -- an end of what is put out of the list is the result
     ends-there : (s : Stop) → link_answer list ≡ None → put_out_of list (stops s) → result ≡ outcome_of (stops s)
     ends-there s linkable is =
-        answer (stops s) (accepted-back files c plan flat bytes accepts outputs (links ∙ linkable) (stops s) ((alike (stops s)).1 is))
+        answer (stops s) (accepted-back files c plan flat bytes accepts outputs (links ∙ linkable) (stops s)
+        ((alike (links ∙ linkable) (stops s)).1 is))
 
     -- and so is a link fact, where the list cannot be linked
     unlinked-there : (f : LinkFact) → link_answer list ≡ Some f → IsRefusedLink list result
@@ -248,15 +257,16 @@ module _ (files : List NamedFile) (call : Call) (result : Outcome) (c : Inputs) 
     }
 
   -- the flat list, and each list from which it was linked in stages
-  locates-all : LocatesAll files c keep p plan call result accepts.modules flat
-  locates-all = record {
+  locates-all : total_weight flat ≤ most_weight → LocatesAll files c keep p plan call result accepts.modules flat
+  locates-all light = record {
     files = own;
     are_files = are;
     located = has-located flat (flat-valid files c plan flat accepts) refl (λ f stands. stands)
-        (producing-known roots p (module_files files c) plan (tree_of c.marks) accepts.modules own are flat);
-    staged = λ leaves stages. has-located leaves stages.valid (means-same flat leaves stages).same_link
-        (λ f stands. ((means-same flat leaves stages).same_link_facts f).0 stands)
-        (producing-staged roots p (module_files files c) plan (tree_of c.marks) accepts.modules own are symbols flat leaves stages);
+        (λ linkable. producing-known roots p (module_files files c) plan (tree_of c.marks) accepts.modules own are flat);
+    staged = λ leaves came.
+        let same = (lists-link-as-their-leaves flat leaves came).facts in
+        has-located (named_as flat leaves) came.renamed same.answer (λ f stands. (same.facts f).0 stands)
+        (λ linkable. producing-linked roots p (module_files files c) plan (tree_of c.marks) accepts.modules own are symbols flat leaves light linkable came);
   }
 
 pub the-headline : TheHeadline
@@ -264,6 +274,9 @@ the-headline words files call result c inputs keep p plan flat is calm named ask
     let bytes : HoldBytes files = of-files call files calm.known HoldBytes calm.revealed.bytes in
     let answers : AnswersFor (task.Locate inputs keep p) call result = plain-answers words c named (task.Locate inputs keep p) asks call result is in
     let own = flat-files (tree_of inputs.marks) accepts.modules flat accepts.is_flat in
+    let sound : IsSoundInputs inputs = (let it : IsSoundRequest (request.Run (task.Locate inputs keep p))
+    = subst IsSoundRequest asks (sound-request c (words-sound words c named)) in it) in
     locates-all files call result inputs keep p plan flat bytes accepts own.0 own.1 (done-comes files call (task.Locate inputs keep p) result answers calm)
     (never-done files call (task.Locate inputs keep p) result answers calm)
     (λ x comes. answers-determined words files call result x is calm (plain-run words c named (task.Locate inputs keep p) asks files x comes))
+    (accepted-light files inputs plan flat bytes sound accepts)

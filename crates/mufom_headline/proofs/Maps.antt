@@ -1,9 +1,13 @@
 -- The flat list with its files, and what is made of its location with the origins of their modules.
-use Rattle.std.proofs.Common.{List, Option, refl}
+use Rattle.std.proofs.Common.{◌≡◌, ◌≤◌, List, None, Option, refl}
 use Rattle.mufom_words.specs.Tree.{Forest}
 use Rattle.mufom_module.specs.declared.module.Parts.{Parts}
 use Rattle.mufom_plan.specs.declared.plan.Plan.{Plan}
 use Rattle.mufom_meaning.specs.declared.located.LocatedParts.{LocatedParts}
+use Rattle.mufom_meaning.specs.LinkAnswer.{link_answer}
+use Rattle.mufom_meaning.specs.StagingLaws.{total_weight}
+use Rattle.mufom_stages.specs.Stages.{CameByLinks, named_as}
+use Rattle.mufom_groups.specs.Groups.{most_weight}
 use Rattle.mufom_groups.specs.Linked.{IsFlatList}
 use Rattle.mufom_groups.specs.Work.{Work, ◌>>=◌, one_with}
 use Rattle.mufom_origins.specs.Origins.{FileModule, origins_of}
@@ -16,6 +20,7 @@ use Rattle.mufom_planned.specs.PlanLaws.{HasSoundSymbols}
 use Rattle.mufom_works.specs.Works.{Kept, Output, kept_of, located, locating_kept, producing, product_with}
 use Rattle.mufom_works.proofs.MapLaws.{flat-files-single}
 use Rattle.mufom_run_laws.specs.RunLaws.{CameByStages, IsSameWork}
+use Rattle.mufom_run_laws.proofs.Leaves.{links-alike}
 use Rattle.mufom_run_laws.proofs.SameWorks.{same-trans, same-work, then-known, then-same}
 use Rattle.mufom_run_laws.proofs.StageLaws.{stages-alike}
 
@@ -48,3 +53,13 @@ module _ (keep : Option Roots) (p : Product) (names : ModuleFiles) (plan : Plan)
       same-trans (locating_kept (producing p names tree ms plan) keep plan flat) (locating_kept (product_with p names (origins_of own) plan) keep plan flat)
       (locating_kept (product_with p names (origins_of own) plan) keep plan leaves) (producing-known flat)
       ((stages-alike plan flat leaves symbols came).located keep p names (origins_of own))
+
+  -- and so it is of the list from which it came by links, under its own name
+  pub producing-linked : HasSoundSymbols plan → (flat leaves : List Parts) → total_weight flat ≤ most_weight → link_answer flat ≡ None
+      → CameByLinks flat leaves
+      → IsSameWork (locating_kept (producing p names tree ms plan) keep plan flat)
+      (locating_kept (product_with p names (origins_of own) plan) keep plan (named_as flat leaves))
+  producing-linked symbols flat leaves light none came =
+      same-trans (locating_kept (producing p names tree ms plan) keep plan flat) (locating_kept (product_with p names (origins_of own) plan) keep plan flat)
+      (locating_kept (product_with p names (origins_of own) plan) keep plan (named_as flat leaves)) (producing-known flat)
+      ((links-alike plan flat leaves symbols light none came).located keep p names (origins_of own))

@@ -14,6 +14,7 @@ use Rattle.mufom_planned.specs.Planned.{IsPlanned, of_list, planned_answer, shar
 use Rattle.mufom_meaning.specs.LinkAnswer.{link_answer}
 use Rattle.mufom_meaning.specs.Location.{IsLocation}
 use Rattle.mufom_write.specs.Raw.{raw_image}
+use Rattle.mufom_stages.specs.Stages.{CameByLinks, named_as}
 use Rattle.mufom_addr.specs.AddressHit.{hit_at}
 use Rattle.mufom_titxt.specs.Written.{txt_text}
 use Rattle.mufom_groups.specs.Work.{gives}
@@ -40,7 +41,7 @@ use Rattle.mufom_works.specs.FlatFiles.{AreFlatFiles}
 use Rattle.mufom_works.specs.Result.{Answers}
 use Rattle.mufom_works.specs.Run.{MakesFile, PrintsText}
 use Rattle.mufom_works.specs.Text.{hit_text}
-use Rattle.mufom_run_laws.specs.RunLaws.{Accepts, CameByStages, HasNoFact, IsUndisturbed, MayPutOut}
+use Rattle.mufom_run_laws.specs.RunLaws.{Accepts, HasNoFact, IsUndisturbed, MayPutOut}
 use Rattle.mufom_headline.specs.Kept.{KeepsMeaning}
 use Rattle.mufom_headline.specs.Linking.{IsRefusedLink}
 use Rattle.mufom_headline.specs.ReadBack.{IsPutInFile}
@@ -106,7 +107,8 @@ pub record HasLocated (keep : Option Roots) (p : Product) (names : ModuleFiles) 
       → IsPlanned kept.modules plan r → bytes_fact p plan.regions r ≡ Some b → result ≡ outcome.Refused (refusal.Bin b)
 
 -- The result of the run is that of locating the flat list of its modules. If earlier runs made these modules from another list by partial
--- links, in any number of stages, it is also the result of locating that list.
+-- links, in any number of stages, it is also the result of locating that list, its first module under the name of the first module of the flat list:
+-- a link may have any name. Whatever link errors the other list has, the flat list has the same ones.
 --
 -- `named` are the files that the run can read. `modules` are the modules that were read, in the order of the files. `files` are the modules of the
 -- flat list, each with its place among these. A map names these modules and their files for the other list too, since a partial link does not keep
@@ -116,8 +118,8 @@ pub record LocatesAll (named : List NamedFile) (inputs : Inputs) (keep : List (L
   pub files : List FileModule
   pub are_files : AreFlatFiles (tree_of inputs.marks) modules files
   pub located : HasLocated (roots_by keep plan) p (module_files named inputs) (origins_of files) plan call result flat
-  pub staged : (leaves : List Parts) → CameByStages flat leaves
-      → HasLocated (roots_by keep plan) p (module_files named inputs) (origins_of files) plan call result leaves
+  pub staged : (leaves : List Parts) → CameByLinks flat leaves
+      → HasLocated (roots_by keep plan) p (module_files named inputs) (origins_of files) plan call result (named_as flat leaves)
 
 -- For all arguments, files and plans: if no I/O call failed, the run did not run out of memory, and the plan and the files were accepted,
 -- then `locate`, `bin`, `txt`, `dump`, `addr` and `map` locate the flat list of the modules, and each list from which that was linked in

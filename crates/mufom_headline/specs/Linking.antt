@@ -14,6 +14,7 @@ use Rattle.mufom_meaning.specs.Stands.{LinkFactStands}
 use Rattle.mufom_groups.specs.Linked.{first_name, links}
 use Rattle.mufom_groups.specs.Refusals.{link_refusal}
 use Rattle.mufom_groups.specs.Work.{Work, ◌>>=◌, with_stops}
+use Rattle.mufom_stages.specs.Stages.{CameByLinks, named_as}
 use Rattle.mufom_origins.specs.declared.origins.Origin.{Origin}
 use Rattle.mufom_origins.specs.Origins.{FileModule, origins_of}
 use Rattle.mufom_origins.specs.Words.{ModuleFiles}
@@ -64,10 +65,11 @@ pub record HasLinked (name : Option (List ℕ)) (out : List ℕ) (call : Call) (
   pub output : result ≡ outcome.Done → IsLinkPutOut name out list call
   pub refused : (f : LinkFact) → link_answer list ≡ Some f → IsRefusedLink list result
 
--- The result is that of linking the flat list, and of linking each list from which earlier runs made its modules in stages.
+-- The result is that of linking the flat list, and of linking each list from which earlier runs made its modules in stages, its first module under the
+-- name of the first module of the flat list.
 pub record LinksAll (name : Option (List ℕ)) (out : List ℕ) (call : Call) (result : Outcome) (flat : List Parts) : Type 0 where
   pub linked : HasLinked name out call result flat
-  pub staged : (leaves : List Parts) → CameByStages flat leaves → HasLinked name out call result leaves
+  pub staged : (leaves : List Parts) → CameByLinks flat leaves → HasLinked name out call result (named_as flat leaves)
 
 -- If no I/O call failed, the run did not run out of memory and its files were accepted, `link` links the flat list of the modules.
 abbrev pub LinksArePutOut : Type 0

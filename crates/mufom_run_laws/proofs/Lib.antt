@@ -15,3 +15,4 @@ pub mod Members
 pub mod Light
 pub mod KeptExist
 pub mod Verdicts
+pub mod Leaves

@@ -1,3 +1,4 @@
 pub mod RunLaws
 pub mod MakeLaws
 pub mod Exist
+pub mod Leaves

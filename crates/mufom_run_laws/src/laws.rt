@@ -3,6 +3,7 @@
 ghost use Rattle.mufom_task.specs.Inputs.{HaveOneVerdict};
 ghost use Rattle.mufom_run_laws.specs.Exist.{FilesHaveAVerdict, FlatListsExist, InputsAreAccepted, KeptEntriesExist, LinksExist};
 ghost use Rattle.mufom_run_laws.specs.Exist.{MarksExist, NoFactIsDecided, ReadingHasAResult, SelectionsExist, WhatIsKeptExists};
+ghost use Rattle.mufom_run_laws.specs.Leaves.{LinksMakeNoDifference, StagesCameByLinks};
 ghost use Rattle.mufom_run_laws.specs.MakeLaws.{MakeIsDone};
 ghost use Rattle.mufom_run_laws.specs.RunLaws.{AbsoluteFilesStand, AnswersAreDetermined, LinkedFilesStand, LocatingIsDone};
 ghost use Rattle.mufom_run_laws.specs.RunLaws.{RunsAreSingle, RunsOfStages, StagesMakeNoDifference};
@@ -45,6 +46,18 @@ pub fn locating_is_done()
 /// list that the stages began with. A map shows the modules and files of the first list.
 pub fn stages_make_no_difference()
     ensures { StagesMakeNoDifference }
+{}
+
+/// A list that came by links and can be linked has the same link, and the same outputs of its location, as the
+/// list that the links began with, under its own name. The modules of that list may have public symbols of one
+/// name, different descriptors, or several start addresses: then the list cannot be linked.
+pub fn links_make_no_difference()
+    ensures { LinksMakeNoDifference }
+{}
+
+/// A list that came by stages of links that keep the name of their first module came by links.
+pub fn stages_came_by_links()
+    ensures { StagesCameByLinks }
 {}
 
 /// A task whose files were linked in stages has the same output or error as over the list that the stages
