@@ -13,8 +13,8 @@ ghost use Rattle.mufom_task.specs.Calls.{call_of};
 ghost use Rattle.mufom_prepare.specs.Locations.{shown_of, AreLocated};
 ghost use Rattle.mufom_works.specs.Making.{IsMadeAlone, IsPrinted};
 ghost use Rattle.mufom_prepare.specs.Ready.{ready_output, IsHelp, IsReady};
-ghost use Rattle.mufom_output.specs.PutOut.{IsPutOut};
-ghost use Rattle.mufom_output.specs.PutOut.{NeedsNoMemory};
+ghost use Rattle.mufom_put_out.specs.PutOut.{IsPutOut};
+ghost use Rattle.mufom_put_out.specs.PutOut.{NeedsNoMemory};
 
 use crate::writing::{make_file, make_range_file, make_raw_file, make_text_file};
 use mufom_host::{Failed, Host};
