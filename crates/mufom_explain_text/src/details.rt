@@ -60,11 +60,7 @@ fn file_details(inputs: &Inputs, number: u32) -> Details<'_>
 
 // The line about the input that an outcome names; nothing if it names none. `cause` is what the host tells of
 // its last failed call; it is for an input that could not be read.
-fn input_details<'a>(
-    inputs: &'a Inputs,
-    cause: FaultCause,
-    answer: &Outcome,
-) -> Details<'a>
+fn input_details<'a>(inputs: &'a Inputs, cause: FaultCause, answer: &Outcome) -> Details<'a>
     ensures { IsInputDetail inputs.now cause answer.now (told_text result) }
 {
     match answer {
@@ -162,7 +158,11 @@ fn argument_details(words: &[String], found: FaultyArgument) -> Details<'_>
 }
 
 /// Returns the line about the error for which the arguments give no command. The only error is out of memory.
-pub fn usage_details(alloc: Global, words: &[String], stop: WordsStop) -> Result<Details<'_>, NoMemory>
+pub fn usage_details(
+    alloc: Global,
+    words: &[String],
+    stop: WordsStop,
+) -> Result<Details<'_>, NoMemory>
     requires { length words.now < 2 ^ 32 }
     ensures { IfOk result (λ details. told_text details ≡ usage_lines (map (λ word. string_bytes word) words.now) stop) }
 {

@@ -1,7 +1,7 @@
 //! Laws of whole runs of the program.
 //!
-//! Each law is the contract of a function that does nothing. The laws are about runs as `mufom_command`
-//! specifies them. Begin with [`the_headline`].
+//! Each law is the contract of a function that does nothing. The laws are about runs as `mufom_works` defines
+//! them and the contract of `run` in `mufom_command` states them. Begin with [`the_headline`].
 #![tactic(auto)]
 
 mod laws;

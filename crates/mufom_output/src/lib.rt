@@ -4,7 +4,7 @@
 //! written, finished or begun; nothing else changes.
 #![tactic(auto)]
 
-mod put_out;
+mod output;
 mod writing;
 
-pub use put_out::put_out;
+pub use output::put_out;

@@ -8,9 +8,9 @@
 #![tactic(auto)]
 
 mod locating;
-mod prepare;
 mod ready;
+mod tasks;
 
 pub use locating::{Location, Obstacle, Places, TracedModule, locate_modules};
-pub use prepare::{link_file, prepare};
 pub use ready::{Ready, ready_of};
+pub use tasks::{link_file, prepare};

@@ -1,9 +1,9 @@
 //! Laws of the runs of the program.
 //!
-//! Each law is the contract of a function that does nothing. The laws are about runs as `mufom_command`
-//! states them: what a run gives depends only on its arguments and files, a task that locates is done exactly
-//! if no error applies, and files that were linked in stages have the outputs of the list that the stages
-//! began with.
+//! Each law is the contract of a function that does nothing. The laws are about runs as `mufom_works` defines
+//! them and the contract of `run` in `mufom_command` states them: what a run gives depends only on its arguments
+//! and files, a task that locates is done exactly if no error applies, and files that were linked in stages have
+//! the outputs of the list that the stages began with.
 #![tactic(auto)]
 
 mod laws;

@@ -2,7 +2,7 @@
 
 use crate::held::{File, content};
 use crate::mismatch::{Mismatch, file_made, other_status, other_text};
-use crate::transcript::{Wanted, wanted};
+use crate::transcript::{Wanted, read_wanted};
 use mufom_command::run;
 use mufom_host::{Host, MemHost};
 use mufom_numbers::{Bytes, List, NoMemory, Text};
@@ -172,7 +172,7 @@ impl<'a> Session<'a> {
     }
 
     fn replay_run(&mut self, line: &str, text: &str) -> Result<(), Mismatch> {
-        let wanted = wanted(self.alloc, text)?;
+        let wanted = read_wanted(self.alloc, text)?;
         let mut host = self.host()?;
         let status = run_line(self.alloc, &mut host, line)?;
         compare(self.alloc, line, &host, status, &wanted)?;

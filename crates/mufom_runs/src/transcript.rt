@@ -2,7 +2,7 @@
 
 use crate::mismatch::{Mismatch, no_topic};
 use mufom_help::{command_list, topic_text};
-use std::alloc::Global;
+use std::alloc::{AllocError, Global};
 
 /// The statuses of runs that are not done, as a transcript has them before an error line.
 const STATUSES: [(u8, &str); 5] = [
@@ -42,24 +42,20 @@ fn help(alloc: Global, word: &str) -> Result<&'static str, Mismatch> {
     }
 }
 
+// The bytes of two texts.
+fn joined(alloc: Global, first: &str, second: &str) -> Result<Vec<u8>, AllocError> {
+    let mut bytes = Vec::from_slice(alloc, first.as_bytes())?;
+    bytes.extend_from_slice(second.as_bytes())?;
+    Ok(bytes)
+}
+
 /// What the text after a line of arguments, without its last line break, says of the run.
-pub(crate) fn wanted(alloc: Global, text: &str) -> Result<Wanted, Mismatch> {
+pub(crate) fn read_wanted(alloc: Global, text: &str) -> Result<Wanted, Mismatch> {
     let (status, text) = status_of(text);
-    if let Some((lines, word)) = text.split_once("(help") {
-        let topic = help(alloc, word)?;
-        let mut whole = Vec::from_slice(alloc, lines.as_bytes())?;
-        whole.extend_from_slice(topic.as_bytes())?;
-        return Ok(Wanted {
-            status,
-            text: whole,
-        });
-    }
-    let mut whole = Vec::from_slice(alloc, text.as_bytes())?;
-    if !text.is_empty() {
-        whole.push(b'\n')?;
-    }
-    Ok(Wanted {
-        status,
-        text: whole,
-    })
+    let text = match text.split_once("(help") {
+        Some((lines, word)) => joined(alloc, lines, help(alloc, word)?)?,
+        None if text.is_empty() => Vec::new(alloc),
+        None => joined(alloc, text, "\n")?,
+    };
+    Ok(Wanted { status, text })
 }

@@ -12,7 +12,7 @@ use Rattle.mufom_outcome.specs.declared.outcome.Outcome.{Outcome}
 use Rattle.mufom_task.specs.InputsRead.{inputs_in}
 use Rattle.mufom_words.specs.Tree.{tree_of}
 use Rattle.mufom_task.specs.declared.task.Task.TheVariants as task
-use Rattle.mufom_prepare.proofs.prepare.prepare_link.Goals as goal
+use Rattle.mufom_prepare.proofs.tasks.prepare_link.Goals as goal
 
 pub link_file-requires-clause-linkable : goal.link_file-requires-clause-linkable
 link_file-requires-clause-linkable g c = record {

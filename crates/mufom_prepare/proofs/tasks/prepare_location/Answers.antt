@@ -19,7 +19,7 @@ use Rattle.mufom_task.specs.InputsRead.{inputs_in}
 use Rattle.mufom_words.specs.Tree.{tree_of}
 use Rattle.mufom_task.specs.declared.task.Task.TheVariants as task
 use Rattle.mufom_origins.specs.Words.{all_files}
-use Rattle.mufom_prepare.proofs.prepare.prepare_location.Goals as goal
+use Rattle.mufom_prepare.proofs.tasks.prepare_location.Goals as goal
 
 pub locate_modules-requires-clause-linkable : goal.locate_modules-requires-clause-linkable
 locate_modules-requires-clause-linkable g c = record {

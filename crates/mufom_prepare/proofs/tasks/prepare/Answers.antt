@@ -3,7 +3,7 @@ use Rattle.mufom_task.proofs.InputLaws.{call_between}
 use Rattle.mufom_task.specs.declared.task.Task.{Task}
 use Rattle.mufom_prepare.specs.Prepared.{IsUnprepared}
 use Rattle.mufom_prepare.proofs.PrepareLaws.{unmade}
-use Rattle.mufom_prepare.proofs.prepare.prepare.Goals as goal
+use Rattle.mufom_prepare.proofs.tasks.prepare.Goals as goal
 
 pub returns-in-Err-clause-err : goal.returns-in-Err-clause-err
 returns-in-Err-clause-err g c =

@@ -10,7 +10,7 @@ use Rattle.mufom_text.specs.Show.{text_of}
 use Rattle.mufom_text.specs.declared.form.TextForm.{TextForm}
 use Rattle.mufom_task.specs.declared.task.Task.TheVariants as task
 use Rattle.mufom_prepare.specs.declared.ready.Ready.TheVariants as ready
-use Rattle.mufom_prepare.proofs.prepare.prepare_show.Goals as goal
+use Rattle.mufom_prepare.proofs.tasks.prepare_show.Goals as goal
 
 pub returns-in-Ok-clause-ok : goal.returns-in-Ok-clause-ok
 returns-in-Ok-clause-ok g c =

@@ -6,7 +6,7 @@ use Rattle.mufom_groups.specs.Work.{gives}
 use Rattle.mufom_words.specs.Sound.{HasTree}
 use Rattle.mufom_words.specs.Tree.{tree_of}
 use Rattle.mufom_words.specs.declared.command.Mark.{Mark}
-use Rattle.mufom_prepare.proofs.prepare.link_file.Goals as goal
+use Rattle.mufom_prepare.proofs.tasks.link_file.Goals as goal
 
 pub link_modules-requires-clause-tree : goal.link_modules-requires-clause-tree
 link_modules-requires-clause-tree c =

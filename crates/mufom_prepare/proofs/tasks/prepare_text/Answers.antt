@@ -7,7 +7,7 @@ use Rattle.mufom_groups.specs.Work.{gives}
 use Rattle.mufom_task.specs.Reading.{text_in}
 use Rattle.mufom_task.specs.declared.task.Task.TheVariants as task
 use Rattle.mufom_prepare.specs.declared.ready.Ready.TheVariants as ready
-use Rattle.mufom_prepare.proofs.prepare.prepare_text.Goals as goal
+use Rattle.mufom_prepare.proofs.tasks.prepare_text.Goals as goal
 
 pub returns-in-Err-clause-err : goal.returns-in-Err-clause-err
 returns-in-Err-clause-err g c =

@@ -3,7 +3,7 @@ use Rattle.mufom_meaning.specs.AddressMap.{AreApart}
 use Rattle.mufom_meaning.specs.declared.located.LocatedParts.{LocatedParts}
 use Rattle.mufom_meaning.specs.declared.located.Run.{Run}
 use Rattle.mufom_output.proofs.WritingLaws.{located-apart}
-use Rattle.mufom_output.proofs.put_out.make_range.Goals as goal
+use Rattle.mufom_output.proofs.output.make_range.Goals as goal
 
 pub make_range_file-requires : goal.make_range_file-requires
 make_range_file-requires g c =

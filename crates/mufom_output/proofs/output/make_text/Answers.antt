@@ -6,7 +6,7 @@ use Rattle.mufom_meaning.specs.declared.located.Run.{Run}
 use Rattle.mufom_text.proofs.FitLaws.{located-fits}
 use Rattle.mufom_text.specs.Fitting.{FitsIn}
 use Rattle.std.specs.Prelude.{All}
-use Rattle.mufom_output.proofs.put_out.make_text.Goals as goal
+use Rattle.mufom_output.proofs.output.make_text.Goals as goal
 
 pub make_text_file-requires-clause-some : goal.make_text_file-requires-clause-some
 make_text_file-requires-clause-some g c =
