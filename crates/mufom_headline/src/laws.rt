@@ -10,8 +10,9 @@ ghost use Rattle.mufom_headline.specs.Texts.{ListingsAreBuilt, TextsComeBack};
 /// a task that locates is `Done` if and only if the flat list of the modules can be linked, what is
 /// kept of it can be located, and `bin` may write its bytes: they are not too many, and the plan has
 /// the region that is named. The output is then that location, as a file or as a text, and nothing
-/// else. If earlier runs made the modules from another list in stages, the same holds of that list;
-/// its map names the modules of the files.
+/// else. If earlier runs made the modules from another list in stages, the same holds of that list,
+/// under the name of the first module of the flat list, whatever link errors it has; its map names the
+/// modules of the files.
 pub fn the_headline()
     ensures { TheHeadline }
 {}
@@ -24,7 +25,7 @@ pub fn linking_is_done()
 
 /// The output of `link` is the file of the module into which the flat list is linked, and that module
 /// means what the list means. If earlier runs made the modules from another list in stages, the same
-/// holds of that list.
+/// holds of that list, under the name of the first module of the flat list.
 pub fn links_are_put_out()
     ensures { LinksArePutOut }
 {}
