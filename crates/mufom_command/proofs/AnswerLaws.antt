@@ -1,7 +1,5 @@
 -- The error line after the work of a task: the outcome keeps its cause.
-use Rattle.std.proofs.Common.{◌≡◌, ◌≢◌, ◌⊎◌, ℕ, ◌≤◌, List, Option, Some, None}
-use Rattle.std.proofs.Common.{Result, Ok, Err, OnSome, take, refl, sym, ap, subst, ◌∙◌, inl, inr, arith}
-use Rattle.std.proofs.lemmas.List.{append-nil}
+use Rattle.std.proofs.Common.{◌≡◌, ◌≢◌, ◌⊎◌, ℕ, ◌≤◌, List, Option, Result, Ok, Err, refl, sym, ap, subst, ◌∙◌, inl, inr, arith}
 use Rattle.mufom_host.specs.World.{Faults, Meaning, GrowsBy, GrowsByPrefix, OnlyPrintsErrors}
 use Rattle.mufom_words.specs.declared.command.Command.{Command}
 use Rattle.mufom_words.specs.declared.stop.WordsStop.{WordsStop}
@@ -14,18 +12,19 @@ use Rattle.mufom_task.specs.declared.task.Inputs.{Inputs}
 use Rattle.mufom_task.specs.declared.task.Request.{Request}
 use Rattle.mufom_task.specs.declared.task.Request.TheVariants as request
 use Rattle.mufom_task.specs.declared.task.Task.{Task}
-use Rattle.mufom_command.specs.Works.{Output, printed, made}
+use Rattle.mufom_works.specs.Works.{Output, printed, made}
 use Rattle.mufom_outcome.specs.Complaint.{complaint}
-use Rattle.mufom_command.specs.Contract.{AnswersBy, AnswersWith, OpensOf, OpensWith}
-use Rattle.mufom_command.specs.Explain.{EndsBy, EndsFor, EndsWith, ExplainsTo, IsExplanation}
-use Rattle.mufom_command.specs.Run.{AddsErrorLine, AnswersFor, BeginsText, OpensFor, OpensBy, PrintsText}
-use Rattle.mufom_task.specs.Calls.{IsOpenedCount, NoneFalls}
+use Rattle.mufom_works.specs.Result.{AnswersBy, AnswersWith}
+use Rattle.mufom_command.specs.Contract.{OpensOf, OpensWith}
+use Rattle.mufom_works.specs.Explain.{EndsBy, EndsFor, EndsWith, ExplainsTo, IsExplanation}
+use Rattle.mufom_works.specs.Run.{AddsErrorLine, AnswersFor, BeginsText, OpensFor, OpensBy, PrintsText, PrintsErrorLine, PutsOut, PutsOutNothing}
+use Rattle.mufom_works.specs.Run.{PutsOutPrefix}
+use Rattle.mufom_task.specs.Calls.{IsOpenedCount, NoneFalls, OpensInputs}
 use Rattle.mufom_command.specs.RunParts.{DoesBy, DoesWith, IsPrintedAs, MayLackMemory}
-use Rattle.mufom_task.specs.Calls.{OpensInputs}
-use Rattle.mufom_command.specs.Run.{PrintsErrorLine, PutsOut, PutsOutNothing, PutsOutPrefix}
-use Rattle.mufom_task.specs.Tasks.{input_names, inputs_of, request_of}
+use Rattle.mufom_task.specs.Tasks.{inputs_of, request_of}
 use Rattle.mufom_outcome.specs.Outcomes.{stop_answer}
 use Rattle.mufom_task.proofs.InputLaws.{call_between}
+use Rattle.mufom_works.proofs.OpenedLaws.{opens-nothing, request-nothing}
 
 module _ (old mid : Meaning) (before between : Faults) (err : Option (List ℕ)) (complaints : ℕ) where
   -- the world after the error line
@@ -250,19 +249,6 @@ line-since old mid new before between now outcome.NoMemory same later line =
     adds-since old mid new before between now (complaint outcome.NoMemory) same later line
 
 -- ---- what the words ask for
-
-opens-none : (names : List (List ℕ)) (o : Option (List (List ℕ))) → OnSome o (GrowsBy o o (take 0 names))
-opens-none names None = tt
-opens-none names (Some l) = ap (λ (x : List (List ℕ)). Some x) (sym (append-nil l))
-
--- nothing was opened
-request-nothing : (q : Request) (m : Meaning) (f : Faults) → OpensFor q (call_between m m f f) outcome.NoMemory
-request-nothing (request.Run t) m f = record { count = 0; exact = tt; within = omega arith; opened = opens-none (input_names (inputs_of t)) m.opened }
-request-nothing request.Explain m f = refl
-
-pub opens-nothing : (r : Result Command WordsStop) (m : Meaning) (f : Faults) → OpensBy r (call_between m m f f) outcome.NoMemory
-opens-nothing (Ok c) m f = request-nothing (request_of c) m f
-opens-nothing (Err s) m f = refl
 
 same-counts : (m : Meaning) (f : Faults) → NoneFalls (call_between m m f f)
 same-counts m f = record { reads = omega arith; writes = omega arith; complaints = omega arith }

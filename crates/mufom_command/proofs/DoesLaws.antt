@@ -1,36 +1,25 @@
 -- What a task has done whose inputs were read: it was stopped, or its output was put out.
-use Rattle.std.proofs.Common.{◌≡◌, ◌⊎◌, ℕ, Ok, Err, ◌≤◌, List, [], ◌∷◌, ◌++◌, length, take, Option, Some, None, IfSome, OnSome, refl, sym, ap}
-use Rattle.std.proofs.Common.{subst, ◌∙◌, arith}
-use Rattle.std.proofs.lemmas.List.{take_all}
-use Rattle.mufom_host.specs.World.{Faults, Meaning, NamedFile, GrowsBy, GrowsByPrefix, KeepsAllButFile, KeepsAllButOut, KeepsAllButWrites, OnlyOpens, Rose}
+use Rattle.std.proofs.Common.{◌≡◌, ◌⊎◌, ℕ, Ok, Err, ◌≤◌, List, [], ◌∷◌, ◌++◌, length, take, Option, Some, None, IfSome, OnSome, refl, sym, ap, subst}
+use Rattle.std.proofs.Common.{◌∙◌, arith}
+use Rattle.mufom_host.specs.World.{Faults, Meaning, NamedFile, GrowsBy, GrowsByPrefix, KeepsAllButFile, KeepsAllButOut, KeepsAllButWrites, OnlyOpens}
+use Rattle.mufom_host.specs.World.{Rose}
 use Rattle.mufom_outcome.specs.declared.outcome.Outcome.{Outcome}
 use Rattle.mufom_outcome.specs.declared.outcome.Outcome.TheVariants as outcome
-use Rattle.mufom_task.specs.declared.task.Inputs.{Inputs}
 use Rattle.mufom_task.specs.declared.task.Task.{Task}
 use Rattle.mufom_task.specs.declared.task.Task.TheVariants as task
-use Rattle.mufom_task.specs.Calls.{IsOpenedCount, NoneFalls, OpensInputs}
+use Rattle.mufom_task.specs.Calls.{IsOpenedCount, NoneFalls}
 use Rattle.mufom_task.specs.Tasks.{input_names, inputs_of}
 use Rattle.mufom_task.proofs.InputLaws.{call_between}
-use Rattle.mufom_command.specs.Making.{IsMade, IsPrinted}
-use Rattle.mufom_command.specs.declared.ready.Ready.{Ready}
-use Rattle.mufom_command.specs.Ready.{IsHelp, IsPutOut}
-use Rattle.mufom_command.specs.Run.{AnswersFor, BeginsFile, IsOutput, MakesFile, PutsOutNothing}
-use Rattle.mufom_command.specs.RunParts.{Does, IsHelpTask, IsUnprepared, PrintsHelpText, StopsFor}
-use Rattle.mufom_command.specs.Works.{Output, printed, made}
-
-opens-all : (names : List (List ℕ)) (a b : Option (List (List ℕ))) → GrowsBy a b names → OnSome b (GrowsBy a b (take (length names) names))
-opens-all names a None grows = tt
-opens-all names a (Some l) grows = subst (λ (all : List (List ℕ)). GrowsBy a (Some l) all) (sym (take_all (length names) names (omega arith))) grows
-
--- all inputs were opened
-pub opens-read : (c : Inputs) (old mid new : Meaning) (before now : Faults) → GrowsBy old.opened mid.opened (input_names c) → (result : Outcome)
-    → new.opened ≡ mid.opened → IsOpenedCount c result (length (input_names c)) → OpensInputs c (call_between old new before now) result
-opens-read c old mid new before now opened result same exact = record {
-  count = length (input_names c);
-  exact = exact;
-  within = omega arith;
-  opened = opens-all (input_names c) old.opened new.opened (subst (λ (o : Option (List (List ℕ))). GrowsBy old.opened o (input_names c)) (sym same) opened);
-}
+use Rattle.mufom_works.specs.Making.{IsMade, IsPrinted}
+use Rattle.mufom_prepare.specs.declared.ready.Ready.{Ready}
+use Rattle.mufom_prepare.specs.Ready.{IsHelp}
+use Rattle.mufom_output.specs.PutOut.{IsPutOut}
+use Rattle.mufom_works.specs.Run.{AnswersFor, BeginsFile, IsOutput, MakesFile, PutsOutNothing}
+use Rattle.mufom_command.specs.RunParts.{Does}
+use Rattle.mufom_prepare.specs.Prepared.{IsHelpTask, IsUnprepared, PrintsHelpText}
+use Rattle.mufom_works.specs.WorkEnds.{StopsFor}
+use Rattle.mufom_works.specs.Works.{Output, printed, made}
+use Rattle.mufom_works.proofs.OpenedLaws.{opens-read}
 
 module _ (t : Task) (old mid : Meaning) (before between : Faults) (only : OnlyOpens old mid before between) where
   read-err : mid.err ≡ old.err

@@ -1,20 +1,16 @@
 -- A task that links no files names no more than an input if it has no output.
-use Rattle.std.proofs.Common.{◌≡◌, ◌≢◌, ℕ, ◌*◌, ◌<◌, ◌≤◌, Bool, cond, flat_map, true, false, List, [], length, Option, Some, None, refl, sym, subst}
-use Rattle.std.proofs.Common.{◌∙◌, ap, inl, inr, option_map, arith}
+use Rattle.std.proofs.Common.{◌≡◌, ◌≢◌, ℕ, ◌*◌, ◌<◌, Bool, cond, flat_map, true, false, List, [], length, Option, Some, None, refl, sym, subst, ◌∙◌}
+use Rattle.std.proofs.Common.{inl, inr, arith}
 use Rattle.mufom_host.specs.World.{Faults, Meaning, NamedFile, OnlyPrints}
 use Rattle.mufom_host.specs.declared.cause.Cause.{Cause}
-use Rattle.mufom_numbers.specs.declared.limits.TheConstants.{MOST_MODULES}
-use Rattle.mufom_make.specs.Generated.{made_modules, made_plan}
-use Rattle.mufom_make.proofs.NoFactLaws.{all-locate}
-use Rattle.mufom_planned.specs.Planned.{PlanFact, of_list}
 use Rattle.mufom_module.specs.declared.module.Parts.{Parts}
 use Rattle.mufom_titxt.specs.declared.refusal.TxtRefusal.{TxtRefusal}
 use Rattle.mufom_titxt.specs.Texts.{txt_refusal}
 use Rattle.mufom_groups.specs.Work.{Work, stops}
 use Rattle.mufom_outcome.specs.declared.outcome.Outcome.{Outcome}
 use Rattle.mufom_outcome.specs.declared.outcome.Outcome.TheVariants as outcome
-use Rattle.mufom_outcome.specs.Stop.{Stop, words_refused, plan_refused, file_refused, past_limit, link_fact, keep_unknown, name_shared, locate_fact, bytes_refused}
-use Rattle.mufom_outcome.specs.Stop.{text_refused, listing_refused, too_many_modules}
+use Rattle.mufom_outcome.specs.Stop.{Stop, words_refused, plan_refused, file_refused, past_limit, link_fact, keep_unknown, name_shared, locate_fact}
+use Rattle.mufom_outcome.specs.Stop.{bytes_refused, text_refused, listing_refused, too_many_modules}
 use Rattle.mufom_task.specs.declared.task.Inputs.{Inputs}
 use Rattle.mufom_task.specs.declared.task.Product.{Product}
 use Rattle.mufom_task.specs.declared.task.Task.{Task}
@@ -25,16 +21,18 @@ use Rattle.mufom_task.specs.Ends.{IsInputReached, IsStopped, OverFiles}
 use Rattle.mufom_task.specs.InputsRead.{KeepsPlan, ReadingStops}
 use Rattle.mufom_outcome.specs.declared.outcome.Refusal.TheVariants as refusal
 use Rattle.mufom_task.specs.Sound.{IsSoundInputs, IsSoundTask}
-use Rattle.mufom_task.specs.Tasks.{inputs_of, no_inputs, reads_files}
+use Rattle.mufom_task.specs.Tasks.{inputs_of, reads_files}
 use Rattle.mufom_task.proofs.InputLaws.{call_between}
-use Rattle.mufom_command.specs.Explain.{EndsFor}
-use Rattle.mufom_command.specs.HasDetails.{IsInputDetail, IsTaskDetail, IsUnreadDetail, inputs_read}
-use Rattle.mufom_command.specs.RunParts.{IsUnprepared, NamesInputs, StopsFor}
+use Rattle.mufom_works.specs.Explain.{EndsFor}
+use Rattle.mufom_works.specs.HasDetails.{IsInputDetail, IsTaskDetail, IsUnreadDetail, inputs_read}
+use Rattle.mufom_prepare.specs.Prepared.{IsUnprepared}
+use Rattle.mufom_command.specs.RunParts.{NamesInputs}
+use Rattle.mufom_works.specs.WorkEnds.{StopsFor}
 use Rattle.mufom_text.specs.Show.{text_of}
-use Rattle.mufom_command.specs.Text.{Text, check_text}
-use Rattle.mufom_command.specs.Works.{form_of, listing, located_unless, making, module_of_text, parts_of_listing, parts_of_txt, runs_unless, work_of}
-use Rattle.mufom_command.proofs.EndLaws.{plain-answer}
-use Rattle.mufom_command.proofs.ExplainReading.{IsOfReading, modules-end, reading-ends, text-end}
+use Rattle.mufom_works.specs.Text.{Text, check_text}
+use Rattle.mufom_works.specs.Works.{form_of, listing, module_of_text, parts_of_listing, parts_of_txt, runs_unless, work_of}
+use Rattle.mufom_explain_text.proofs.ExplainReading.{IsOfReading, modules-end, reading-ends, text-end}
+use Rattle.mufom_works.proofs.MadeLaws.{make-never, none-reached}
 
 -- ---- the ends of a task that reads files
 
@@ -69,13 +67,6 @@ module-ends : (parts_of : List ℕ → Work Stop Parts) → ((text : List ℕ) (
 module-ends parts_of each out files c s (inl ends) = text-end c.files files s ends
 module-ends parts_of each out files c s (inr (text, read, inl ends)) = each text s ends
 module-ends parts_of each out files c s (inr (text, read, inr (parts, is, (held, never)))) = absurd never
-
--- no run of `make` is refused: the modules that it generates have a location
-pub make-never : (count : ℕ) → 1 ≤ count → count ≤ MOST_MODULES → (s : Stop) → making count (stops s) → ⊥
-make-never count some few s (inl ends) =
-    subst (λ (o : Option PlanFact). located_unless o (made_plan count) (made_modules count) (stops s))
-    (plain-answer (made_modules count) (made_plan count) refl (refl, tt) ∙ ap (option_map of_list) (all-locate count some few)) ends
-make-never count some few s (inr (r, is, ends)) = ends
 
 other-ends : (t : Task) → IsSoundTask t → NamesInputs t → (files : List NamedFile) (s : Stop) → work_of t files (stops s) → IsOfReading s
 other-ends (task.Show inputs full) sound other files s ends = listing-ends (λ ms. flat_map (text_of (form_of full)) ms) files inputs s ends
@@ -113,10 +104,6 @@ never-stops (task.Link inputs name out) sound none s all = absurd cc
 never-stops (task.Locate inputs keep p) sound none s all = absurd cc
 never-stops (task.FromTxt inputs maus out) sound none s all = absurd cc
 never-stops (task.Build inputs out) sound none s all = absurd cc
-
-pub none-reached : (at : Input) (files : Option (List NamedFile)) → IsInputReached files no_inputs at → ⊥
-none-reached input.Plan files reached = cc
-none-reached (input.File n) files (there, all) = absurd (omega (arith, there))
 
 never-reached : (t : Task) → reads_files t ≡ false → (at : Input) (files : Option (List NamedFile)) → IsInputReached files (inputs_of t) at → ⊥
 never-reached (task.Make count) none at files reached = none-reached at files reached

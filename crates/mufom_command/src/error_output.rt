@@ -4,7 +4,7 @@ ghost use Rattle.std.specs.Prelude.{◌≡◌, List, ℕ};
 ghost use Rattle.mufom_host.specs.World.{OnlyPrintsErrors};
 ghost use Rattle.mufom_outcome.specs.Complaint.{complaint};
 ghost use Rattle.mufom_task.specs.Calls.{call_of};
-ghost use Rattle.mufom_command.specs.Run.{AddsErrorLine, PrintsErrorLine};
+ghost use Rattle.mufom_works.specs.Run.{AddsErrorLine, PrintsErrorLine};
 ghost use Rattle.mufom_command.specs.RunParts.{IsPrintedAs};
 
 use mufom_host::{Failed, Host};

@@ -9,8 +9,9 @@
 //! summary. `help` and `version` print texts of the program. `explain` before any of these prints their
 //! outcome, and what its error line names.
 //!
-//! A task is done in two steps: `prepare` reads its inputs and completes its output, and `put_out` prints or
-//! writes that. `explain` takes the first step alone.
+//! A task is done in two steps: `prepare` of `mufom_prepare` reads its inputs and completes its output, and
+//! `put_out` of `mufom_output` prints or writes that. `explain` takes the first step alone, and prints how the
+//! task ends.
 //!
 //! The main clause is the contract of [`run`]: each outcome has its cause in the arguments, the files or the
 //! counts of I/O errors, and it states exactly what is output, printed as errors, and opened.
@@ -19,20 +20,6 @@
 mod command;
 mod error_output;
 mod explain;
-mod explain_modules;
-mod explanation;
-mod flat;
-mod input_lines;
-mod lines;
-mod locating;
-mod making;
-mod plan_lines;
-mod prepare;
-mod query;
-mod ready;
-mod regions;
-mod texts;
-mod writing;
 
 pub use command::run;
 pub use mufom_outcome::{Input, Outcome, Refusal};

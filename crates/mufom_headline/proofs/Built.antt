@@ -11,7 +11,7 @@ use Rattle.mufom_build.proofs.PrintedLines.{listing_builds}
 use Rattle.mufom_groups.specs.Work.{gives}
 use Rattle.mufom_task.specs.declared.task.Inputs.{Inputs}
 use Rattle.mufom_task.specs.declared.task.Task.TheVariants as task
-use Rattle.mufom_command.specs.Works.{IsHeld, made, work_of}
+use Rattle.mufom_works.specs.Works.{IsHeld, made, work_of}
 use Rattle.mufom_headline.specs.Texts.{IsBuilt, ListingsAreBuilt}
 use Rattle.mufom_headline.proofs.ReadBack.{held-read-back}
 use Rattle.mufom_headline.proofs.Texts.{makes, text-read}

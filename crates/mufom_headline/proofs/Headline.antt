@@ -33,16 +33,16 @@ use Rattle.mufom_task.specs.declared.task.Product.{Product}
 use Rattle.mufom_task.specs.declared.task.Product.TheVariants as product
 use Rattle.mufom_task.specs.declared.task.Task.TheVariants as task
 use Rattle.mufom_task.specs.Calls.{Call}
-use Rattle.mufom_command.specs.FlatFiles.{AreFlatFiles}
-use Rattle.mufom_command.specs.Run.{AnswersFor, MakesFile, PutsOut, outcome_of}
-use Rattle.mufom_command.specs.Roots.{Roots, first_unknown, roots_by}
-use Rattle.mufom_command.specs.Works.{Kept, Output, kept_of, kept_unless, located, located_unless, locating_kept, mapped_kept, maus_of, producing}
-use Rattle.mufom_command.specs.Works.{product_of, product_with, stop_of, work_of}
-use Rattle.mufom_command.specs.Works.{bytes_fact, bytes_unless, length_fact, region_fact, region_image, region_named}
-use Rattle.mufom_command.proofs.WorkLaws.{bytes-stop}
-use Rattle.mufom_command.proofs.EndLaws.{location-of}
-use Rattle.mufom_command.proofs.KeptLaws.{kept-valid}
-use Rattle.mufom_command.proofs.Runs.{kept_of-single, of-files}
+use Rattle.mufom_works.specs.FlatFiles.{AreFlatFiles}
+use Rattle.mufom_works.specs.Run.{AnswersFor, MakesFile, PutsOut, outcome_of}
+use Rattle.mufom_works.specs.Roots.{Roots, first_unknown, roots_by}
+use Rattle.mufom_works.specs.Works.{Kept, Output, kept_of, kept_unless, located, located_unless, locating_kept, mapped_kept, maus_of, producing}
+use Rattle.mufom_works.specs.Works.{product_of, product_with, stop_of, work_of}
+use Rattle.mufom_works.specs.Works.{bytes_fact, bytes_unless, length_fact, region_fact, region_image, region_named}
+use Rattle.mufom_works.proofs.ProductLaws.{bytes-stop}
+use Rattle.mufom_works.proofs.EndLaws.{location-of}
+use Rattle.mufom_works.proofs.KeptLaws.{kept-valid}
+use Rattle.mufom_works.proofs.Runs.{kept_of-single, of-files}
 use Rattle.mufom_run_laws.specs.RunLaws.{Accepts, HasNoFact, IsSameWork, MayPutOut}
 use Rattle.mufom_run_laws.proofs.Accepted.{EndsAtFact, accepted-back, accepted-fact, accepted-gives, accepted-stops, no-link-fact}
 use Rattle.mufom_run_laws.proofs.Calm.{CameTo, done-comes, never-done}

@@ -16,8 +16,8 @@ use Rattle.mufom_groups.specs.Work.{gives}
 use Rattle.mufom_prune.specs.Meaning.{MeansTheRest, left_readings}
 use Rattle.mufom_prune.specs.Pruned.{IsPrunedFor, Remains, remaining, remains, without_others}
 use Rattle.mufom_prune.proofs.Meaning.{pruned_means_the_rest}
-use Rattle.mufom_command.specs.Roots.{Roots, first_unknown}
-use Rattle.mufom_command.specs.Works.{Kept, kept_of, kept_unless}
+use Rattle.mufom_works.specs.Roots.{Roots, first_unknown}
+use Rattle.mufom_works.specs.Works.{Kept, kept_of, kept_unless}
 use Rattle.mufom_headline.specs.Kept.{KeepsMeaning, MeansTheRestOf}
 
 -- every list has its own descriptor

@@ -23,11 +23,11 @@ use Rattle.mufom_task.specs.declared.task.Task.{Task}
 use Rattle.mufom_task.specs.declared.task.Task.TheVariants as task
 use Rattle.mufom_task.specs.Calls.{Call}
 use Rattle.mufom_task.specs.Tasks.{reads_files}
-use Rattle.mufom_command.specs.FlatFiles.{AreFlatFiles}
-use Rattle.mufom_command.specs.Roots.{Roots, roots_by}
-use Rattle.mufom_command.specs.Run.{AnswersFor, PutsOut, outcome_of}
-use Rattle.mufom_command.specs.Works.{Kept, Output, kept_of, linked_file, located, locating_kept, product_with, work_of}
-use Rattle.mufom_command.proofs.Runs.{of-files, over-files, work_of-single}
+use Rattle.mufom_works.specs.FlatFiles.{AreFlatFiles}
+use Rattle.mufom_works.specs.Roots.{Roots, roots_by}
+use Rattle.mufom_works.specs.Run.{AnswersFor, PutsOut, outcome_of}
+use Rattle.mufom_works.specs.Works.{Kept, Output, kept_of, linked_file, located, locating_kept, product_with, work_of}
+use Rattle.mufom_works.proofs.Runs.{of-files, over-files, work_of-single}
 use Rattle.mufom_run_laws.specs.RunLaws.{CameByStages, IsSameWork, IsUndisturbed}
 use Rattle.mufom_run_laws.proofs.Accepted.{accepted-gives}
 use Rattle.mufom_run_laws.proofs.Calm.{CameTo, done-comes}

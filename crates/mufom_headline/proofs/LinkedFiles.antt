@@ -16,9 +16,9 @@ use Rattle.mufom_task.specs.declared.task.Inputs.{Inputs}
 use Rattle.mufom_task.specs.declared.task.Task.TheVariants as task
 use Rattle.mufom_task.specs.Calls.{Call}
 use Rattle.mufom_task.specs.Inputs.{root_count}
-use Rattle.mufom_command.specs.Works.{Output, linked_file, writes_module}
-use Rattle.mufom_command.specs.Run.{PutsOut}
-use Rattle.mufom_command.proofs.Runs.{of-files}
+use Rattle.mufom_works.specs.Works.{Output, linked_file, writes_module}
+use Rattle.mufom_works.specs.Run.{PutsOut}
+use Rattle.mufom_works.proofs.Runs.{of-files}
 use Rattle.mufom_run_laws.specs.RunLaws.{Accepts, IsSameWork}
 use Rattle.mufom_run_laws.proofs.Accepted.{accepted-fact, accepted-gives}
 use Rattle.mufom_run_laws.proofs.Calm.{done-comes}

@@ -7,9 +7,9 @@ use Rattle.mufom_groups.specs.Work.{stops}
 use Rattle.mufom_outcome.specs.declared.outcome.Outcome.TheVariants as outcome
 use Rattle.mufom_outcome.specs.Stop.{Stop}
 use Rattle.mufom_task.specs.declared.task.Task.TheVariants as task
-use Rattle.mufom_command.specs.Run.{AnswersFor}
-use Rattle.mufom_command.specs.Works.{linked_file, work_of}
-use Rattle.mufom_command.proofs.Runs.{of-files}
+use Rattle.mufom_works.specs.Run.{AnswersFor}
+use Rattle.mufom_works.specs.Works.{linked_file, work_of}
+use Rattle.mufom_works.proofs.Runs.{of-files}
 use Rattle.mufom_run_laws.proofs.Accepted.{EndsAtFact, accepted-gives, accepted-stops, no-link-fact}
 use Rattle.mufom_run_laws.proofs.Calm.{done-comes, never-done}
 use Rattle.mufom_run_laws.proofs.Plain.{plain-answers}

@@ -10,11 +10,11 @@ use Rattle.mufom_origins.specs.Origins.{FileModule, origins_of}
 use Rattle.mufom_origins.specs.Words.{ModuleFiles}
 use Rattle.mufom_outcome.specs.Stop.{Stop}
 use Rattle.mufom_task.specs.declared.task.Product.{Product}
-use Rattle.mufom_command.specs.FlatFiles.{AreFlatFiles, files_with}
-use Rattle.mufom_command.specs.Roots.{Roots}
+use Rattle.mufom_works.specs.FlatFiles.{AreFlatFiles, files_with}
+use Rattle.mufom_works.specs.Roots.{Roots}
 use Rattle.mufom_planned.specs.PlanLaws.{HasSoundSymbols}
-use Rattle.mufom_command.specs.Works.{Kept, Output, kept_of, located, locating_kept, producing, product_with}
-use Rattle.mufom_command.proofs.MapLaws.{flat-files-single}
+use Rattle.mufom_works.specs.Works.{Kept, Output, kept_of, located, locating_kept, producing, product_with}
+use Rattle.mufom_works.proofs.MapLaws.{flat-files-single}
 use Rattle.mufom_run_laws.specs.RunLaws.{CameByStages, IsSameWork}
 use Rattle.mufom_run_laws.proofs.SameWorks.{same-trans, same-work, then-known, then-same}
 use Rattle.mufom_run_laws.proofs.StageLaws.{stages-alike}

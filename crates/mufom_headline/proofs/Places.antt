@@ -7,7 +7,7 @@ use Rattle.mufom_numbers.specs.declared.limits.TheConstants.{MOST_FILE_BYTES}
 use Rattle.mufom_records.specs.declared.options.ReadOptions.{ReadOptions}
 use Rattle.mufom_host.specs.World.{NamedFile, file_named}
 use Rattle.mufom_module.specs.declared.module.Parts.{Parts}
-use Rattle.mufom_read.specs.Judging.{IsModule}
+use Rattle.mufom_judging.specs.Judging.{IsModule}
 use Rattle.mufom_task.specs.Inputs.{AreAccepted, AreModules, ComeTo, HasFileModules, HaveBytes, accepted, files_from, files_of_one, members_if}
 use Rattle.mufom_task.proofs.InputLaws.{lt-same}
 use Rattle.mufom_task.proofs.NameLaws.{are-as-many, files-many, names-are}

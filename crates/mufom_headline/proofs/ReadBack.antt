@@ -8,12 +8,12 @@ use Rattle.mufom_module.specs.declared.module.Parts.{Parts}
 use Rattle.mufom_module.specs.Written.{written}
 use Rattle.mufom_module.proofs.OneModule.{one_module}
 use Rattle.mufom_write.proofs.Stated.{stated}
-use Rattle.mufom_read.specs.Judging.{IsModule}
+use Rattle.mufom_judging.specs.Judging.{IsModule}
 use Rattle.mufom_groups.specs.Work.{gives}
 use Rattle.mufom_task.specs.declared.task.Inputs.{Inputs}
 use Rattle.mufom_task.specs.Inputs.{AreModules, ComeTo, accepted, root_count}
 use Rattle.mufom_task.specs.Reading.{modules_in}
-use Rattle.mufom_command.specs.Works.{IsHeld}
+use Rattle.mufom_works.specs.Works.{IsHeld}
 use Rattle.mufom_run_laws.proofs.MadeLaws.{is-read-back}
 use Rattle.mufom_headline.specs.ReadBack.{IsReadAt, IsReadBack, WrittenFilesAreReadBack}
 use Rattle.mufom_headline.proofs.Places.{IsInPlace, accepted-alone, in-place}

@@ -25,9 +25,9 @@ use Rattle.mufom_task.specs.declared.task.Inputs.{Inputs}
 use Rattle.mufom_task.specs.Inputs.{module_files}
 use Rattle.mufom_task.specs.declared.task.Product.{Product}
 use Rattle.mufom_task.specs.declared.task.Task.TheVariants as task
-use Rattle.mufom_command.specs.FlatFiles.{AreFlatFiles}
-use Rattle.mufom_command.specs.Roots.{roots_by}
-use Rattle.mufom_command.specs.Works.{Output, linked_file, linking, locating_kept, producing, product_with, work_of}
+use Rattle.mufom_works.specs.FlatFiles.{AreFlatFiles}
+use Rattle.mufom_works.specs.Roots.{roots_by}
+use Rattle.mufom_works.specs.Works.{Output, linked_file, linking, locating_kept, producing, product_with, work_of}
 use Rattle.mufom_run_laws.specs.RunLaws.{Accepts, CameByStages, IsSameWork}
 use Rattle.mufom_run_laws.proofs.Accepted.{after-inputs}
 use Rattle.mufom_run_laws.proofs.SameWorks.{same-trans}

@@ -23,14 +23,14 @@ use Rattle.mufom_write.proofs.CutFile.{IsFittingModule, cut, file_of}
 use Rattle.mufom_write.proofs.Fitting.{IsInside, inside_module, loads-placed, module-fits}
 use Rattle.mufom_write.proofs.NamingFile.{has-names}
 use Rattle.mufom_write.proofs.Stated.{states}
-use Rattle.mufom_read.specs.Judging.{IsModule}
-use Rattle.mufom_read.proofs.judged.Stays.{AreBytes-drop}
+use Rattle.mufom_judging.specs.Judging.{IsModule}
+use Rattle.mufom_judging.proofs.judged.Stays.{AreBytes-drop}
 use Rattle.mufom_meaning.specs.declared.located.Run.{Run}
 use Rattle.mufom_meaning.specs.AddressMap.{AreApart}
 use Rattle.mufom_titxt.specs.TextModules.{EndBelow, HaveModule, HaveText, literals, loads_from, run_section, text_parts}
 use Rattle.mufom_titxt.proofs.ModuleValid.{text_is_valid}
 use Rattle.mufom_task.specs.Inputs.{ComeTo, accepted}
-use Rattle.mufom_command.specs.Works.{IsHeld}
+use Rattle.mufom_works.specs.Works.{IsHeld}
 use Rattle.mufom_headline.proofs.Places.{accepted-alone}
 
 -- ---- sections

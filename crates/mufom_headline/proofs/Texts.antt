@@ -33,14 +33,14 @@ use Rattle.mufom_task.specs.Calls.{Call}
 use Rattle.mufom_task.specs.Inputs.{ComeTo, accepted, root_count}
 use Rattle.mufom_task.specs.Reading.{modules_in, plan_in, text_in, unless_past_limit}
 use Rattle.mufom_task.specs.Tasks.{request_of}
-use Rattle.mufom_command.specs.Works.{Output, all_of, located, made, work_of, writes}
-use Rattle.mufom_command.specs.Contract.{Answers, run_of}
-use Rattle.mufom_command.specs.Run.{MakesFile, PutsOut}
-use Rattle.mufom_command.proofs.ExplainSingle.{run_of-single}
-use Rattle.mufom_command.proofs.EndLaws.{is-located as is-located-by}
-use Rattle.mufom_command.proofs.Runs.{of-files}
+use Rattle.mufom_works.specs.Works.{Output, all_of, located, made, work_of, writes}
+use Rattle.mufom_works.specs.Result.{Answers, run_of}
+use Rattle.mufom_works.specs.Run.{MakesFile, PutsOut}
+use Rattle.mufom_works.proofs.ExplainSingle.{run_of-single}
+use Rattle.mufom_works.proofs.EndLaws.{is-located as is-located-by}
+use Rattle.mufom_works.proofs.Runs.{of-files}
 use Rattle.mufom_planned.proofs.Plain.{plain_plans_mean_the_same}
-use Rattle.mufom_command.proofs.TextLaws.{text-rows}
+use Rattle.mufom_works.proofs.TextLaws.{text-rows}
 use Rattle.mufom_run_laws.specs.RunLaws.{IsUndisturbed}
 use Rattle.mufom_run_laws.proofs.Calm.{done-comes}
 use Rattle.mufom_run_laws.proofs.Determined.{answers-determined}

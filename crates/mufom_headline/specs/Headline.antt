@@ -34,12 +34,12 @@ use Rattle.mufom_task.specs.declared.task.Task.TheVariants as task
 use Rattle.mufom_task.specs.Inputs.{module_files}
 use Rattle.mufom_task.specs.Calls.{Call}
 use Rattle.mufom_task.specs.Tasks.{request_of}
-use Rattle.mufom_command.specs.Roots.{Roots, first_unknown, roots_by}
-use Rattle.mufom_command.specs.Works.{Kept, bytes_fact, kept_of, mapped_kept, maus_of, region_image, region_named}
-use Rattle.mufom_command.specs.FlatFiles.{AreFlatFiles}
-use Rattle.mufom_command.specs.Contract.{Answers}
-use Rattle.mufom_command.specs.Run.{MakesFile, PrintsText}
-use Rattle.mufom_command.specs.Text.{hit_text}
+use Rattle.mufom_works.specs.Roots.{Roots, first_unknown, roots_by}
+use Rattle.mufom_works.specs.Works.{Kept, bytes_fact, kept_of, mapped_kept, maus_of, region_image, region_named}
+use Rattle.mufom_works.specs.FlatFiles.{AreFlatFiles}
+use Rattle.mufom_works.specs.Result.{Answers}
+use Rattle.mufom_works.specs.Run.{MakesFile, PrintsText}
+use Rattle.mufom_works.specs.Text.{hit_text}
 use Rattle.mufom_run_laws.specs.RunLaws.{Accepts, CameByStages, HasNoFact, IsUndisturbed, MayPutOut}
 use Rattle.mufom_headline.specs.Kept.{KeepsMeaning}
 use Rattle.mufom_headline.specs.Linking.{IsRefusedLink}

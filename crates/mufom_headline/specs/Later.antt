@@ -18,9 +18,9 @@ use Rattle.mufom_task.specs.declared.task.Task.{Task}
 use Rattle.mufom_task.specs.declared.task.Task.TheVariants as task
 use Rattle.mufom_task.specs.Calls.{Call}
 use Rattle.mufom_task.specs.Tasks.{request_of}
-use Rattle.mufom_command.specs.Contract.{Answers}
-use Rattle.mufom_command.specs.Run.{PutsOut}
-use Rattle.mufom_command.specs.Works.{Output, work_of}
+use Rattle.mufom_works.specs.Result.{Answers}
+use Rattle.mufom_works.specs.Run.{PutsOut}
+use Rattle.mufom_works.specs.Works.{Output, work_of}
 use Rattle.mufom_run_laws.specs.RunLaws.{Accepts, IsSameWork, IsUndisturbed}
 use Rattle.mufom_headline.specs.ReadBack.{IsPutInFile}
 

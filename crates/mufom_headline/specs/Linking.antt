@@ -28,10 +28,10 @@ use Rattle.mufom_task.specs.declared.task.Task.TheVariants as task
 use Rattle.mufom_task.specs.Inputs.{module_files}
 use Rattle.mufom_task.specs.Calls.{Call}
 use Rattle.mufom_task.specs.Tasks.{request_of}
-use Rattle.mufom_command.specs.Roots.{Roots, roots_by}
-use Rattle.mufom_command.specs.Works.{Output, linked_file, locating_kept, product_with, work_of}
-use Rattle.mufom_command.specs.FlatFiles.{AreFlatFiles}
-use Rattle.mufom_command.specs.Contract.{Answers}
+use Rattle.mufom_works.specs.Roots.{Roots, roots_by}
+use Rattle.mufom_works.specs.Works.{Output, linked_file, locating_kept, product_with, work_of}
+use Rattle.mufom_works.specs.FlatFiles.{AreFlatFiles}
+use Rattle.mufom_works.specs.Result.{Answers}
 use Rattle.mufom_run_laws.specs.RunLaws.{Accepts, CameByStages, IsSameWork, IsUndisturbed}
 use Rattle.mufom_headline.specs.ReadBack.{IsPutInFile}
 

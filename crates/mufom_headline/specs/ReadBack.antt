@@ -6,13 +6,13 @@ use Rattle.mufom_module.specs.declared.module.Parts.{Parts}
 use Rattle.mufom_module.specs.Defects.{IsValid}
 use Rattle.mufom_module.specs.Made.{IsMade}
 use Rattle.mufom_module.specs.Written.{written}
-use Rattle.mufom_read.specs.Judging.{IsModule}
+use Rattle.mufom_judging.specs.Judging.{IsModule}
 use Rattle.mufom_groups.specs.Work.{gives}
 use Rattle.mufom_task.specs.declared.task.Inputs.{Inputs}
 use Rattle.mufom_task.specs.Calls.{Call}
 use Rattle.mufom_task.specs.Inputs.{module_files, root_count}
 use Rattle.mufom_task.specs.Reading.{modules_in}
-use Rattle.mufom_command.specs.Run.{MakesFile}
+use Rattle.mufom_works.specs.Run.{MakesFile}
 
 -- The module is one of those that are read for a task, at the place of the file with this number and name. A root has the place of its file.
 pub record IsReadAt (files : List NamedFile) (c : Inputs) (ms : List Parts) (k : ℕ) (name : List ℕ) (m : Parts) : Type 0 where

@@ -25,9 +25,9 @@ use Rattle.mufom_task.specs.declared.task.Task.{Task}
 use Rattle.mufom_task.specs.declared.task.Task.TheVariants as task
 use Rattle.mufom_task.specs.Calls.{Call}
 use Rattle.mufom_task.specs.Tasks.{request_of}
-use Rattle.mufom_command.specs.Works.{made, work_of}
-use Rattle.mufom_command.specs.Contract.{Answers}
-use Rattle.mufom_command.specs.Run.{MakesFile}
+use Rattle.mufom_works.specs.Works.{made, work_of}
+use Rattle.mufom_works.specs.Result.{Answers}
+use Rattle.mufom_works.specs.Run.{MakesFile}
 use Rattle.mufom_run_laws.specs.RunLaws.{IsUndisturbed}
 use Rattle.mufom_headline.specs.ReadBack.{IsReadBack}
 

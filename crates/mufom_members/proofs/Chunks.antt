@@ -8,7 +8,7 @@ use Rattle.mufom_module.specs.declared.module.Parts.{Parts}
 use Rattle.mufom_records.specs.declared.options.ReadOptions.{ReadOptions}
 use Rattle.mufom_read.specs.declared.refusal.ReadRefusal.{ReadRefusal}
 use Rattle.mufom_read.specs.declared.state.State.{State}
-use Rattle.mufom_read.specs.Judging.{IsJudged, refusal}
+use Rattle.mufom_judging.specs.Judging.{IsJudged, refusal}
 use Rattle.mufom_members.specs.Reading.{ArePartly, ArePending, IsBetween, StartAfter, AreRead}
 use Rattle.mufom_members.specs.Reading.{AreReadUpTo, IsReadModule, HasError, IsRefusedEarly, is_member_entry}
 use Rattle.mufom_members.proofs.EntryOrder.{contents_grow, contents_stay, entries_more, no_contents, part_of, start_after, start_before}

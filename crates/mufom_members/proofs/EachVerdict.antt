@@ -10,12 +10,12 @@ use Rattle.mufom_archive.specs.declared.listing.BadArchive.{BadArchive}
 use Rattle.mufom_archive.specs.Entries.{BeginsArchive, signature}
 use Rattle.mufom_archive.specs.Listings.{IsListing, Member}
 use Rattle.mufom_archive.proofs.ListingLaws.{each_listing}
-use Rattle.mufom_read.specs.Judging.{IsJudged, Judgment, module_of, refusal}
-use Rattle.mufom_read.proofs.ended.Prefix.{ended_prefix}
-use Rattle.mufom_read.proofs.judged.PrefixJudged.{has_judgment}
-use Rattle.mufom_read.proofs.judged.Stays.{AreBytes-drop, AreBytes-take}
-use Rattle.mufom_read.proofs.spelled.Judged.{judgments_exclude_each_other}
-use Rattle.mufom_read.proofs.weighing.Files.{files_weigh}
+use Rattle.mufom_judging.specs.Judging.{IsJudged, Judgment, module_of, refusal}
+use Rattle.mufom_judging.proofs.ended.Prefix.{ended_prefix}
+use Rattle.mufom_judging.proofs.judged.PrefixJudged.{has_judgment}
+use Rattle.mufom_judging.proofs.judged.Stays.{AreBytes-drop, AreBytes-take}
+use Rattle.mufom_judging.proofs.spelled.Judged.{judgments_exclude_each_other}
+use Rattle.mufom_judging.proofs.weighing.Files.{files_weigh}
 use Rattle.mufom_members.specs.Files.{AreModulesOf, IsArchiveVerdict, IsFirstRefused, IsPlainVerdict, IsVerdict, IsVerdictWithin, Verdict, accepted}
 use Rattle.mufom_members.specs.Files.{bad_archive, contents_at, past_limit, refused, verdict_on_prefix}
 use Rattle.mufom_members.specs.Laws.{HaveVerdict}

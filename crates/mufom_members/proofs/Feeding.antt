@@ -9,11 +9,11 @@ use Rattle.mufom_archive.proofs.StepLaws.{take_both}
 use Rattle.mufom_read.specs.declared.refusal.ReadStop.{ReadStop}
 use Rattle.mufom_read.specs.declared.refusal.ReadStop.TheVariants as read_stop
 use Rattle.mufom_read.specs.declared.state.State.{State}
-use Rattle.mufom_read.specs.Judging.{IsModule, IsRefusedAt}
+use Rattle.mufom_judging.specs.Judging.{IsModule, IsRefusedAt}
 use Rattle.mufom_read.specs.Reader.{Knows, options_of}
-use Rattle.mufom_read.specs.Source.{IsUnrefused}
+use Rattle.mufom_judging.specs.Limited.{IsUnrefused}
 use Rattle.mufom_read.proofs.feeding.Feed.{reading-not-refused}
-use Rattle.mufom_read.proofs.judged.Stays.{refusal_goes_on}
+use Rattle.mufom_judging.proofs.judged.Stays.{refusal_goes_on}
 use Rattle.mufom_members.specs.declared.content.Content.{Content}
 use Rattle.mufom_members.specs.declared.members.Members.{Members}
 use Rattle.mufom_members.specs.declared.members.MembersStop.{MembersStop}

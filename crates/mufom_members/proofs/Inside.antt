@@ -18,18 +18,18 @@ use Rattle.mufom_records.specs.Reading.{record_within}
 use Rattle.mufom_module.specs.SpelledRecords.{SpelledRecord}
 use Rattle.mufom_module.specs.RecordParts.{Part, section_part, external_part, debug_part}
 use Rattle.mufom_module.specs.Grammar.{file_limit}
-use Rattle.mufom_read.specs.Prefixes.{Step, raw, read, step_bytes, prefix_bytes, size_of}
-use Rattle.mufom_read.specs.Prefixes.{records_of, OffsetRecord, offset_record, offset_records_of, Extent, Location}
-use Rattle.mufom_read.specs.Prefixes.{in_header, in_part, at_end, as_step, body_mode, bytes_to_debug, header_mode, is_raw, location_after, next_step, part_at}
-use Rattle.mufom_read.specs.Prefixes.{offsets_of, raw_step, step_at}
-use Rattle.mufom_read.specs.Faults.{Fault, OpenBlock, ended_fault, ended_part_fault, external_fault, fault_after, fault_for, fault_if, first_fault}
-use Rattle.mufom_read.specs.Faults.{has_unknown_variable, header_fault, is_bad_descriptor, is_out_of_order, lacks_base, lacks_value, leaves_gap, open_blocks}
-use Rattle.mufom_read.specs.Faults.{open_fault, open_from, opened_after, record_fault, rule_broken, section_fault}
-use Rattle.mufom_read.specs.Faults.{step_fault, whole_fault}
-use Rattle.mufom_read.specs.Judging.{IsJudged, IsRefusedAt, IsSoundFrom, IsSoundPrefix, refusal, within_limit}
+use Rattle.mufom_judging.specs.Prefixes.{Step, raw, read, step_bytes, prefix_bytes, size_of}
+use Rattle.mufom_judging.specs.Prefixes.{records_of, OffsetRecord, offset_record, offset_records_of, Extent, Location}
+use Rattle.mufom_judging.specs.Prefixes.{in_header, in_part, at_end, as_step, body_mode, bytes_to_debug, header_mode, is_raw, location_after, next_step, part_at}
+use Rattle.mufom_judging.specs.Prefixes.{offsets_of, raw_step, step_at}
+use Rattle.mufom_judging.specs.Faults.{Fault, OpenBlock, ended_fault, ended_part_fault, external_fault, fault_after, fault_for, fault_if, first_fault}
+use Rattle.mufom_judging.specs.Faults.{has_unknown_variable, header_fault, is_bad_descriptor, is_out_of_order, lacks_base, lacks_value, leaves_gap, open_blocks}
+use Rattle.mufom_judging.specs.Faults.{open_fault, open_from, opened_after, record_fault, rule_broken, section_fault}
+use Rattle.mufom_judging.specs.Faults.{step_fault, whole_fault}
+use Rattle.mufom_judging.specs.Judging.{IsJudged, IsRefusedAt, IsSoundFrom, IsSoundPrefix, refusal, within_limit}
 use Rattle.mufom_read.proofs.NearFaults.{within-bad}
-use Rattle.mufom_read.proofs.ended.Walk.{IsNextAt, IsRaw, IsRead, next_at, prefix_first, size-append}
-use Rattle.mufom_read.proofs.judged.Stays.{AreBytes-drop, AreBytes-take}
+use Rattle.mufom_judging.proofs.ended.Walk.{IsNextAt, IsRaw, IsRead, next_at, prefix_first, size-append}
+use Rattle.mufom_judging.proofs.judged.Stays.{AreBytes-drop, AreBytes-take}
 
 -- the error is at this offset or before it
 abbrev IsWithin : ℕ → Option Fault → Type 0

@@ -9,12 +9,12 @@ use Rattle.mufom_module.specs.declared.module.Parts.{Parts}
 use Rattle.mufom_archive.specs.declared.listing.BadArchive.{BadArchive}
 use Rattle.mufom_archive.specs.Listings.{IsListing, Member}
 use Rattle.mufom_archive.proofs.ListingLaws.{one_listing}
-use Rattle.mufom_read.specs.Judging.{IsJudged, IsModule, IsRefusedAt, Judgment, module_of, refusal}
-use Rattle.mufom_read.specs.Source.{IsUnrefused}
-use Rattle.mufom_read.proofs.judged.PrefixJudged.{has_one_judgment}
-use Rattle.mufom_read.proofs.judged.PrefixesOne.{refusal_is_single}
-use Rattle.mufom_read.proofs.judged.Stays.{AreBytes-drop, AreBytes-take}
-use Rattle.mufom_read.proofs.spelled.Judged.{judgments_exclude_each_other}
+use Rattle.mufom_judging.specs.Judging.{IsJudged, IsModule, IsRefusedAt, Judgment, module_of, refusal}
+use Rattle.mufom_judging.specs.Limited.{IsUnrefused}
+use Rattle.mufom_judging.proofs.judged.PrefixJudged.{has_one_judgment}
+use Rattle.mufom_judging.proofs.judged.PrefixesOne.{refusal_is_single}
+use Rattle.mufom_judging.proofs.judged.Stays.{AreBytes-drop, AreBytes-take}
+use Rattle.mufom_judging.proofs.spelled.Judged.{judgments_exclude_each_other}
 use Rattle.mufom_members.specs.Files.{AreModulesOf, IsArchiveVerdict, IsFirstRefused, IsPlainVerdict, IsVerdictWithin, Verdict, accepted}
 use Rattle.mufom_members.specs.Files.{bad_archive, contents_at, past_limit, refused, verdict_on_prefix}
 use Rattle.mufom_members.specs.Laws.{HaveOneVerdict}

@@ -10,7 +10,7 @@ use Rattle.std.proofs.lemmas.List.Elements.{filter_map-append}
 use Rattle.mufom_numbers.specs.declared.reason.Reason.{Reason}
 use Rattle.mufom_records.specs.declared.options.ReadOptions.{ReadOptions}
 use Rattle.mufom_module.specs.declared.module.Parts.{Parts}
-use Rattle.mufom_read.specs.Judging.{IsJudged, IsModule, refusal}
+use Rattle.mufom_judging.specs.Judging.{IsJudged, IsModule, refusal}
 use Rattle.mufom_archive.specs.declared.entry.Entry.{Entry}
 use Rattle.mufom_archive.specs.declared.listing.BadArchive.{BadArchive}
 use Rattle.mufom_archive.specs.Names.{begins_past, ends_name, is_long_names, is_member, is_reference, long_name, name_of, trimmed, without_slash}
@@ -586,7 +586,7 @@ module _ (options : ReadOptions) (bytes more : List ℕ) where
     error =
         each.2.refused
         ∙ (λ i. first_error (length (bytes ++ more)) each.2.next
-            (find (is_refused (long_names (bytes ++ more) (split.1 i)) (length (bytes ++ more))) (split.1 i)))
+        (find (is_refused (long_names (bytes ++ more) (split.1 i)) (length (bytes ++ more))) (split.1 i)))
         ∙ ap (first_error (length (bytes ++ more)) each.2.next) both.0 ∙ ap (λ n. Some (record { offset = n })) it.place
 
     listed : each.0 ≡ members_of (long_names (bytes ++ more) (l.entries ++ split.0))

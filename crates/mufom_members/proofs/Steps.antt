@@ -9,7 +9,7 @@ use Rattle.mufom_module.specs.declared.module.Parts.{Parts}
 use Rattle.mufom_records.specs.declared.options.ReadOptions.{ReadOptions}
 use Rattle.mufom_read.specs.declared.refusal.ReadRefusal.{ReadRefusal}
 use Rattle.mufom_read.specs.declared.state.State.{State}
-use Rattle.mufom_read.specs.Judging.{IsJudged, refusal}
+use Rattle.mufom_judging.specs.Judging.{IsJudged, refusal}
 use Rattle.mufom_members.specs.Reading.{ArePartly, ArePending, IsBetween, AreRead, AreReadUpTo}
 use Rattle.mufom_members.specs.Reading.{IsReadModule, HasError, HasTaken, IsOpenAt, IsRefusedEarly, is_member_entry}
 use Rattle.mufom_members.proofs.EntryOrder.{contents_grow, part_of}

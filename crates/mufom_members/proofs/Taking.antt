@@ -12,7 +12,7 @@ use Rattle.mufom_read.specs.declared.refusal.ReadRefusal.{ReadRefusal}
 use Rattle.mufom_read.specs.declared.refusal.ReadStop.{ReadStop}
 use Rattle.mufom_read.specs.declared.refusal.ReadStop.TheVariants as read_stop
 use Rattle.mufom_read.specs.declared.state.State.{State}
-use Rattle.mufom_read.specs.Judging.{IsJudged, IsRefusedAt, refusal}
+use Rattle.mufom_judging.specs.Judging.{IsJudged, IsRefusedAt, refusal}
 use Rattle.mufom_read.specs.Reader.{HasRead, Knows, answer_of, options_of, reader_stop}
 use Rattle.mufom_read.proofs.feeding.Feed.{the_refusal}
 use Rattle.mufom_members.specs.Reading.{IsReadModule, HasTaken, IsMoved, IsOpen, IsSmall}

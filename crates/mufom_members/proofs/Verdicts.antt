@@ -16,9 +16,9 @@ use Rattle.mufom_module.specs.declared.module.Parts.{Parts}
 use Rattle.mufom_records.specs.declared.options.ReadOptions.{ReadOptions}
 use Rattle.mufom_read.specs.declared.refusal.ReadRefusal.{ReadRefusal}
 use Rattle.mufom_read.specs.declared.state.State.{State}
-use Rattle.mufom_read.specs.Judging.{IsJudged, IsRefusedAt, refusal}
+use Rattle.mufom_judging.specs.Judging.{IsJudged, IsRefusedAt, refusal}
 use Rattle.mufom_numbers.specs.declared.reason.Reason.{Reason}
-use Rattle.mufom_read.proofs.judged.Stays.{refusal_goes_on}
+use Rattle.mufom_judging.proofs.judged.Stays.{refusal_goes_on}
 use Rattle.mufom_members.specs.Files.{AreModulesOf, IsFirstRefused}
 use Rattle.mufom_members.specs.Reading.{StartAfter, IsRefusedEarly, ArePending, AreRead, HasError, is_member_entry}
 use Rattle.mufom_members.proofs.EntryOrder.{contents_length, start_after}

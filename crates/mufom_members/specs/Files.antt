@@ -6,8 +6,8 @@ use Rattle.mufom_archive.specs.Listings.{IsListing, Member, lacks_long_name}
 use Rattle.mufom_numbers.specs.declared.reason.Reason.{Reason}
 use Rattle.mufom_module.specs.declared.module.Parts.{Parts}
 use Rattle.mufom_records.specs.declared.options.ReadOptions.{ReadOptions}
-use Rattle.mufom_read.specs.Judging.{refusal, IsModule, IsJudged}
-use Rattle.mufom_read.specs.Source.{IsRefusedWithin, IsPastLimit}
+use Rattle.mufom_judging.specs.Judging.{refusal, IsModule, IsJudged}
+use Rattle.mufom_judging.specs.Limited.{IsRefusedWithin, IsPastLimit}
 
 -- the contents of a member of an archive
 abbrev pub contents_at : List ℕ → Member → List ℕ

@@ -22,7 +22,7 @@ use Rattle.mufom_read.specs.declared.refusal.ReadRefusal.{ReadRefusal}
 use Rattle.mufom_read.specs.declared.state.State.{State}
 use Rattle.mufom_numbers.specs.Spelling.{AreBytes}
 use Rattle.mufom_read.specs.Reader.{HasRead, options_of, reader_stop}
-use Rattle.mufom_read.specs.Judging.{refusal, IsModule, IsJudged, IsRefusedAt}
+use Rattle.mufom_judging.specs.Judging.{refusal, IsModule, IsJudged, IsRefusedAt}
 
 -- the entry is a member
 abbrev pub is_member_entry : Entry → Bool

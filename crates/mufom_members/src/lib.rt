@@ -1,7 +1,7 @@
 //! The modules of a file, which may be an archive: reads them from a source.
 //!
 //! [`read_members`] reads an archive as the modules of its members, and any other file as
-//! `mufom_read::read_module` does. Its main clause is that each of its results, except a failed read and out
+//! `mufom_source::read_module` does. Its main clause is that each of its results, except a failed read and out
 //! of memory, is the verdict on the bytes of the file, and that they have only one.
 #![tactic(auto)]
 

@@ -3,8 +3,8 @@ use Rattle.std.proofs.Common.{◌≡◌, List, [], None, sym, ap, subst, ◌∙�
 use Rattle.mufom_module.specs.RecordParts.{section_part, external_part, debug_part}
 use Rattle.mufom_module.specs.Grammar.{FollowFrom}
 use Rattle.mufom_read.specs.declared.prefix.Prefix.{Prefix}
-use Rattle.mufom_read.specs.Prefixes.{Step, size_of, offset_records_of}
-use Rattle.mufom_read.specs.Faults.{first_fault, section_fault, external_fault, open_fault, whole_fault}
+use Rattle.mufom_judging.specs.Prefixes.{Step, size_of, offset_records_of}
+use Rattle.mufom_judging.specs.Faults.{first_fault, section_fault, external_fault, open_fault, whole_fault}
 use Rattle.mufom_read.specs.Kept.{tables_of}
 use Rattle.mufom_read.specs.SectionsSoFar.{first_unbased}
 use Rattle.mufom_read.specs.NamesSoFar.{public_faults, least_from}

@@ -5,7 +5,7 @@ use Rattle.mufom_numbers.specs.Spelling.{SpellsNumber}
 use Rattle.mufom_records.specs.declared.record.Mode.TheVariants as mode
 use Rattle.mufom_records.specs.declared.record.Record.TheVariants as r
 use Rattle.mufom_records.specs.Layouts
-use Rattle.mufom_read.proofs.ended.Rows.{begin_row, descriptor_row, offset_row, body_kind, items_kind}
+use Rattle.mufom_judging.proofs.ended.Rows.{begin_row, descriptor_row, offset_row, body_kind, items_kind}
 use Rattle.mufom_read.proofs.OwnParts.{body_owned, item_owned, gnu_item_owned, begin_owned}
 use Rattle.mufom_records.specs.declared.record.Mode.{Mode}
 use Rattle.mufom_records.specs.declared.record.Record.{Record}
@@ -15,33 +15,9 @@ use Rattle.mufom_module.specs.RecordParts.{items_mode}
 use Rattle.mufom_module.specs.Grammar.{offset_in}
 use Rattle.mufom_read.specs.declared.prefix.Location as code
 use Rattle.mufom_read.specs.declared.prefix.Location.TheVariants as fault_offset
-use Rattle.mufom_read.specs.Prefixes.{Step, header_mode}
+use Rattle.mufom_judging.specs.Prefixes.{Step, header_mode}
 use Rattle.mufom_read.specs.PrefixOfCode.{IsHeaderRow, IsPlacedWell, as_location, mode_at}
-use Rattle.mufom_read.specs.DebugSoFar.{HasKind}
-
-number_some : (n : ℕ) (bytes : List ℕ) → SpellsNumber n bytes → 0 < length bytes
-number_some n [] is = absurd is
-number_some n (b ∷ bytes) is = omega arith
-
-byte_some : (b : ℕ) (prefix back bytes : List ℕ) → prefix ≡ b ∷ [] → bytes ≡ prefix ++ back → 0 < length bytes
-byte_some b prefix back bytes is all = omega (arith, ap length is, ap length all, length-append prefix back)
-
-item_some : (row : Record) (at : ℕ) (after : Option ℕ) (back bytes : List ℕ)
-    → Layouts.SpellsRecord (Layouts.constant r.ConstantItem) row at back after → bytes ≡ back → 0 < length bytes
-item_some row at after back bytes is all = omega (arith, number_some is.0 is.1 is.3.0, ap length is.5, length-append is.1 is.2, ap length all)
-
--- it has a byte
-pub got-some : (m : Mode) (row : Record) (bytes : List ℕ) (after : Option ℕ) → Layouts.IsWholeRecord m row bytes after → 0 < length bytes
-got-some mode.Begin row bytes after is = byte_some is.0 is.1 is.2 bytes is.3 is.5
-got-some mode.Descriptor row bytes after is = byte_some is.0 is.1 is.2 bytes is.3 is.5
-got-some (mode.Offset k) row bytes after is = byte_some is.0 is.1 is.2 bytes is.3 is.5
-got-some mode.Body row bytes after is = byte_some is.0 is.1 is.2 bytes is.3 is.5
-got-some mode.Items row bytes after (None, prefix, back, none, constant, all) =
-    item_some row (0 + length prefix) after back bytes constant (all ∙ ap (λ l. l ++ back) none.0)
-got-some mode.Items row bytes after (Some b, prefix, back, here, field, all) = byte_some b prefix back bytes here.0 all
-got-some mode.GnuItems row bytes after (None, prefix, back, none, constant, all) =
-    item_some row (0 + length prefix) after back bytes constant (all ∙ ap (λ l. l ++ back) none.0)
-got-some mode.GnuItems row bytes after (Some b, prefix, back, here, field, all) = byte_some b prefix back bytes here.0 all
+use Rattle.mufom_judging.specs.RecordFields.{HasKind}
 
 -- the positions in a record are within its bytes
 pub got-own : (m : Mode) (row : Record) (bytes : List ℕ) (after : Option ℕ) → Layouts.IsWholeRecord m row bytes after → HasParts bytes row

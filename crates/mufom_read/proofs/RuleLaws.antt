@@ -20,8 +20,8 @@ use Rattle.mufom_module.specs.SpelledRecords.{SpelledRecord, FileIndex, is_decla
 use Rattle.mufom_module.specs.SpelledRecords.{index_of_variable, tree_of_record}
 use Rattle.mufom_module.specs.RecordParts.{is_loading, is_set_section}
 use Rattle.mufom_module.specs.Grammar.{declares_again, states_again, names_unknown, has_no_section}
-use Rattle.mufom_read.specs.Prefixes.{Step, records_of, offset_records_of}
-use Rattle.mufom_read.specs.Faults.{set_by, counter_allowed, misplaces_counter, open_blocks, ends_badly, is_too_deep, has_bad_alignment, rule_broken}
+use Rattle.mufom_judging.specs.Prefixes.{Step, records_of, offset_records_of}
+use Rattle.mufom_judging.specs.Faults.{set_by, counter_allowed, misplaces_counter, open_blocks, ends_badly, is_too_deep, has_bad_alignment, rule_broken}
 use Rattle.mufom_read.specs.Kept.{tables_of, statements, declares_again_in, states_again_in, is_declared_in, is_unknown, names_unknown_in}
 use Rattle.mufom_read.specs.Kept.{has_no_section_in, counter_allowed_in, misplaces_counter_in, rule_broken_in}
 use Rattle.mufom_read.proofs.TableLaws.{alignment-has, size-has, base-has, value-has, weakness-has}

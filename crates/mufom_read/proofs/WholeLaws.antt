@@ -7,8 +7,8 @@ use Rattle.mufom_numbers.specs.declared.reason.Reason.TheVariants as why
 use Rattle.mufom_records.specs.declared.record.Record.{Record}
 use Rattle.mufom_module.specs.Contents.{any_of}
 use Rattle.mufom_module.specs.SpelledRecords.{SpelledRecord, is_public_value, tree_of_record}
-use Rattle.mufom_read.specs.Prefixes.{OffsetRecord, first_present}
-use Rattle.mufom_read.specs.Faults.{Fault, leaves_gap, fault_if, first_fault, public_declared, lacks_value, has_unknown_variable, external_fault}
+use Rattle.mufom_judging.specs.Prefixes.{OffsetRecord, first_present}
+use Rattle.mufom_judging.specs.Faults.{Fault, leaves_gap, fault_if, first_fault, public_declared, lacks_value, has_unknown_variable, external_fault}
 use Rattle.mufom_read.specs.Kept.{tables_of, statements, lacks_value_in, has_unknown_value_in, external_fault_in, first_or}
 use Rattle.mufom_read.proofs.TableLaws.{value-has}
 use Rattle.mufom_read.proofs.RuleLaws.{known-tree}

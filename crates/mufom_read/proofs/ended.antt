@@ -1,23 +1,4 @@
--- A sound prefix that ends is a module's file, and states the module.
-pub mod Walk
-pub mod Rows
-pub mod Header
-pub mod Seen
-pub mod Parts
-pub mod Chunks
-pub mod Nesting
-pub mod Blocks
-pub mod Sliced
-pub mod Slicing
-pub mod Names
-pub mod Gathered
-pub mod Stated
-pub mod Trees
-pub mod Good
-pub mod Entries
-pub mod Loads
-pub mod Debug
+-- What the code keeps of a sound prefix that has ended is the module that the prefix states.
 pub mod LoadsWhole
-pub mod Prefix
 pub mod DebugKept
 pub mod Built

@@ -9,9 +9,7 @@ pub mod PublicSteps
 pub mod MarkSteps
 pub mod PublicLaws
 pub mod PublicFaults
-pub mod BlockKinds
 pub mod LoadLaws
-pub mod Stable
 pub mod LoadsFold
 pub mod DebugSteps
 pub mod Contents

@@ -4,8 +4,8 @@ use Rattle.mufom_numbers.specs.Spelling.{AreBytes}
 use Rattle.mufom_module.specs.declared.module.Parts.{Parts}
 use Rattle.mufom_module.specs.Grammar.{file_limit}
 use Rattle.mufom_read.specs.declared.prefix.Prefix.{Prefix}
-use Rattle.mufom_read.specs.Prefixes.{Step, size_of, is_ended}
-use Rattle.mufom_read.specs.Judging.{IsSoundPrefix}
+use Rattle.mufom_judging.specs.Prefixes.{Step, size_of, is_ended}
+use Rattle.mufom_judging.specs.Judging.{IsSoundPrefix}
 use Rattle.mufom_read.specs.Kept.{indexes_by}
 use Rattle.mufom_read.specs.NamesSoFar.{placed_public}
 use Rattle.mufom_read.specs.LoadsSoFar.{closed}

@@ -7,7 +7,7 @@ use Rattle.mufom_module.specs.Gathered.{references_of, start_by}
 use Rattle.mufom_module.specs.Grammar.{Follows, FollowFrom}
 use Rattle.mufom_read.specs.declared.tables.Tables.{Tables}
 use Rattle.mufom_read.specs.declared.contents.Contents.{Contents}
-use Rattle.mufom_read.specs.Prefixes.{OffsetRecord}
+use Rattle.mufom_judging.specs.Prefixes.{OffsetRecord}
 use Rattle.mufom_read.specs.Kept.{tables_of, indexes_by}
 use Rattle.mufom_read.specs.HeaderSoFar.{names_in, layout_in}
 use Rattle.mufom_read.specs.SectionsSoFar.{AreSectionsOf}

@@ -1,33 +1,17 @@
 -- The debug items read so far, and the blocks that are still open, as the code keeps them.
-use Rattle.std.specs.Prelude.{◌≡◌, ◌⊎◌, ℕ, List, [], ◌∷◌, ◌++◌, map}
+use Rattle.std.specs.Prelude.{◌≡◌, ℕ, List, [], ◌∷◌, ◌++◌, map}
 use Rattle.std.specs.List.{cons_option}
-use Rattle.mufom_records.specs.declared.record.BlockTail.{BlockTail}
-use Rattle.mufom_records.specs.declared.record.BlockTail.TheVariants as tail
-use Rattle.mufom_records.specs.declared.record.Record.{Record}
-use Rattle.mufom_records.specs.declared.record.Record.TheVariants as r
 use Rattle.mufom_debug.specs.Marks.{DebugMark, block_begin, joined, marks_of, kind_number}
 use Rattle.mufom_module.specs.SpelledRecords.{SpelledRecord}
 use Rattle.mufom_module.specs.Gathered.{mark_by}
 use Rattle.mufom_read.specs.declared.debug.OpenBlock as code
 use Rattle.mufom_read.specs.declared.debug.Debugs.{Debugs}
-use Rattle.mufom_read.specs.Prefixes.{OffsetRecord}
-use Rattle.mufom_read.specs.Faults.{OpenBlock, open_blocks}
+use Rattle.mufom_judging.specs.Prefixes.{OffsetRecord}
+use Rattle.mufom_judging.specs.Faults.{OpenBlock, open_blocks}
 use Rattle.mufom_read.specs.Kept.{tables_of, indexes_by}
 use Rattle.mufom_read.specs.NamesSoFar.{records_in}
 
 -- ---- blocks
-
--- the kind of the block has these fields
-abbrev pub FitsKind : ℕ → BlockTail → Type 0
-FitsKind kind tail.Module = kind ≡ 3
-FitsKind kind (tail.Scope stack type_index offset) = (kind ≡ 4) ⊎ (kind ≡ 6)
-FitsKind kind (tail.Source ns) = kind ≡ 5
-FitsKind kind (tail.Section section_type section offset) = kind ≡ 11
-
--- the same for the block that the record begins, if it begins one
-abbrev pub HasKind : Record → Type 0
-HasKind (r.BlockBegin kind n name block) = FitsKind kind block
-HasKind _ = Unit {0}
 
 -- an open block of the code as a block of the spec: its offset and its kind
 abbrev pub as_opened : code.OpenBlock → OpenBlock

@@ -1,14 +1,13 @@
 -- What the header states so far: the names of the module, the number of MAUs in an address, and the byte order.
-use Rattle.std.specs.Prelude.{ℕ, ◌==◌, min, List, filter_map, slice_get, Option, Some, None, if◌then◌else◌}
+use Rattle.std.specs.Prelude.{ℕ, min, List, filter_map, slice_get, Option, Some, None}
 use Rattle.std.specs.Option.{option_or}
-use Rattle.mufom_numbers.specs.declared.codes.TheConstants.{LETTER_L}
 use Rattle.mufom_numbers.specs.declared.taken.Span.{Span}
 use Rattle.mufom_records.specs.declared.record.Record.{Record}
 use Rattle.mufom_records.specs.declared.record.Record.TheVariants as r
 use Rattle.mufom_module.specs.declared.module.Order.{Order}
-use Rattle.mufom_module.specs.declared.module.Order.TheVariants.{Least, Most}
 use Rattle.mufom_module.specs.SpelledRecords.{SpelledRecord, text_in}
 use Rattle.mufom_module.specs.Gathered.{first_answer}
+use Rattle.mufom_judging.specs.RecordFields.{order_of}
 use Rattle.mufom_read.specs.declared.header.Names.{Names}
 use Rattle.mufom_read.specs.declared.header.Addressing.{Addressing}
 use Rattle.mufom_read.specs.declared.header.Header.{Header}
@@ -21,11 +20,6 @@ names_at p processor name = record { processor = text_in p processor; name = tex
 abbrev pub names_by : SpelledRecord → Record → Option Names
 names_by p (r.ModuleBegin processor name) = Some (names_at p processor name)
 names_by p _ = None
-
--- the byte order that a letter selects: the most significant byte first if there is no letter
-abbrev pub order_of : Option ℕ → Order
-order_of None = Most
-order_of (Some letter) = if LETTER_L == letter then Least else Most
 
 -- The number of MAUs in an address, capped at 8, and the byte order.
 abbrev pub layout_from : ℕ → Option ℕ → Addressing

@@ -21,8 +21,8 @@ use Rattle.std.specs.Option.{option_or}
 use Rattle.mufom_records.specs.Parts.{HasParts}
 use Rattle.mufom_read.specs.declared.seen.SeenRecord.{SeenRecord}
 use Rattle.mufom_read.specs.declared.refusal.ReadRefusal.{ReadRefusal}
-use Rattle.mufom_read.specs.Prefixes.{OffsetRecord}
-use Rattle.mufom_read.specs.Faults.{Fault, fault_if, OpenBlock, ends_badly, is_too_deep, current_section, has_bad_alignment, public_declared}
+use Rattle.mufom_judging.specs.Prefixes.{OffsetRecord}
+use Rattle.mufom_judging.specs.Faults.{Fault, fault_if, OpenBlock, ends_badly, is_too_deep, current_section, has_bad_alignment, public_declared}
 
 -- ---- what records state once
 

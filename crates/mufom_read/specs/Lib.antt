@@ -1,14 +1,8 @@
-pub mod Prefixes
-pub mod Faults
-pub mod Judging
-pub mod Stated
-pub mod Laws
 pub mod PartsOfCode
 pub mod Kept
 pub mod PrefixOfCode
 pub mod Reader
 pub mod Built
-pub mod Source
 pub mod LoadsSoFar
 pub mod DebugSoFar
 pub mod NamesSoFar

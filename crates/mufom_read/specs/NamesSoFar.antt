@@ -16,8 +16,8 @@ use Rattle.mufom_read.specs.declared.publics.PublicMark.{PublicMark}
 use Rattle.mufom_read.specs.declared.publics.PublicMark.TheVariants.{Declared, Valued}
 use Rattle.mufom_read.specs.declared.publics.Publics.{Publics}
 use Rattle.mufom_read.specs.declared.tables.Tables.{Tables}
-use Rattle.mufom_read.specs.Prefixes.{OffsetRecord}
-use Rattle.mufom_read.specs.Faults.{Fault, fault_if}
+use Rattle.mufom_judging.specs.Prefixes.{OffsetRecord}
+use Rattle.mufom_judging.specs.Faults.{Fault, fault_if}
 use Rattle.mufom_read.specs.Kept.{is_unknown}
 
 -- the value of the public with this index, over the indexes of the file; 0 until a value is stated

@@ -19,17 +19,17 @@ use Rattle.mufom_read.specs.declared.part.Part.TheVariants as part_of_code
 use Rattle.mufom_read.specs.declared.part.Extent as extents
 use Rattle.mufom_read.specs.declared.prefix.Next.{Next}
 use Rattle.mufom_read.specs.declared.prefix.Next.TheVariants as next
-use Rattle.mufom_read.specs.Prefixes.{Step, step_bytes, read, header_mode, body_mode}
-use Rattle.mufom_read.specs.Prefixes.{bytes_to_debug, is_raw, part_among, parts_in_order, location_by, location_after}
-use Rattle.mufom_read.specs.Prefixes.{size_of, records_of, offset_records_of, offsets_of, first_present, header_count, Location, in_header, in_part}
-use Rattle.mufom_read.specs.Prefixes.{at_end, next_step, awaits_items, is_module_end, is_ended}
-use Rattle.mufom_read.specs.Faults.{open_blocks, ends_badly, record_fault, step_fault, ended_part_fault, fault_after}
-use Rattle.mufom_read.specs.Judging.{IsSoundFrom}
-use Rattle.mufom_read.specs.Stated.{part_bytes}
+use Rattle.mufom_judging.specs.Prefixes.{Step, step_bytes, read, header_mode, body_mode}
+use Rattle.mufom_judging.specs.Prefixes.{bytes_to_debug, is_raw, part_among, parts_in_order, location_by, location_after}
+use Rattle.mufom_judging.specs.Prefixes.{size_of, records_of, offset_records_of, offsets_of, first_present, header_count, Location, in_header, in_part}
+use Rattle.mufom_judging.specs.Prefixes.{at_end, next_step, awaits_items, is_module_end, is_ended}
+use Rattle.mufom_judging.specs.Faults.{open_blocks, ends_badly, record_fault, step_fault, ended_part_fault, fault_after}
+use Rattle.mufom_judging.specs.Judging.{IsSoundFrom}
+use Rattle.mufom_judging.specs.Stated.{part_bytes}
 use Rattle.mufom_read.specs.PartsOfCode.{as_part, as_extent}
 use Rattle.mufom_read.specs.Kept.{tables_of, with_row, is_new, as_fault}
 use Rattle.mufom_read.specs.NamesSoFar.{AreRising}
-use Rattle.mufom_read.specs.DebugSoFar.{HasKind}
+use Rattle.mufom_judging.specs.RecordFields.{HasKind}
 use Rattle.mufom_read.specs.ContentsSoFar.{AreContentsOf}
 use Rattle.mufom_records.specs.declared.options.ReadOptions.{ReadOptions}
 

@@ -8,9 +8,9 @@ use Rattle.mufom_read.specs.declared.prefix.Prefix.{Prefix}
 use Rattle.mufom_read.specs.declared.state.State.{State}
 use Rattle.mufom_read.specs.declared.refusal.ReadStop.{ReadStop}
 use Rattle.mufom_read.specs.declared.refusal.ReadStop.TheVariants as stop
-use Rattle.mufom_read.specs.Prefixes.{Step, size_of, next_step, is_ended}
-use Rattle.mufom_read.specs.Faults.{ended_part_fault, fault_after}
-use Rattle.mufom_read.specs.Judging.{IsSoundFrom, IsSoundPrefix, IsRefusedAt}
+use Rattle.mufom_judging.specs.Prefixes.{Step, size_of, next_step, is_ended}
+use Rattle.mufom_judging.specs.Faults.{ended_part_fault, fault_after}
+use Rattle.mufom_judging.specs.Judging.{IsSoundFrom, IsSoundPrefix, IsRefusedAt}
 use Rattle.mufom_read.specs.Kept.{as_fault}
 use Rattle.mufom_read.specs.PrefixOfCode.{IsPrefixOf}
 use Rattle.mufom_records.specs.declared.options.ReadOptions.{ReadOptions}

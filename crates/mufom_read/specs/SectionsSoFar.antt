@@ -9,8 +9,8 @@ use Rattle.mufom_module.specs.SpelledRecords.{SpelledRecord, section, declared}
 use Rattle.mufom_module.specs.Gathered.{sections_of}
 use Rattle.mufom_module.specs.Grammar.{Follows, FollowFrom}
 use Rattle.mufom_read.specs.declared.sections.Sections.{Sections}
-use Rattle.mufom_read.specs.Prefixes.{OffsetRecord}
-use Rattle.mufom_read.specs.Faults.{Fault, fault_if}
+use Rattle.mufom_judging.specs.Prefixes.{OffsetRecord}
+use Rattle.mufom_judging.specs.Faults.{Fault, fault_if}
 use Rattle.mufom_read.specs.NamesSoFar.{records_in}
 
 -- the offset of the record, if it declares a section

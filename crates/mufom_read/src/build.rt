@@ -6,7 +6,7 @@ ghost use Rattle.mufom_module.specs.Grammar.{SpellsModule};
 ghost use Rattle.mufom_read.specs.declared.header.Names as its_names;
 ghost use Rattle.mufom_read.specs.declared.header.Addressing as its_layout;
 ghost use Rattle.mufom_read.specs.HeaderSoFar.{header_with};
-ghost use Rattle.mufom_read.specs.Prefixes.{Step};
+ghost use Rattle.mufom_judging.specs.Prefixes.{Step};
 ghost use Rattle.mufom_read.specs.Built.{IsStatedByKept, IsWhole};
 ghost use Rattle.mufom_records.specs.declared.options.ReadOptions.{ReadOptions};
 

@@ -2,10 +2,11 @@
 
 ghost use Rattle.std.specs.Prelude.{◌≡◌, ◌<◌, ◌^◌, ◌++◌, ◌∷◌, [], false, List, OnOk};
 ghost use Rattle.mufom_module.specs.SpelledRecords as records;
-ghost use Rattle.mufom_read.specs.Prefixes.{OffsetRecord};
-ghost use Rattle.mufom_read.specs.Faults as faults;
+ghost use Rattle.mufom_judging.specs.Prefixes.{OffsetRecord};
+ghost use Rattle.mufom_judging.specs.Faults as faults;
 ghost use Rattle.mufom_read.specs.Kept.{record_of_seen, placed, HasOwnParts};
-ghost use Rattle.mufom_read.specs.DebugSoFar.{HasKind, opened};
+ghost use Rattle.mufom_read.specs.DebugSoFar.{opened};
+ghost use Rattle.mufom_judging.specs.RecordFields.{HasKind};
 ghost use Rattle.mufom_read.specs.ContentsSoFar.{AreContentsOf, AreContentsBefore};
 
 use crate::debug::Debugs;

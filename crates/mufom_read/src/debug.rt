@@ -7,9 +7,10 @@ ghost use Rattle.mufom_debug.specs.Marks.{block_begin, block_end, name_mark, not
 ghost use Rattle.mufom_module.specs.SpelledRecords as records;
 ghost use Rattle.mufom_module.specs.RecordParts as parts;
 ghost use Rattle.mufom_module.specs.Gathered as gathered;
-ghost use Rattle.mufom_read.specs.Faults as faults;
+ghost use Rattle.mufom_judging.specs.Faults as faults;
 ghost use Rattle.mufom_read.specs.Kept.{indexes_by, record_of_seen, HasOwnParts, as_fault};
-ghost use Rattle.mufom_read.specs.DebugSoFar.{HasKind, stacked, opened, marks_kept};
+ghost use Rattle.mufom_read.specs.DebugSoFar.{stacked, opened, marks_kept};
+ghost use Rattle.mufom_judging.specs.RecordFields.{HasKind};
 
 use crate::positions::{position_in, renamed};
 use crate::publics::{note, stated};

@@ -4,9 +4,10 @@ ghost use Rattle.std.specs.Prelude.{◌≡◌, ◌++◌, ◌∷◌, [], Some, No
 ghost use Rattle.std.specs.List.{list_any};
 ghost use Rattle.std.specs.Option.{option_or};
 ghost use Rattle.mufom_records.specs.Parts.{LiesIn};
-ghost use Rattle.mufom_read.specs.Faults as faults;
+ghost use Rattle.mufom_judging.specs.Faults as faults;
 ghost use Rattle.mufom_read.specs.Kept.{as_fault, first_or, record_of_seen, HasOwnParts};
-ghost use Rattle.mufom_read.specs.HeaderSoFar.{order_of, names_at, layout_from, header_with, header_after};
+ghost use Rattle.mufom_read.specs.HeaderSoFar.{names_at, layout_from, header_with, header_after};
+ghost use Rattle.mufom_judging.specs.RecordFields.{order_of};
 ghost use Rattle.mufom_read.specs.LoadsSoFar.{units_or};
 
 use crate::part::first_present;

@@ -1,7 +1,7 @@
 //! The parts of a file, and which of them a byte is in.
 
 ghost use Rattle.std.specs.Prelude.{◌≡◌, option_map};
-ghost use Rattle.mufom_read.specs.Prefixes.{first_present, part_among, parts_in_order, is_raw};
+ghost use Rattle.mufom_judging.specs.Prefixes.{first_present, part_among, parts_in_order, is_raw};
 ghost use Rattle.mufom_module.specs.RecordParts as parts;
 ghost use Rattle.mufom_read.specs.PartsOfCode.{as_part, as_parts, as_extent};
 

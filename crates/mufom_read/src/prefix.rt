@@ -5,11 +5,12 @@ ghost use Rattle.std.specs.Prelude.{Some, OnOk, List, length, take, None, option
 ghost use Rattle.std.specs.List.{cons_option};
 ghost use Rattle.mufom_module.specs.SpelledRecords as records;
 ghost use Rattle.mufom_module.specs.RecordParts as parts;
-ghost use Rattle.mufom_read.specs.Prefixes as prefixes;
-ghost use Rattle.mufom_read.specs.Faults as faults;
+ghost use Rattle.mufom_judging.specs.Prefixes as prefixes;
+ghost use Rattle.mufom_judging.specs.Faults as faults;
 ghost use Rattle.mufom_read.specs.PartsOfCode.{as_part, as_extent};
 ghost use Rattle.mufom_read.specs.Kept.{record_of_seen, placed, HasOwnParts, HasRoom, is_new, as_fault};
-ghost use Rattle.mufom_read.specs.DebugSoFar.{HasKind, opened};
+ghost use Rattle.mufom_read.specs.DebugSoFar.{opened};
+ghost use Rattle.mufom_judging.specs.RecordFields.{HasKind};
 ghost use Rattle.mufom_read.specs.ContentsSoFar.{AreContentsOf, AreContentsBefore, AreMarked};
 ghost use Rattle.mufom_read.specs.PrefixOfCode.{IsPrefixOf, IsRead, IsRawPart, HasJudged, HasRaw, HasSkipped, IsPlacedWell, with_record, as_location};
 ghost use Rattle.mufom_read.specs.PrefixOfCode.{next_location, is_inside, mode_at, end_at, HasTaken, IsStepTaken, HasAdvanced};

@@ -8,7 +8,7 @@ ghost use Rattle.mufom_names.specs.declared.name.Public as name_public;
 ghost use Rattle.mufom_module.specs.SpelledRecords as records;
 ghost use Rattle.mufom_module.specs.Gathered as gathered;
 ghost use Rattle.mufom_read.specs.declared.publics.PublicMark.TheVariants.{Declared, Valued};
-ghost use Rattle.mufom_read.specs.Prefixes.{OffsetRecord};
+ghost use Rattle.mufom_judging.specs.Prefixes.{OffsetRecord};
 ghost use Rattle.mufom_read.specs.Kept.{record_of_seen, placed, HasOwnParts, indexes_by, as_fault};
 ghost use Rattle.mufom_read.specs.NamesSoFar.{ArePublicsOf, IsBefore, placed_public, value_fault, public_faults, earlier, least_from};
 

@@ -4,7 +4,7 @@ ghost use Rattle.std.specs.Prelude.{◌≡◌, ◌≢◌, ◌↔◌, ◌<◌, �
 ghost use Rattle.mufom_numbers.specs.declared.reason.Reason.{Reason};
 ghost use Rattle.mufom_module.specs.declared.module.Parts.{Parts};
 ghost use Rattle.mufom_module.specs.Written.{weight};
-ghost use Rattle.mufom_read.specs.Judging.{IsRefusedAt, IsPending, IsModule, IsJudged, refusal};
+ghost use Rattle.mufom_judging.specs.Judging.{IsRefusedAt, IsPending, IsModule, IsJudged, refusal};
 ghost use Rattle.mufom_read.specs.Reader.{HasRead, reader_stop, options_of, answer_of};
 
 use crate::build::module_of;

@@ -3,7 +3,7 @@
 ghost use Rattle.std.specs.Prelude.{◌≡◌, ◌<◌, ◌^◌, ◌++◌, ◌∷◌, [], List, length, slice_get, slice_set, None, Some, OnOk, option_map};
 ghost use Rattle.mufom_sections.specs.declared.section.Section as its_section;
 ghost use Rattle.mufom_module.specs.Gathered as gathered;
-ghost use Rattle.mufom_read.specs.Prefixes.{OffsetRecord};
+ghost use Rattle.mufom_judging.specs.Prefixes.{OffsetRecord};
 ghost use Rattle.mufom_read.specs.Kept.{record_of_seen, placed, HasOwnParts, as_fault};
 ghost use Rattle.mufom_read.specs.SectionsSoFar.{AreSectionsOf, AreSectionsBefore, is_unbased, first_unbased};
 

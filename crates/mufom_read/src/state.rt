@@ -3,8 +3,8 @@
 ghost use Rattle.std.specs.Prelude.{◌≡◌, ◌+◌, ◌-◌, ◌<◌, ◌≤◌, nat_lt, ℕ, Bool, true, false, List, [], ◌++◌, length, take, drop, None, IfOk, OnOk};
 ghost use Rattle.mufom_numbers.specs.Spelling.{AreBytes};
 ghost use Rattle.mufom_module.specs.Grammar.{file_limit};
-ghost use Rattle.mufom_read.specs.Prefixes.{Step, is_ended};
-ghost use Rattle.mufom_read.specs.Faults.{ended_part_fault};
+ghost use Rattle.mufom_judging.specs.Prefixes.{Step, is_ended};
+ghost use Rattle.mufom_judging.specs.Faults.{ended_part_fault};
 ghost use Rattle.mufom_read.specs.PrefixOfCode.{IsPrefixOf};
 ghost use Rattle.mufom_read.specs.Reader.{
   HasTakenAll,

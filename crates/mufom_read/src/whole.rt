@@ -2,9 +2,9 @@
 
 ghost use Rattle.std.specs.Prelude.{◌≡◌, List, option_map};
 ghost use Rattle.mufom_read.specs.declared.prefix.Prefix.{Prefix};
-ghost use Rattle.mufom_read.specs.Prefixes.{Step};
+ghost use Rattle.mufom_judging.specs.Prefixes.{Step};
 ghost use Rattle.mufom_read.specs.PrefixOfCode.{IsPrefixOf};
-ghost use Rattle.mufom_read.specs.Faults as faults;
+ghost use Rattle.mufom_judging.specs.Faults as faults;
 ghost use Rattle.mufom_read.specs.PartsOfCode.{as_part};
 ghost use Rattle.mufom_read.specs.Kept.{as_fault};
 ghost use Rattle.mufom_read.specs.ContentsSoFar.{AreMarked};

@@ -6,7 +6,8 @@ use crate::records::long_expression;
 use mufom_host::{Host, MemHost};
 use mufom_module::Module;
 use mufom_numbers::{Bytes, List, Reason, Text};
-use mufom_read::{ReadOptions, ReadRefusal, ReadStop, Reader, SourceStop, read_module};
+use mufom_read::{ReadOptions, ReadRefusal, ReadStop, Reader};
+use mufom_source::{SourceStop, read_module};
 use std::alloc::Global;
 use std::process::Abort;
 

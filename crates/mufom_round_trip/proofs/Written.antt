@@ -6,7 +6,7 @@ use Rattle.mufom_module.specs.Defects.{IsValid}
 use Rattle.mufom_module.specs.Made.{IsMade}
 use Rattle.mufom_module.specs.Grammar.{file_limit}
 use Rattle.mufom_write.proofs.Stated.{stated}
-use Rattle.mufom_read.specs.Judging.{IsModule}
+use Rattle.mufom_judging.specs.Judging.{IsModule}
 
 pub written-is-module : (m : Parts) → IsValid m → IsMade m → length (written m) ≤ file_limit → (gnu : Bool)
     → IsModule (record { debug = true; gnu = gnu }) (written m) m

@@ -16,11 +16,11 @@ use Rattle.mufom_groups.proofs.GroupsAlike.{linked-flat, links-stand}
 use Rattle.mufom_groups.proofs.LinkWalk.{links-give, links-stop}
 use Rattle.mufom_groups.proofs.Singles.{flat_list-single}
 use Rattle.mufom_outcome.specs.Stop.{Stop, link_fact}
-use Rattle.mufom_command.specs.Works.{Output, linking}
+use Rattle.mufom_works.specs.Works.{Output, linking}
 use Rattle.mufom_task.specs.declared.task.Inputs.{Inputs}
 use Rattle.mufom_task.specs.Reading.{modules_in, plan_in}
 use Rattle.mufom_run_laws.specs.RunLaws.{Accepts, IsSameWork}
-use Rattle.mufom_command.proofs.Runs.{modules_in-single, plan_in-single}
+use Rattle.mufom_works.proofs.Runs.{modules_in-single, plan_in-single}
 use Rattle.mufom_run_laws.proofs.SameWorks.{same-trans, then-known}
 
 -- a link fact that stands against the list ends the work

@@ -8,9 +8,9 @@ use Rattle.mufom_outcome.specs.Stop.{Stop}
 use Rattle.mufom_task.specs.declared.task.Task.{Task}
 use Rattle.mufom_task.specs.Calls.{Call}
 use Rattle.mufom_task.specs.Tasks.{reads_files}
-use Rattle.mufom_command.specs.Works.{Output, work_of}
-use Rattle.mufom_command.specs.Run.{AnswersFor, PutsOut}
-use Rattle.mufom_command.proofs.Runs.{over-files}
+use Rattle.mufom_works.specs.Works.{Output, work_of}
+use Rattle.mufom_works.specs.Run.{AnswersFor, PutsOut}
+use Rattle.mufom_works.proofs.Runs.{over-files}
 use Rattle.mufom_run_laws.specs.RunLaws.{IsUndisturbed}
 
 -- the work has this output, and it was put out

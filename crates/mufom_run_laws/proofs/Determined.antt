@@ -4,9 +4,9 @@ use Rattle.mufom_host.specs.World.{HoldBytes}
 use Rattle.mufom_words.specs.Answer.{answer_of}
 use Rattle.mufom_outcome.specs.declared.outcome.Outcome.{Outcome}
 use Rattle.mufom_outcome.specs.declared.outcome.Outcome.TheVariants as outcome
-use Rattle.mufom_command.specs.Run.{IsForced, outcome_of}
+use Rattle.mufom_works.specs.Run.{IsForced, outcome_of}
 use Rattle.mufom_run_laws.specs.RunLaws.{AnswersAreDetermined}
-use Rattle.mufom_command.proofs.Runs.{complete-by, of-files}
+use Rattle.mufom_works.proofs.Runs.{complete-by, of-files}
 
 pub answers-determined : AnswersAreDetermined
 answers-determined words files call result reached is calm comes =

@@ -28,9 +28,9 @@ use Rattle.mufom_task.specs.declared.task.Task.TheVariants as task
 use Rattle.mufom_task.specs.Sound.{IsSoundInputs, IsSoundRequest}
 use Rattle.mufom_task.specs.Tasks.{request_of}
 use Rattle.mufom_task.proofs.RequestLaws.{sound-request}
-use Rattle.mufom_command.specs.Roots.{Roots, first_unknown, roots_by}
-use Rattle.mufom_command.specs.Works.{Kept, all_of, kept_of, kept_unless, rest_of, rest_of_module}
-use Rattle.mufom_command.proofs.Runs.{kept_of-single}
+use Rattle.mufom_works.specs.Roots.{Roots, first_unknown, roots_by}
+use Rattle.mufom_works.specs.Works.{Kept, all_of, kept_of, kept_unless, rest_of, rest_of_module}
+use Rattle.mufom_works.proofs.Runs.{kept_of-single}
 use Rattle.mufom_run_laws.specs.Exist.{InputsAreAccepted, MayBeLocated, NoFactIsDecided, WhatIsKeptExists}
 use Rattle.mufom_run_laws.specs.RunLaws.{Accepts, HasNoFact}
 use Rattle.mufom_run_laws.proofs.Light.{all-count, all-light, flat-light, flat-some, flat-valid}

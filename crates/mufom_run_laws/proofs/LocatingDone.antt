@@ -20,11 +20,11 @@ use Rattle.mufom_task.specs.Inputs.{module_files}
 use Rattle.mufom_task.specs.declared.task.Product.{Product}
 use Rattle.mufom_task.specs.declared.task.Product.TheVariants as product
 use Rattle.mufom_task.specs.declared.task.Task.TheVariants as task
-use Rattle.mufom_command.specs.Roots.{Roots, roots_by}
-use Rattle.mufom_command.specs.Works.{Kept, Output, kept_of, located_unless, locating_kept, mapped_kept, producing, product_of, work_of}
-use Rattle.mufom_command.specs.Works.{bytes_fact, bytes_unless, length_fact, region_fact, region_image, region_named}
-use Rattle.mufom_command.proofs.EndLaws.{location-of}
-use Rattle.mufom_command.proofs.Runs.{kept_of-single, of-files}
+use Rattle.mufom_works.specs.Roots.{Roots, roots_by}
+use Rattle.mufom_works.specs.Works.{Kept, Output, kept_of, located_unless, locating_kept, mapped_kept, producing, product_of, work_of}
+use Rattle.mufom_works.specs.Works.{bytes_fact, bytes_unless, length_fact, region_fact, region_image, region_named}
+use Rattle.mufom_works.proofs.EndLaws.{location-of}
+use Rattle.mufom_works.proofs.Runs.{kept_of-single, of-files}
 use Rattle.mufom_run_laws.specs.RunLaws.{Accepts, HasNoFact, LocatingIsDone, MayPutOut}
 use Rattle.mufom_run_laws.proofs.Accepted.{EndsAtFact, accepted-gives, accepted-stops, no-link-fact}
 use Rattle.mufom_run_laws.proofs.Calm.{done-comes, never-done}

@@ -4,15 +4,15 @@ use Rattle.mufom_numbers.specs.declared.limits.TheConstants.{MOST_FILE_BYTES}
 use Rattle.mufom_module.specs.declared.module.Parts.{Parts}
 use Rattle.mufom_module.specs.Written.{written}
 use Rattle.mufom_write.proofs.Stated.{stated}
-use Rattle.mufom_read.specs.Judging.{IsModule}
+use Rattle.mufom_judging.specs.Judging.{IsModule}
 use Rattle.mufom_meaning.specs.Absolute.{absolute_of}
 use Rattle.mufom_planned.proofs.Absolute.{planned_located_as_itself}
 use Rattle.mufom_meaning.proofs.staging.Staging.{joined_stands_for}
 use Rattle.mufom_groups.specs.Linked.{first_name}
-use Rattle.mufom_command.specs.Works.{IsHeld}
+use Rattle.mufom_works.specs.Works.{IsHeld}
 use Rattle.mufom_run_laws.specs.RunLaws.{AbsoluteFilesStand, LinkedFilesStand}
-use Rattle.mufom_command.proofs.EndLaws.{location-of}
-use Rattle.mufom_command.proofs.KeptLaws.{kept-valid}
+use Rattle.mufom_works.proofs.EndLaws.{location-of}
+use Rattle.mufom_works.proofs.KeptLaws.{kept-valid}
 
 -- the file of a module that is held is the file of that module
 pub is-read-back : (m : Parts) → IsHeld m → length (written m) ≤ MOST_FILE_BYTES → (gnu : Bool)

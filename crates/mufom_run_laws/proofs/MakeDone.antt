@@ -11,9 +11,9 @@ use Rattle.mufom_task.specs.Calls.{Call}
 use Rattle.mufom_task.specs.Ends.{IsStopped}
 use Rattle.mufom_task.specs.Sound.{IsSoundRequest}
 use Rattle.mufom_task.proofs.RequestLaws.{sound-request}
-use Rattle.mufom_command.specs.Run.{AnswersFor}
-use Rattle.mufom_command.specs.Works.{making}
-use Rattle.mufom_command.proofs.OtherLaws.{make-never, none-reached}
+use Rattle.mufom_works.specs.Run.{AnswersFor}
+use Rattle.mufom_works.specs.Works.{making}
+use Rattle.mufom_works.proofs.MadeLaws.{make-never, none-reached}
 use Rattle.mufom_run_laws.specs.MakeLaws.{LacksWritesOrMemory, MakeIsDone}
 use Rattle.mufom_run_laws.proofs.Plain.{plain-answers}
 

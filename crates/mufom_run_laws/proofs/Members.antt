@@ -12,8 +12,8 @@ use Rattle.mufom_archive.specs.Listings.{IsListing, Member, is_refused, members_
 use Rattle.mufom_archive.proofs.EntryLaws.{entry_parts}
 use Rattle.mufom_records.specs.declared.options.ReadOptions.{ReadOptions}
 use Rattle.mufom_module.specs.declared.module.Parts.{Parts}
-use Rattle.mufom_read.proofs.judged.Stays.{AreBytes-drop, AreBytes-take}
-use Rattle.mufom_read.proofs.weighing.Files.{modules_weigh}
+use Rattle.mufom_judging.proofs.judged.Stays.{AreBytes-drop, AreBytes-take}
+use Rattle.mufom_judging.proofs.weighing.Files.{modules_weigh}
 use Rattle.mufom_members.specs.Files.{AreModulesOf, IsArchiveVerdict, IsPlainVerdict, IsVerdictWithin, accepted}
 use Rattle.mufom_members.proofs.EntryOrder.{contents_length}
 use Rattle.mufom_members.proofs.Walk.{first_fails, first_passes}

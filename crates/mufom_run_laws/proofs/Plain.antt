@@ -12,9 +12,9 @@ use Rattle.mufom_task.specs.declared.task.Request.TheVariants as request
 use Rattle.mufom_task.specs.declared.task.Task.{Task}
 use Rattle.mufom_task.specs.Calls.{Call}
 use Rattle.mufom_task.specs.Tasks.{request_of}
-use Rattle.mufom_command.specs.Works.{Output, work_of}
-use Rattle.mufom_command.specs.Contract.{Answers, AnswersBy, AnswersWith, run_by, run_of, work_with}
-use Rattle.mufom_command.specs.Run.{AnswersFor}
+use Rattle.mufom_works.specs.Works.{Output, work_of}
+use Rattle.mufom_works.specs.Result.{Answers, AnswersBy, AnswersWith, run_by, run_of, work_with}
+use Rattle.mufom_works.specs.Run.{AnswersFor}
 
 module _ (words : List (List ℕ)) (c : Command) (named : answer_of words ≡ Ok c) (t : Task) (asks : request_of c ≡ request.Run t) where
   pub plain-answers : (call : Call) (result : Outcome) → Answers words call result → AnswersFor t call result

@@ -18,7 +18,7 @@ use Rattle.mufom_plan.specs.Names.{has_name}
 use Rattle.mufom_meaning.specs.StagingLaws.{MeansTheSame}
 use Rattle.mufom_planned.specs.PlanLaws.{HasSoundSymbols}
 use Rattle.mufom_task.proofs.PlanLaws.{plan-sound}
-use Rattle.mufom_command.specs.Same.{AreSame}
+use Rattle.mufom_works.specs.Same.{AreSame}
 use Rattle.mufom_groups.specs.Linked.{first_name, joined, linked}
 use Rattle.mufom_groups.specs.Work.{gives, stops, Work, ◌>>=◌, one_with, stop_at, sure, with_stops}
 use Rattle.mufom_groups.proofs.Singles.{linked-single}
@@ -33,14 +33,14 @@ use Rattle.mufom_task.specs.Inputs.{module_files}
 use Rattle.mufom_task.specs.declared.task.Product.{Product}
 use Rattle.mufom_task.specs.declared.task.Task.TheVariants as task
 use Rattle.mufom_task.specs.Reading.{plan_in, modules_in}
-use Rattle.mufom_command.specs.FlatFiles.{AreFlatFiles}
-use Rattle.mufom_command.specs.Roots.{Roots, first_unknown, roots_by}
-use Rattle.mufom_command.specs.Works.{Kept, Output, all_of, writes_module, kept_of, kept_unless, linked_file, linking, located, locating_kept, producing}
-use Rattle.mufom_command.specs.Works.{product_of, product_with, rest_of_link, work_of}
-use Rattle.mufom_command.proofs.EndLaws.{location-of}
-use Rattle.mufom_command.proofs.LocatingLaws.{located-back, located-forth, staged-same}
-use Rattle.mufom_command.proofs.MapLaws.{flat-files-single, same-map}
-use Rattle.mufom_command.proofs.Runs.{modules_in-single, plan_in-single}
+use Rattle.mufom_works.specs.FlatFiles.{AreFlatFiles}
+use Rattle.mufom_works.specs.Roots.{Roots, first_unknown, roots_by}
+use Rattle.mufom_works.specs.Works.{Kept, Output, all_of, writes_module, kept_of, kept_unless, linked_file, linking, located, locating_kept, producing}
+use Rattle.mufom_works.specs.Works.{product_of, product_with, rest_of_link, work_of}
+use Rattle.mufom_works.proofs.EndLaws.{location-of}
+use Rattle.mufom_works.proofs.LocatingLaws.{located-back, located-forth, staged-same}
+use Rattle.mufom_works.proofs.MapLaws.{flat-files-single, same-map}
+use Rattle.mufom_works.proofs.Runs.{modules_in-single, plan_in-single}
 use Rattle.mufom_run_laws.specs.RunLaws.{CameByStages, IsSameWork, LeadsTo, PutOutAlike, RunsOfStages, StagesMakeNoDifference}
 use Rattle.mufom_run_laws.proofs.SameWorks.{same-sym, same-trans, same-work, then-known, then-same, then-same-where}
 

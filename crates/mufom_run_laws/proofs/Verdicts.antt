@@ -8,12 +8,12 @@ use Rattle.mufom_numbers.proofs.SpellingLaws.{AreBytes-take}
 use Rattle.mufom_host.specs.World.{HoldBytes, NamedFile, file_named}
 use Rattle.mufom_records.specs.declared.options.ReadOptions.{ReadOptions}
 use Rattle.mufom_module.specs.declared.module.Parts.{Parts}
-use Rattle.mufom_read.specs.Judging.{IsJudged, Judgment, module_of, refusal}
-use Rattle.mufom_read.specs.Laws.{HasJudgment}
-use Rattle.mufom_read.proofs.ended.Prefix.{ended_prefix}
-use Rattle.mufom_read.proofs.judged.PrefixJudged.{has_judgment}
-use Rattle.mufom_read.proofs.spelled.Judged.{judgments_exclude_each_other}
-use Rattle.mufom_read.proofs.weighing.Files.{files_weigh}
+use Rattle.mufom_judging.specs.Judging.{IsJudged, Judgment, module_of, refusal}
+use Rattle.mufom_judging.specs.Laws.{HasJudgment}
+use Rattle.mufom_judging.proofs.ended.Prefix.{ended_prefix}
+use Rattle.mufom_judging.proofs.judged.PrefixJudged.{has_judgment}
+use Rattle.mufom_judging.proofs.spelled.Judged.{judgments_exclude_each_other}
+use Rattle.mufom_judging.proofs.weighing.Files.{files_weigh}
 use Rattle.mufom_members.specs.Files as one
 use Rattle.mufom_members.specs.Files.{IsPlainVerdict}
 use Rattle.mufom_members.proofs.EachVerdict.{each_verdict}

@@ -25,8 +25,8 @@ use Rattle.mufom_task.specs.declared.task.Task.TheVariants as task
 use Rattle.mufom_task.specs.Inputs.{ComeTo, Verdict}
 use Rattle.mufom_task.specs.Reading.{modules_in, plan_in}
 use Rattle.mufom_task.specs.Tasks.{request_of}
-use Rattle.mufom_command.specs.Roots.{first_unknown, roots_by}
-use Rattle.mufom_command.specs.Works.{Kept, kept_of}
+use Rattle.mufom_works.specs.Roots.{first_unknown, roots_by}
+use Rattle.mufom_works.specs.Works.{Kept, kept_of}
 use Rattle.mufom_run_laws.specs.RunLaws.{Accepts, HasNoFact}
 
 -- ---- files

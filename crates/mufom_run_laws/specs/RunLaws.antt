@@ -9,7 +9,7 @@ use Rattle.mufom_words.specs.Tree.{tree_of}
 use Rattle.mufom_names.specs.Names.{AreDistinct}
 use Rattle.mufom_module.specs.declared.module.Parts.{Parts}
 use Rattle.mufom_module.specs.Written.{written}
-use Rattle.mufom_read.specs.Judging.{IsModule}
+use Rattle.mufom_judging.specs.Judging.{IsModule}
 use Rattle.mufom_plan.specs.declared.plan.Plan.{Plan}
 use Rattle.mufom_meaning.specs.declared.located.LocatedParts.{LocatedParts}
 use Rattle.mufom_meaning.specs.Absolute.{absolute_of, no_regions}
@@ -28,10 +28,10 @@ use Rattle.mufom_numbers.specs.declared.limits.TheConstants.{MOST_FILE_BYTES}
 use Rattle.mufom_origins.specs.declared.origins.Origin.{Origin}
 use Rattle.mufom_origins.specs.Words.{ModuleFiles}
 use Rattle.mufom_origins.specs.Origins.{FileModule, origins_of}
-use Rattle.mufom_command.specs.FlatFiles.{AreFlatFiles}
+use Rattle.mufom_works.specs.FlatFiles.{AreFlatFiles}
 use Rattle.mufom_outcome.specs.Stop.{Stop}
-use Rattle.mufom_command.specs.Roots.{Roots, roots_by}
-use Rattle.mufom_command.specs.Works.{Kept, Output, bytes_fact, made, kept_of, linked_file, locating_kept, product_with, work_of}
+use Rattle.mufom_works.specs.Roots.{Roots, roots_by}
+use Rattle.mufom_works.specs.Works.{Kept, Output, bytes_fact, made, kept_of, linked_file, locating_kept, product_with, work_of}
 use Rattle.mufom_task.specs.declared.task.Inputs.{Inputs}
 use Rattle.mufom_task.specs.declared.task.Product.{Product}
 use Rattle.mufom_task.specs.declared.task.Product.TheVariants as product
@@ -40,9 +40,9 @@ use Rattle.mufom_task.specs.declared.task.Task.TheVariants as task
 use Rattle.mufom_task.specs.Inputs.{module_files}
 use Rattle.mufom_task.specs.Reading.{plan_in, modules_in}
 use Rattle.mufom_task.specs.Tasks.{request_of}
-use Rattle.mufom_command.specs.Contract.{Answers, run_of}
+use Rattle.mufom_works.specs.Result.{Answers, run_of}
 use Rattle.mufom_task.specs.Calls.{Call}
-use Rattle.mufom_command.specs.Run.{outcome_of}
+use Rattle.mufom_works.specs.Run.{outcome_of}
 
 -- ---- the outcome of a run
 

@@ -8,9 +8,9 @@ use Rattle.mufom_records.specs.declared.options.ReadOptions.{ReadOptions}
 use Rattle.mufom_numbers.specs.declared.reason.Reason.{Reason}
 use Rattle.mufom_module.specs.declared.module.Parts.{Parts}
 use Rattle.mufom_read.specs.declared.refusal.ReadRefusal.{ReadRefusal}
-use Rattle.mufom_read.specs.Judging.{IsJudged, IsModule, module_of, refusal}
-use Rattle.mufom_read.specs.Laws.{HasOneJudgment}
-use Rattle.mufom_read.specs.Source.{IsPastLimit, IsRefusedWithin}
+use Rattle.mufom_judging.specs.Judging.{IsJudged, IsModule, module_of, refusal}
+use Rattle.mufom_judging.specs.Laws.{HasOneJudgment}
+use Rattle.mufom_judging.specs.Limited.{IsPastLimit, IsRefusedWithin}
 use Rattle.mufom_archive.specs.Entries.{lacks_header}
 use Rattle.mufom_archive.specs.Listings.{lacks_long_name}
 use Rattle.mufom_members.specs.Files.{IsPlainVerdict, IsVerdict, Verdict, accepted, bad_archive, past_limit, refused, verdict_on_prefix}

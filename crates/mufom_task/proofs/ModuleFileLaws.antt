@@ -5,10 +5,11 @@ use Rattle.mufom_records.specs.declared.options.ReadOptions.{ReadOptions}
 use Rattle.mufom_host.specs.World.{Faults, NamedFile, Rose, file_named}
 use Rattle.mufom_module.specs.declared.module.Parts.{Parts}
 use Rattle.mufom_numbers.specs.declared.reason.Reason.TheVariants as why
-use Rattle.mufom_read.specs.declared.source.SourceStop.{SourceStop}
-use Rattle.mufom_read.specs.declared.source.SourceStop.TheVariants as source
-use Rattle.mufom_read.specs.Judging.{IsModule}
-use Rattle.mufom_read.specs.Source.{IsPastLimit, IsRefusedWithin, ReadsModule}
+use Rattle.mufom_source.specs.declared.source.SourceStop.{SourceStop}
+use Rattle.mufom_source.specs.declared.source.SourceStop.TheVariants as source
+use Rattle.mufom_judging.specs.Judging.{IsModule}
+use Rattle.mufom_judging.specs.Limited.{IsPastLimit, IsRefusedWithin}
+use Rattle.mufom_source.specs.Source.{ReadsModule}
 use Rattle.mufom_members.specs.declared.members.Members.{Members}
 use Rattle.mufom_members.specs.declared.members.MembersStop.{MembersStop}
 use Rattle.mufom_members.specs.declared.members.MembersStop.TheVariants as members_stop

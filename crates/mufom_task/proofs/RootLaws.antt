@@ -13,7 +13,7 @@ use Rattle.mufom_records.specs.Layouts.{IsWholeRecord, SpellsRecord, module_begi
 use Rattle.mufom_module.specs.declared.module.Parts.{Parts}
 use Rattle.mufom_module.specs.Grammar.{after_header}
 use Rattle.mufom_module.specs.SpelledRecords.{bytes_of}
-use Rattle.mufom_read.specs.Judging.{IsModule}
+use Rattle.mufom_judging.specs.Judging.{IsModule}
 use Rattle.mufom_archive.specs.Entries.{BeginsArchive, signature}
 use Rattle.mufom_task.specs.declared.task.Inputs.{Inputs}
 use Rattle.mufom_task.specs.Inputs.{AreModules, ComeTo, HasFileModules, HaveBytes, accepted, files_from, files_of_one, members_if, module_files}

@@ -7,7 +7,7 @@ use Rattle.mufom_records.specs.declared.options.ReadOptions.{ReadOptions}
 use Rattle.mufom_host.specs.World.{HoldBytes, NamedFile, file_named}
 use Rattle.mufom_module.specs.declared.module.Parts.{Parts}
 use Rattle.mufom_read.specs.declared.refusal.ReadRefusal.{ReadRefusal}
-use Rattle.mufom_read.specs.Laws.{HasOneJudgment}
+use Rattle.mufom_judging.specs.Laws.{HasOneJudgment}
 use Rattle.mufom_task.specs.Inputs.{AreAccepted, AreModules, ComeTo, HasFileModules, HaveBytes, HaveOneVerdict, IsFilePast, IsFileRefused}
 use Rattle.mufom_task.specs.Inputs.{StopsAt, Verdict}
 use Rattle.mufom_task.specs.Inputs.{accepted, past_limit, refused, room_after}

@@ -5,8 +5,8 @@ use Rattle.mufom_numbers.specs.declared.limits.TheConstants.{MOST_MODULES}
 use Rattle.mufom_numbers.specs.declared.reason.Reason.TheVariants as why
 use Rattle.mufom_host.specs.World.{NamedFile, Faults, GrowsBy, Rose, file_named}
 use Rattle.mufom_module.specs.declared.module.Parts.{Parts}
-use Rattle.mufom_read.specs.declared.source.SourceStop.{SourceStop}
-use Rattle.mufom_read.specs.declared.source.SourceStop.TheVariants as stop
+use Rattle.mufom_source.specs.declared.source.SourceStop.{SourceStop}
+use Rattle.mufom_source.specs.declared.source.SourceStop.TheVariants as stop
 use Rattle.mufom_members.specs.declared.members.MembersStop.{MembersStop}
 use Rattle.mufom_members.specs.declared.members.MembersStop.TheVariants as members_stop
 use Rattle.mufom_outcome.specs.declared.outcome.Input.TheVariants as input

@@ -13,7 +13,8 @@ use mufom_members::{Members, MembersStop, read_members};
 use mufom_module::Module;
 use mufom_numbers::{List, NoMemory, Reason};
 use mufom_outcome::{Input, Outcome, Refusal};
-use mufom_read::{ReadOptions, ReadRefusal, SourceStop, read_module};
+use mufom_read::{ReadOptions, ReadRefusal};
+use mufom_source::{SourceStop, read_module};
 use std::alloc::Global;
 
 // The outcome if the root with this number could not be read.

@@ -18,3 +18,4 @@ pub mod BackLaws
 pub mod LocatedLaws
 pub mod NoFactLaws
 pub mod ReadLaws
+pub mod ErrorLaws

@@ -5,3 +5,4 @@ pub mod TextModules
 pub mod Scans
 pub mod Reading
 pub mod Twice
+pub mod FirstErrors

@@ -1,12 +1,14 @@
 //! Laws of texts, each the contract of a function that does nothing.
 
-ghost use Rattle.std.specs.Prelude.{◌≡◌, ◌≤◌, ◌*◌, ◌∷◌, [], ℕ, List, length, None};
+ghost use Rattle.std.specs.Prelude.{◌≡◌, ◌≤◌, ◌*◌, ◌∷◌, [], ℕ, List, length, None, Some};
 ghost use Rattle.mufom_numbers.specs.declared.limits.TheConstants.{MOST_FILE_BYTES};
 ghost use Rattle.mufom_meaning.specs.declared.located.Run.{Run};
 ghost use Rattle.mufom_meaning.specs.declared.located.LocatedParts.{LocatedParts};
 ghost use Rattle.mufom_meaning.specs.Absolute.{no_regions};
 ghost use Rattle.mufom_meaning.specs.AddressMap.{Cell};
 ghost use Rattle.mufom_meaning.specs.Location.{IsLocation};
+ghost use Rattle.mufom_titxt.specs.declared.refusal.TxtRefusal.{TxtRefusal};
+ghost use Rattle.mufom_titxt.specs.FirstErrors.{IsTxtError};
 ghost use Rattle.mufom_titxt.specs.Texts.{TxtMap, IsTxtOf, txt_cells, txt_refusal};
 ghost use Rattle.mufom_titxt.specs.TextModules.{text_parts, HaveModule, HaveText};
 ghost use Rattle.mufom_titxt.specs.Written.{txt_text};
@@ -22,6 +24,15 @@ pub fn accepted_texts_are_texts()
 pub fn texts_are_accepted()
     ensures accepted { (text : List ℕ) (width : ℕ) (cells : List Cell) → TxtMap text width cells → txt_refusal text width ≡ None }
     ensures cells { (text : List ℕ) (width : ℕ) (cells : List Cell) → TxtMap text width cells → txt_cells text ≡ cells }
+{}
+
+/// The error of a text is at the first wrong line: the lines before it give their bytes to addresses, each
+/// below the end of the address space and each once, and this line is none, or has bytes without an address,
+/// a byte beyond the end or a second byte for an address, or follows the end and is not blank. If no line is
+/// wrong, the error is that no line ends the text.
+pub fn errors_are_at_the_first_wrong_line()
+    ensures wrong { (text : List ℕ) (width : ℕ) (r : TxtRefusal) → txt_refusal text width ≡ Some r → IsTxtError text width r }
+    ensures refused { (text : List ℕ) (width : ℕ) (r : TxtRefusal) → IsTxtError text width r → txt_refusal text width ≡ Some r }
 {}
 
 /// The text that is written of runs (maximal, in increasing order, below the end of the address space) is a

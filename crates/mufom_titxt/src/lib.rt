@@ -24,8 +24,9 @@ mod txt;
 mod write;
 
 pub use laws::{
-    accepted_texts_are_texts, located_texts_have_their_runs, runs_of_texts_have_modules,
-    text_modules_are_located, texts_are_accepted, written_texts_are_read_back,
+    accepted_texts_are_texts, errors_are_at_the_first_wrong_line, located_texts_have_their_runs,
+    runs_of_texts_have_modules, text_modules_are_located, texts_are_accepted,
+    written_texts_are_read_back,
 };
 pub use module::text_module;
 pub use mufom_meaning::Run as TextRun;

@@ -138,7 +138,8 @@ fn modulus_of(maus: u8) -> u128
 /// address has `maus` addressable units of eight bits. The runs meet the conditions of
 /// [`text_module`](crate::text_module). The text has at most 67,108,864 bytes, and `maus` is 1 to 8.
 ///
-/// Errors: `Refused` with the first line that is wrong and the reason; `NoMemory`.
+/// Errors: `Refused` with the first line that is wrong and the reason, which
+/// [`errors_are_at_the_first_wrong_line`](crate::errors_are_at_the_first_wrong_line) defines; `NoMemory`.
 pub fn read_txt(alloc: Global, text: &[u8], maus: u8) -> Result<List<Run>, TxtStop>
     requires low { 1 ≤ maus }
     requires high { maus ≤ 8 }

@@ -16,28 +16,29 @@ use Rattle.mufom_read.specs.declared.prefix.Prefix.{Prefix}
 use Rattle.mufom_read.specs.declared.header.Names.{Names}
 use Rattle.mufom_read.specs.declared.header.Addressing.{Addressing}
 use Rattle.mufom_read.specs.declared.header.Header.{Header}
-use Rattle.mufom_read.specs.Prefixes.{Step, records_of, offset_records_of, offsets_of}
-use Rattle.mufom_read.specs.Faults.{is_bad_descriptor}
+use Rattle.mufom_judging.specs.Prefixes.{Step, records_of, offset_records_of, offsets_of}
+use Rattle.mufom_judging.specs.Faults.{is_bad_descriptor}
 use Rattle.mufom_read.specs.Kept.{indexes_by}
-use Rattle.mufom_read.specs.HeaderSoFar.{names_by, layout_by, order_of, names_in, layout_in}
+use Rattle.mufom_read.specs.HeaderSoFar.{names_by, layout_by, names_in, layout_in}
+use Rattle.mufom_judging.specs.RecordFields.{order_of}
 use Rattle.mufom_read.specs.LoadsSoFar.{closed, units_in, loads_so_far}
 use Rattle.mufom_read.specs.ContentsSoFar.{start_so_far}
 use Rattle.mufom_read.specs.PrefixOfCode.{IsPrefixOf}
-use Rattle.mufom_read.specs.Stated.{indexes_in}
+use Rattle.mufom_judging.specs.Stated.{indexes_in}
 use Rattle.mufom_read.specs.Built.{IsStatedByKept, IsWhole}
 use Rattle.mufom_read.proofs.ended.DebugKept.{debug-kept}
-use Rattle.mufom_read.proofs.ended.Sliced.{Sliced}
-use Rattle.mufom_read.proofs.ended.Stated.{stated_by, states, units_of, stand_parts, sorted, same_ix, is_stated}
-use Rattle.mufom_read.proofs.ended.Rows.{IsBegin, IsDescriptor}
-use Rattle.mufom_read.proofs.ended.Gathered.{all_records, end_alone}
+use Rattle.mufom_judging.proofs.ended.Sliced.{Sliced}
+use Rattle.mufom_judging.proofs.ended.Stated.{stated_by, states, units_of, stand_parts, sorted, same_ix, is_stated}
+use Rattle.mufom_judging.proofs.ended.Rows.{IsBegin, IsDescriptor}
+use Rattle.mufom_judging.proofs.ended.Gathered.{all_records, end_alone}
 use Rattle.mufom_read.specs.NamesSoFar.{records_in, placed_public}
 use Rattle.mufom_read.proofs.so_far.PublicSteps.{publics-placed}
 use Rattle.mufom_read.proofs.stepping.PrefixLaws.{records-placed}
 use Rattle.mufom_read.proofs.so_far.Contents.{start-whole}
 use Rattle.mufom_read.proofs.ended.LoadsWhole.{others-other, silent-other, other-append, loads-whole}
 use Rattle.mufom_read.proofs.stepping.PartBytes.{so-far}
-use Rattle.mufom_read.proofs.ended.Prefix.{ended_sliced}
-use Rattle.mufom_read.proofs.weighing.Files.{files_weigh}
+use Rattle.mufom_judging.proofs.ended.Prefix.{ended_sliced}
+use Rattle.mufom_judging.proofs.weighing.Files.{files_weigh}
 use Rattle.mufom_records.specs.declared.options.ReadOptions.{ReadOptions}
 
 few_units : (n : ℕ) → is_unit_count n ≡ true → n ≤ 8

@@ -9,16 +9,16 @@ use Rattle.mufom_module.specs.RecordParts.{data_part, trailer_part, end_part}
 use Rattle.mufom_module.specs.Grammar.{header_of}
 use Rattle.mufom_read.specs.declared.prefix.Prefix.{Prefix}
 use Rattle.mufom_read.specs.declared.debug.OpenBlock as code
-use Rattle.mufom_read.specs.Prefixes.{Step, records_of}
-use Rattle.mufom_read.specs.Faults.{OpenBlock}
+use Rattle.mufom_judging.specs.Prefixes.{Step, records_of}
+use Rattle.mufom_judging.specs.Faults.{OpenBlock}
 use Rattle.mufom_read.specs.DebugSoFar.{opened, marks_to_block, marks_so_far}
 use Rattle.mufom_read.specs.PrefixOfCode.{IsPrefixOf}
-use Rattle.mufom_read.specs.Stated.{indexes_in}
-use Rattle.mufom_read.proofs.so_far.BlockKinds.{kinds_from, open_kinds, kinds_of, kinds-open, kinds-append, kinds-other}
+use Rattle.mufom_judging.specs.Stated.{indexes_in}
+use Rattle.mufom_judging.proofs.BlockKinds.{kinds_from, open_kinds, kinds_of, kinds-open, kinds-append, kinds-other}
 use Rattle.mufom_read.proofs.so_far.DebugSteps.{stacked-none, marks-whole}
-use Rattle.mufom_read.proofs.ended.Sliced.{Sliced}
-use Rattle.mufom_read.proofs.ended.Stated.{stated_by, sorted, is_stated}
-use Rattle.mufom_read.proofs.ended.Gathered.{end_alone}
+use Rattle.mufom_judging.proofs.ended.Sliced.{Sliced}
+use Rattle.mufom_judging.proofs.ended.Stated.{stated_by, sorted, is_stated}
+use Rattle.mufom_judging.proofs.ended.Gathered.{end_alone}
 use Rattle.mufom_read.proofs.stepping.PrefixLaws.{records-placed}
 use Rattle.mufom_records.specs.declared.options.ReadOptions.{ReadOptions}
 

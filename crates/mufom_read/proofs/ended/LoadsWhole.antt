@@ -21,16 +21,16 @@ use Rattle.mufom_module.specs.Grammar.{names_unknown}
 use Rattle.mufom_module.specs.Gathered.{loads_of}
 use Rattle.mufom_read.specs.declared.loads.Loads.{Loads}
 use Rattle.mufom_read.specs.declared.loads.OpenLoad.TheVariants as open_load
-use Rattle.mufom_read.specs.Stated.{indexes_in}
+use Rattle.mufom_judging.specs.Stated.{indexes_in}
 use Rattle.mufom_read.specs.Kept.{tables_of, indexes_by, as_record}
 use Rattle.mufom_read.specs.LoadsSoFar.{loads_and, no_loads, closed, with_item, with_load, units_in, units_or, loads_after, loads_from, loads_so_far}
-use Rattle.mufom_read.proofs.ended.Parts.{KeptFrom}
-use Rattle.mufom_read.proofs.ended.Names.{IsSilent}
-use Rattle.mufom_read.proofs.ended.Gathered.{other_part, unplaced}
-use Rattle.mufom_read.proofs.ended.Trees.{IsKnown, named_known, tree_known}
+use Rattle.mufom_judging.proofs.ended.Parts.{KeptFrom}
+use Rattle.mufom_judging.proofs.ended.Names.{IsSilent}
+use Rattle.mufom_judging.proofs.ended.Gathered.{other_part, unplaced}
+use Rattle.mufom_judging.proofs.ended.Trees.{IsKnown, named_known, tree_known}
 use Rattle.mufom_read.proofs.so_far.LoadLaws.{units-stay}
 use Rattle.mufom_read.proofs.so_far.LoadsFold.{loads_by_all, loads-closed}
-use Rattle.mufom_read.proofs.so_far.Stable.{position-stays}
+use Rattle.mufom_judging.proofs.Stable.{position-stays}
 
 -- ---- records of other parts
 

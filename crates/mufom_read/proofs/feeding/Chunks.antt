@@ -13,14 +13,14 @@ use Rattle.mufom_read.specs.declared.state.State.{State}
 use Rattle.mufom_read.specs.declared.refusal.ReadRefusal.{ReadRefusal}
 use Rattle.mufom_read.specs.declared.refusal.ReadStop.{ReadStop}
 use Rattle.mufom_read.specs.declared.refusal.ReadStop.TheVariants as stop
-use Rattle.mufom_read.specs.Prefixes.{Step, size_of, is_ended}
-use Rattle.mufom_read.specs.Faults.{Fault, fault_after}
-use Rattle.mufom_read.specs.Judging.{IsSoundFrom, IsSoundPrefix, within_limit, IsWaiting, IsRefusedAt, IsPending}
+use Rattle.mufom_judging.specs.Prefixes.{Step, size_of, is_ended}
+use Rattle.mufom_judging.specs.Faults.{Fault, fault_after}
+use Rattle.mufom_judging.specs.Judging.{IsSoundFrom, IsSoundPrefix, within_limit, IsWaiting, IsRefusedAt, IsPending}
 use Rattle.mufom_read.specs.PrefixOfCode.{IsPrefixOf}
 use Rattle.mufom_read.specs.Reader.{HasTakenAll, HasNoStep, HasTakenChunk, HasEndedChunk, IsReading, IsIncomplete, Knows}
 use Rattle.mufom_read.proofs.stepping.PrefixLaws.{size-append}
 use Rattle.mufom_numbers.proofs.SpellingLaws.{AreBytes-append}
-use Rattle.mufom_read.proofs.judged.Stays.{sound_stays, within-append, AreBytes-prefix, AreBytes-drop, AreBytes-take}
+use Rattle.mufom_judging.proofs.judged.Stays.{sound_stays, within-append, AreBytes-prefix, AreBytes-drop, AreBytes-take}
 use Rattle.mufom_read.proofs.stepping.Take.{sound-append, drop-drop}
 use Rattle.mufom_records.specs.declared.options.ReadOptions.{ReadOptions}
 

@@ -24,17 +24,17 @@ use Rattle.mufom_read.specs.declared.refusal.ReadStop.TheVariants as stop
 use Rattle.mufom_read.specs.declared.prefix.Prefix.{Prefix}
 use Rattle.mufom_read.specs.declared.prefix.Next.{Next}
 use Rattle.mufom_read.specs.declared.prefix.Next.TheVariants as next
-use Rattle.mufom_read.specs.Prefixes.{Step, step_bytes, prefix_bytes, size_of, Extent, Location, in_header, in_part, at_end, location_after}
-use Rattle.mufom_read.specs.Prefixes.{header_mode, is_raw, body_mode, as_step, raw_step, step_in, step_at, next_step, is_ended, bytes_to_debug}
-use Rattle.mufom_read.specs.Faults.{Fault, ended_part_fault, step_fault, fault_after}
-use Rattle.mufom_read.specs.Judging.{IsSoundFrom}
+use Rattle.mufom_judging.specs.Prefixes.{Step, step_bytes, prefix_bytes, size_of, Extent, Location, in_header, in_part, at_end, location_after}
+use Rattle.mufom_judging.specs.Prefixes.{header_mode, is_raw, body_mode, as_step, raw_step, step_in, step_at, next_step, is_ended, bytes_to_debug}
+use Rattle.mufom_judging.specs.Faults.{Fault, ended_part_fault, step_fault, fault_after}
+use Rattle.mufom_judging.specs.Judging.{IsSoundFrom}
 use Rattle.mufom_read.specs.Kept.{as_fault}
 use Rattle.mufom_read.specs.PrefixOfCode.{IsPrefixOf, HasAdvanced}
 use Rattle.mufom_read.specs.Reader.{IsIncomplete, HasGoneOn, HasNoStep, HasCompleted, HasTakenChunk}
-use Rattle.mufom_read.proofs.ended.Walk.{prefix_first}
+use Rattle.mufom_judging.proofs.ended.Walk.{prefix_first}
 use Rattle.mufom_read.proofs.stepping.PrefixLaws.{size-append}
 use Rattle.mufom_read.proofs.feeding.Short.{as-step-wants}
-use Rattle.mufom_read.proofs.judged.Stays.{sound_stays, fault_stays, AreBytes-prefix, AreBytes-drop}
+use Rattle.mufom_judging.proofs.judged.Stays.{sound_stays, fault_stays, AreBytes-prefix, AreBytes-drop}
 use Rattle.mufom_read.proofs.stepping.Take.{size-one, sound-append, drop-drop}
 use Rattle.mufom_records.specs.declared.options.ReadOptions.{ReadOptions}
 

@@ -9,10 +9,10 @@ use Rattle.mufom_read.specs.declared.refusal.ReadRefusal.{ReadRefusal}
 use Rattle.mufom_read.specs.declared.refusal.ReadStop.{ReadStop}
 use Rattle.mufom_read.specs.declared.refusal.ReadStop.TheVariants as stop
 use Rattle.mufom_read.specs.PrefixOfCode.{IsPrefixOf}
-use Rattle.mufom_read.specs.Judging.{EndsAt, IsWaiting, IsRefusedAt}
+use Rattle.mufom_judging.specs.Judging.{EndsAt, IsWaiting, IsRefusedAt}
 use Rattle.mufom_read.specs.Reader.{IsReading, IsIncomplete, Knows, HasRead, answer_of}
-use Rattle.mufom_read.proofs.judged.PrefixesOne.{fault_not_ended, one_end, not_cut, refusal_is_single}
-use Rattle.mufom_read.proofs.judged.Stays.{refusal_stays}
+use Rattle.mufom_judging.proofs.judged.PrefixesOne.{fault_not_ended, one_end, not_cut, refusal_is_single}
+use Rattle.mufom_judging.proofs.judged.Stays.{refusal_stays}
 use Rattle.mufom_read.proofs.feeding.Chunks.{pending-is}
 use Rattle.mufom_records.specs.declared.options.ReadOptions.{ReadOptions}
 

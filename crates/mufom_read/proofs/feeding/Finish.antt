@@ -10,13 +10,13 @@ use Rattle.mufom_read.specs.declared.state.State.{State}
 use Rattle.mufom_read.specs.declared.refusal.ReadRefusal.{ReadRefusal}
 use Rattle.mufom_read.specs.declared.refusal.ReadStop.{ReadStop}
 use Rattle.mufom_read.specs.declared.refusal.ReadStop.TheVariants as stop
-use Rattle.mufom_read.specs.Prefixes.{size_of, is_ended}
-use Rattle.mufom_read.specs.Judging.{IsSoundPrefix, within_limit, EndsAt, IsWaiting, IsRefusedAt, IsTruncated, IsModule, IsJudged, refusal}
+use Rattle.mufom_judging.specs.Prefixes.{size_of, is_ended}
+use Rattle.mufom_judging.specs.Judging.{IsSoundPrefix, within_limit, EndsAt, IsWaiting, IsRefusedAt, IsTruncated, IsModule, IsJudged, refusal}
 use Rattle.mufom_read.specs.Reader.{IsReading, IsIncomplete, Knows}
 use Rattle.mufom_read.specs.Built.{IsWhole}
-use Rattle.mufom_read.proofs.judged.PrefixesOne.{ended_not_waiting, not_cut, refusal_is_single}
+use Rattle.mufom_judging.proofs.judged.PrefixesOne.{ended_not_waiting, not_cut, refusal_is_single}
 use Rattle.mufom_module.proofs.OneModule.{one_module}
-use Rattle.mufom_read.proofs.spelled.Judged.{judgments_exclude_each_other}
+use Rattle.mufom_judging.proofs.spelled.Judged.{judgments_exclude_each_other}
 use Rattle.mufom_read.proofs.feeding.Chunks.{whole-within}
 use Rattle.mufom_read.proofs.feeding.Feed.{the_refusal, reading-not-refused}
 use Rattle.mufom_records.specs.declared.options.ReadOptions.{ReadOptions}

@@ -10,10 +10,10 @@ use Rattle.mufom_records.specs.Reading.{record_within}
 use Rattle.mufom_records.proofs.BeforeLaws.{record_within-more}
 use Rattle.mufom_records.proofs.ShortLaws.{unended-short}
 use Rattle.mufom_read.specs.declared.state.State.{State}
-use Rattle.mufom_read.specs.Prefixes.{Step, Extent, Location, in_header, in_part, at_end, size_of, location_after, header_mode, is_raw, body_mode}
-use Rattle.mufom_read.specs.Prefixes.{as_step, raw_step, step_in, step_at, is_ended, bytes_to_debug}
+use Rattle.mufom_judging.specs.Prefixes.{Step, Extent, Location, in_header, in_part, at_end, size_of, location_after, header_mode, is_raw, body_mode}
+use Rattle.mufom_judging.specs.Prefixes.{as_step, raw_step, step_in, step_at, is_ended, bytes_to_debug}
 use Rattle.mufom_read.specs.Reader.{IsReading, IsIncomplete}
-use Rattle.mufom_read.proofs.judged.Stays.{AreBytes-drop}
+use Rattle.mufom_judging.proofs.judged.Stays.{AreBytes-drop}
 use Rattle.mufom_records.specs.declared.options.ReadOptions.{ReadOptions}
 use Rattle.std.proofs.Common.{None}
 

@@ -18,9 +18,9 @@ use Rattle.mufom_read.specs.declared.header.Addressing.{Addressing}
 use Rattle.mufom_read.specs.declared.loads.Loads.{Loads}
 use Rattle.mufom_read.specs.declared.debug.Debugs.{Debugs}
 use Rattle.mufom_read.specs.declared.contents.Contents.{Contents}
-use Rattle.mufom_read.specs.Prefixes.{OffsetRecord}
-use Rattle.mufom_read.specs.Faults.{OpenBlock, opened_after, open_blocks}
-use Rattle.mufom_read.specs.Stated.{indexes_in}
+use Rattle.mufom_judging.specs.Prefixes.{OffsetRecord}
+use Rattle.mufom_judging.specs.Faults.{OpenBlock, opened_after, open_blocks}
+use Rattle.mufom_judging.specs.Stated.{indexes_in}
 use Rattle.mufom_read.specs.Kept.{as_record, tables_of, indexes_by}
 use Rattle.mufom_read.specs.HeaderSoFar.{names_by, layout_by, names_in, layout_in, header_after}
 use Rattle.mufom_read.specs.SectionsSoFar.{AreSectionsOf, AreSectionsBefore}
@@ -28,7 +28,7 @@ use Rattle.mufom_read.specs.NamesSoFar.{records_in, ArePublicsOf, IsBefore, AreB
 use Rattle.mufom_read.specs.DebugSoFar.{opened, marks_kept, marks_so_far, AreDebugOf}
 use Rattle.mufom_read.specs.LoadsSoFar.{with_load, units_in, units_or, loads_so_far}
 use Rattle.mufom_read.specs.ContentsSoFar.{starts_from, start_so_far, AreContentsOf, AreContentsBefore, AreMarked}
-use Rattle.mufom_read.proofs.ended.Trees.{tree_known}
+use Rattle.mufom_judging.proofs.ended.Trees.{tree_known}
 use Rattle.mufom_read.proofs.so_far.LoadLaws.{answer-more, loads-more}
 use Rattle.mufom_read.proofs.ended.LoadsWhole.{quiet-at, tree_stays}
 use Rattle.mufom_read.proofs.so_far.DebugSteps.{marks-more, open-more}

@@ -18,12 +18,12 @@ use Rattle.mufom_module.specs.SpelledRecords.{SpelledRecord, section, debug_name
 use Rattle.mufom_module.specs.Gathered.{mark_by, marks, note_of}
 use Rattle.mufom_module.specs.Grammar.{names_unknown, FollowFrom}
 use Rattle.mufom_read.specs.declared.debug.OpenBlock.{OpenBlock}
-use Rattle.mufom_read.specs.Prefixes.{OffsetRecord}
-use Rattle.mufom_read.specs.Faults.{OpenBlock as Opened, ends_badly, opened_after, open_from, open_blocks}
-use Rattle.mufom_read.specs.Stated.{indexes_in}
+use Rattle.mufom_judging.specs.Prefixes.{OffsetRecord}
+use Rattle.mufom_judging.specs.Faults.{OpenBlock as Opened, ends_badly, opened_after, open_from, open_blocks}
+use Rattle.mufom_judging.specs.Stated.{indexes_in}
 use Rattle.mufom_read.specs.Kept.{tables_of, indexes_by, as_record}
 use Rattle.mufom_read.specs.DebugSoFar.{as_opened, stacked, marks_to_block, marks_from, marks_so_far}
-use Rattle.mufom_read.proofs.ended.Trees.{named_known, tree_known}
+use Rattle.mufom_judging.proofs.ended.Trees.{named_known, tree_known}
 use Rattle.mufom_read.proofs.ended.LoadsWhole.{kind_stays, tree_stays}
 
 -- what follows from a result that holds on success

@@ -14,9 +14,9 @@ use Rattle.mufom_module.specs.SpelledRecords.{named_by, Once, value_of_public, w
 use Rattle.mufom_module.specs.SpelledRecords.{assigned_by, is_assigned}
 use Rattle.mufom_module.specs.Gathered.{answers, size_for, alignment_for, base_for, note_of, value_for, weak_for, public_note_for, reference_note_for}
 use Rattle.mufom_module.specs.Grammar.{Follows, FollowFrom}
-use Rattle.mufom_read.specs.Prefixes.{OffsetRecord}
+use Rattle.mufom_judging.specs.Prefixes.{OffsetRecord}
 use Rattle.mufom_read.specs.NamesSoFar.{AreRising}
-use Rattle.mufom_read.proofs.ended.Trees.{named_known}
+use Rattle.mufom_judging.proofs.ended.Trees.{named_known}
 
 abbrev weak_of : ℕ → Option ℕ → Weak
 weak_of n default = record { size = n; default = unwrap_or default 0 }

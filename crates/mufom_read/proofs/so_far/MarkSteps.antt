@@ -13,7 +13,7 @@ use Rattle.mufom_module.specs.SpelledRecords.{is_same_statement, assigned_by, is
 use Rattle.mufom_module.specs.Gathered.{value_for}
 use Rattle.mufom_read.specs.declared.publics.PublicMark.{PublicMark}
 use Rattle.mufom_read.specs.declared.publics.PublicMark.TheVariants.{Valued}
-use Rattle.mufom_read.specs.Prefixes.{OffsetRecord}
+use Rattle.mufom_judging.specs.Prefixes.{OffsetRecord}
 use Rattle.mufom_read.specs.Kept.{as_record}
 use Rattle.mufom_read.specs.NamesSoFar.{value_start_for, mark_of, public_mark_by, public_marks, records_in}
 use Rattle.mufom_read.proofs.so_far.InPlace.{changed_at, changed-there}

@@ -20,14 +20,14 @@ use Rattle.mufom_module.specs.Gathered.{value_for}
 use Rattle.mufom_module.specs.Grammar.{Follows, FollowFrom}
 use Rattle.mufom_read.specs.declared.tables.Tables.{Tables}
 use Rattle.mufom_read.specs.declared.publics.PublicMark.{PublicMark}
-use Rattle.mufom_read.specs.Prefixes.{OffsetRecord}
-use Rattle.mufom_read.specs.Faults.{Fault, fault_if, first_fault, external_fault}
+use Rattle.mufom_judging.specs.Prefixes.{OffsetRecord}
+use Rattle.mufom_judging.specs.Faults.{Fault, fault_if, first_fault, external_fault}
 use Rattle.mufom_read.specs.Kept.{tables_of, statements, has, is_unknown, external_fault_in}
 use Rattle.mufom_read.specs.NamesSoFar.{unplaced_value, unplaced_by, unplaced_publics, value_start_for, public_mark_by, public_marks, value_fault}
 use Rattle.mufom_read.specs.NamesSoFar.{mark_of, public_faults, earlier, least_from, AreRising, records_in}
 use Rattle.mufom_read.proofs.TableLaws.{value-has}
 use Rattle.mufom_read.proofs.WholeLaws.{external_fault-tables}
-use Rattle.mufom_read.proofs.ended.Trees.{named_known}
+use Rattle.mufom_judging.proofs.ended.Trees.{named_known}
 use Rattle.mufom_read.proofs.so_far.FollowLaws.{value-unstated}
 use Rattle.mufom_read.proofs.so_far.ReferenceSteps.{same_index}
 use Rattle.mufom_read.proofs.so_far.MarkSteps.{no-start, value-started}

@@ -17,10 +17,10 @@ use Rattle.mufom_module.specs.Grammar.{declares_again, states_again}
 use Rattle.mufom_module.specs.Gathered.{note_of, value_for, public_note_for, weak_for, reference_note_for, references_of}
 use Rattle.mufom_read.specs.declared.publics.PublicMark.TheVariants.{Declared, Valued}
 use Rattle.mufom_read.specs.declared.publics.Publics.{Publics}
-use Rattle.mufom_read.specs.Prefixes.{OffsetRecord}
+use Rattle.mufom_judging.specs.Prefixes.{OffsetRecord}
 use Rattle.mufom_read.specs.Kept.{as_record}
 use Rattle.mufom_read.specs.NamesSoFar.{unplaced_publics, public_marks, records_in, ArePublicsOf, IsBefore, AreBefore}
-use Rattle.mufom_read.proofs.ended.Trees.{named_known}
+use Rattle.mufom_judging.proofs.ended.Trees.{named_known}
 use Rattle.mufom_read.proofs.so_far.FollowLaws.{nothing-stated, value_silent, public_note_silent, weak_silent, reference_note_silent, value-unstated}
 use Rattle.mufom_read.proofs.so_far.FollowLaws.{weak-unstated}
 use Rattle.mufom_read.proofs.so_far.ReferenceSteps as reference_steps

@@ -11,8 +11,8 @@ use Rattle.mufom_records.specs.declared.record.Record.TheVariants as r
 use Rattle.mufom_sections.specs.declared.section.Section.{Section}
 use Rattle.mufom_module.specs.SpelledRecords.{SpelledRecord, Once, section_base, is_same_statement, assigned_by, is_assigned}
 use Rattle.mufom_module.specs.Gathered.{answers, first_answer, base_for, section_by, sections_of}
-use Rattle.mufom_read.specs.Prefixes.{OffsetRecord}
-use Rattle.mufom_read.specs.Faults.{Fault, fault_if, first_fault, section_fault}
+use Rattle.mufom_judging.specs.Prefixes.{OffsetRecord}
+use Rattle.mufom_judging.specs.Faults.{Fault, fault_if, first_fault, section_fault}
 use Rattle.mufom_read.specs.NamesSoFar.{records_in}
 use Rattle.mufom_read.specs.SectionsSoFar.{section_start_by, section_starts, is_unbased, first_unbased}
 

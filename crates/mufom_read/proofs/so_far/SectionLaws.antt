@@ -13,11 +13,11 @@ use Rattle.mufom_module.specs.RecordParts.{section_part, stands_in}
 use Rattle.mufom_module.specs.Grammar.{declares_again, states_again}
 use Rattle.mufom_module.specs.Gathered.{size_for, alignment_for, base_for, sections_of}
 use Rattle.mufom_read.specs.declared.sections.Sections.{Sections}
-use Rattle.mufom_read.specs.Prefixes.{OffsetRecord}
+use Rattle.mufom_judging.specs.Prefixes.{OffsetRecord}
 use Rattle.mufom_read.specs.Kept.{as_record}
 use Rattle.mufom_read.specs.NamesSoFar.{records_in}
 use Rattle.mufom_read.specs.SectionsSoFar.{section_start_by, section_starts, AreSectionsOf, AreSectionsBefore}
-use Rattle.mufom_read.proofs.ended.Trees.{named_known}
+use Rattle.mufom_judging.proofs.ended.Trees.{named_known}
 use Rattle.mufom_read.proofs.so_far.FollowLaws.{nothing-stated, size_silent, alignment_silent, base_silent, size-unstated, alignment-unstated, base-unstated}
 use Rattle.mufom_read.proofs.so_far.ReferenceSteps.{within-some}
 use Rattle.mufom_read.proofs.so_far.SectionSteps as section_steps

@@ -11,7 +11,7 @@ use Rattle.mufom_sections.specs.declared.section.Section.{Section}
 use Rattle.mufom_module.specs.SpelledRecords.{SpelledRecord, text_in, section, declared, declared_by, of_kind}
 use Rattle.mufom_module.specs.RecordParts.{section_part, stands_in}
 use Rattle.mufom_module.specs.Gathered.{answers, first_answer, size_for, alignment_for, base_for, purpose_of, section_by, sections_of}
-use Rattle.mufom_read.specs.Prefixes.{OffsetRecord}
+use Rattle.mufom_judging.specs.Prefixes.{OffsetRecord}
 use Rattle.mufom_read.specs.Kept.{as_record}
 use Rattle.mufom_read.specs.NamesSoFar.{records_in}
 use Rattle.mufom_read.specs.SectionsSoFar.{section_start_by, section_starts}

@@ -15,12 +15,12 @@ use Rattle.mufom_module.specs.Grammar.{offset_in, declares_again, states_again, 
 use Rattle.mufom_read.specs.declared.prefix.Prefix.{Prefix}
 use Rattle.mufom_read.specs.declared.prefix.Location as code
 use Rattle.mufom_read.specs.declared.prefix.Location.TheVariants as offset
-use Rattle.mufom_read.specs.Prefixes.{Step, Extent, records_of, offset_records_of, offsets_of, record_of}
-use Rattle.mufom_read.specs.Faults.{Fault, fault_if, fault_for, OpenBlock, open_blocks, ends_badly, is_too_deep, misplaces_counter, record_fault}
-use Rattle.mufom_read.specs.Faults.{part_record_fault, rule_broken, has_bad_alignment, is_out_of_order}
+use Rattle.mufom_judging.specs.Prefixes.{Step, Extent, records_of, offset_records_of, offsets_of, record_of}
+use Rattle.mufom_judging.specs.Faults.{Fault, fault_if, fault_for, OpenBlock, open_blocks, ends_badly, is_too_deep, misplaces_counter, record_fault}
+use Rattle.mufom_judging.specs.Faults.{part_record_fault, rule_broken, has_bad_alignment, is_out_of_order}
 use Rattle.mufom_read.specs.PartsOfCode.{as_extent}
 use Rattle.mufom_read.specs.Kept.{as_record, tables_of, is_new, statements, alignment_stated, size_stated, base_stated, value_stated, weakness_stated, HasRoom}
-use Rattle.mufom_read.specs.DebugSoFar.{HasKind}
+use Rattle.mufom_judging.specs.RecordFields.{HasKind}
 use Rattle.mufom_read.specs.PrefixOfCode.{AreFrom, AreOrdered, IsPrefixOf, IsAddable, IsHeaderRow, IsPlacedWell, as_location}
 use Rattle.mufom_read.proofs.RuleLaws.{declares, states}
 

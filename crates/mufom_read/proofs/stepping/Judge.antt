@@ -7,7 +7,7 @@ use Rattle.mufom_module.specs.SpelledRecords.{SpelledRecord}
 use Rattle.mufom_read.specs.declared.prefix.Prefix.{Prefix}
 use Rattle.mufom_read.specs.declared.prefix.Next.{Next}
 use Rattle.mufom_read.specs.declared.prefix.Next.TheVariants as next
-use Rattle.mufom_read.specs.Prefixes.{Step, read, size_of, as_step}
+use Rattle.mufom_judging.specs.Prefixes.{Step, read, size_of, as_step}
 use Rattle.mufom_read.specs.Kept.{as_record}
 use Rattle.mufom_read.specs.PrefixOfCode.{HasTaken, HasJudged}
 

@@ -5,9 +5,9 @@ use Rattle.std.proofs.Common.{ltb-false, leb-true, lt-ltb, le-ltb, le-leb, ne_eq
 use Rattle.std.specs.List.{cons_option}
 use Rattle.std.proofs.lemmas.Bool.{and_parts}
 use Rattle.mufom_module.specs.RecordParts.{Part}
-use Rattle.mufom_read.specs.Prefixes.{Step, size_of, offsets_of, Extent, in_header, in_part, first_present, part_among, parts_in_order, part_at}
-use Rattle.mufom_read.specs.Prefixes.{location_by, location_after}
-use Rattle.mufom_read.specs.Faults.{whole_fault, ended_fault, ended_part_fault}
+use Rattle.mufom_judging.specs.Prefixes.{Step, size_of, offsets_of, Extent, in_header, in_part, first_present, part_among, parts_in_order, part_at}
+use Rattle.mufom_judging.specs.Prefixes.{location_by, location_after}
+use Rattle.mufom_judging.specs.Faults.{whole_fault, ended_fault, ended_part_fault}
 use Rattle.mufom_read.specs.PrefixOfCode.{AreFrom, AreOrdered, next_location, is_inside}
 
 nothing : {A : Type 0} {x : A} → Some x ≡ None → ⊥

@@ -22,10 +22,10 @@ use Rattle.mufom_read.specs.declared.prefix.Location.TheVariants as offset
 use Rattle.mufom_read.specs.declared.part.Part as codes
 use Rattle.mufom_read.specs.declared.part.Part.TheVariants as part_of_code
 use Rattle.mufom_read.specs.declared.part.Extent as extents
-use Rattle.mufom_read.specs.Prefixes.{Step, raw, read, step_bytes, prefix_bytes, size_of, record_of, records_of, offsets_of, Extent, first_present}
-use Rattle.mufom_read.specs.Prefixes.{part_among, parts_in_order, part_at, location_after}
-use Rattle.mufom_read.specs.Faults.{fault_if, header_fault, record_fault, part_record_fault, is_out_of_order, leaves_gap}
-use Rattle.mufom_read.specs.Stated.{bytes_between, part_bytes}
+use Rattle.mufom_judging.specs.Prefixes.{Step, raw, read, step_bytes, prefix_bytes, size_of, record_of, records_of, offsets_of, Extent, first_present}
+use Rattle.mufom_judging.specs.Prefixes.{part_among, parts_in_order, part_at, location_after}
+use Rattle.mufom_judging.specs.Faults.{fault_if, header_fault, record_fault, part_record_fault, is_out_of_order, leaves_gap}
+use Rattle.mufom_judging.specs.Stated.{bytes_between, part_bytes}
 use Rattle.mufom_read.specs.PartsOfCode.{as_part, as_extent}
 use Rattle.mufom_read.specs.PrefixOfCode.{AreOrdered, IsPlacedWell, as_location, offset_count, bytes_so_far, extension_in, environment_in}
 use Rattle.mufom_read.proofs.stepping.Place.{part-found, header-found, end-found}

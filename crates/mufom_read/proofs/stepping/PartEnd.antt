@@ -2,8 +2,8 @@
 use Rattle.std.proofs.Common.{◌≡◌, ◌⊎◌, ℕ, ◌+◌, ◌<◌, ◌≤◌, Bool, true, false, true≢false, cond, nat_lt, ltb-true, ltb-false, arith, List, [], ◌∷◌}
 use Rattle.std.proofs.Common.{Option, Some, None, is_some, refl, sym, ap, subst, ◌∙◌, inl, inr}
 use Rattle.std.specs.Option.{option_or}
-use Rattle.mufom_read.specs.Prefixes.{OffsetRecord}
-use Rattle.mufom_read.specs.Faults.{Fault, first_fault}
+use Rattle.mufom_judging.specs.Prefixes.{OffsetRecord}
+use Rattle.mufom_judging.specs.Faults.{Fault, first_fault}
 use Rattle.mufom_read.specs.NamesSoFar.{earlier, least_from, AreRising}
 
 -- this error is among these

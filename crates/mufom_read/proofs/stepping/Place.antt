@@ -3,7 +3,7 @@ use Rattle.std.proofs.Common.{◌≡◌, ℕ, Bool, true, false, true≢false, n
 use Rattle.mufom_read.specs.declared.prefix.Location as code
 use Rattle.mufom_read.specs.declared.prefix.Location.TheVariants as offset
 use Rattle.mufom_read.specs.declared.part.Extent as extents
-use Rattle.mufom_read.specs.Prefixes.{Step, size_of, Extent, Location, in_header, in_part, at_end, part_at, location_by, location_after}
+use Rattle.mufom_judging.specs.Prefixes.{Step, size_of, Extent, Location, in_header, in_part, at_end, part_at, location_by, location_after}
 use Rattle.mufom_read.specs.PartsOfCode.{as_extent}
 use Rattle.mufom_read.specs.PrefixOfCode.{as_location}
 

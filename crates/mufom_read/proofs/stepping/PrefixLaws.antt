@@ -12,9 +12,9 @@ use Rattle.mufom_module.specs.RecordParts.{begins_item}
 use Rattle.mufom_module.specs.Grammar.{offset_in, Follows, FollowFrom}
 use Rattle.mufom_read.specs.declared.prefix.Prefix.{Prefix}
 use Rattle.mufom_read.specs.declared.tables.Tables.{Tables}
-use Rattle.mufom_read.specs.Prefixes.{Step, raw, read, step_bytes, prefix_bytes, size_of, record_of, records_of, offset_record, offset_records_of}
-use Rattle.mufom_read.specs.Prefixes.{offsets_of, first_present, awaits_items, ends_with}
-use Rattle.mufom_read.specs.Faults.{set_by}
+use Rattle.mufom_judging.specs.Prefixes.{Step, raw, read, step_bytes, prefix_bytes, size_of, record_of, records_of, offset_record, offset_records_of}
+use Rattle.mufom_judging.specs.Prefixes.{offsets_of, first_present, awaits_items, ends_with}
+use Rattle.mufom_judging.specs.Faults.{set_by}
 use Rattle.mufom_read.specs.Kept.{tables_of, with_row, statements, alignment_stated, size_stated, base_stated, value_stated, weakness_stated}
 use Rattle.mufom_read.specs.NamesSoFar.{records_in, AreRising}
 use Rattle.mufom_read.specs.ContentsSoFar.{AreContentsOf, AreContentsBefore}

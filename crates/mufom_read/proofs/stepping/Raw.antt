@@ -17,11 +17,11 @@ use Rattle.mufom_read.specs.declared.prefix.Location.TheVariants as offset
 use Rattle.mufom_read.specs.declared.prefix.Next.{Next}
 use Rattle.mufom_read.specs.declared.prefix.Next.TheVariants as next
 use Rattle.mufom_read.specs.declared.part.Extent as extents
-use Rattle.mufom_read.specs.Prefixes.{Step, raw, size_of, record_of, records_of, offset_record, offset_records_of, offsets_of, Extent, in_header}
-use Rattle.mufom_read.specs.Prefixes.{in_part, first_present, part_among, parts_in_order, part_at, location_by, location_after, is_raw, raw_step}
-use Rattle.mufom_read.specs.Prefixes.{as_step, step_at, body_mode, next_step, awaits_items, ends_with, is_ended, bytes_to_debug}
-use Rattle.mufom_read.specs.Faults.{whole_fault, step_fault, ended_fault, ended_part_fault}
-use Rattle.mufom_read.specs.Judging.{IsSoundFrom}
+use Rattle.mufom_judging.specs.Prefixes.{Step, raw, size_of, record_of, records_of, offset_record, offset_records_of, offsets_of, Extent, in_header}
+use Rattle.mufom_judging.specs.Prefixes.{in_part, first_present, part_among, parts_in_order, part_at, location_by, location_after, is_raw, raw_step}
+use Rattle.mufom_judging.specs.Prefixes.{as_step, step_at, body_mode, next_step, awaits_items, ends_with, is_ended, bytes_to_debug}
+use Rattle.mufom_judging.specs.Faults.{whole_fault, step_fault, ended_fault, ended_part_fault}
+use Rattle.mufom_judging.specs.Judging.{IsSoundFrom}
 use Rattle.mufom_read.specs.PartsOfCode.{as_part, as_extent}
 use Rattle.mufom_read.specs.PrefixOfCode.{AreOrdered, IsPrefixOf, as_location, extension_in, environment_in, next_location, HasRaw, HasSkipped, IsStepTaken}
 use Rattle.mufom_read.proofs.stepping.PrefixLaws.{size-append}

@@ -12,9 +12,9 @@ use Rattle.mufom_read.specs.declared.prefix.Next.{Next}
 use Rattle.mufom_read.specs.declared.prefix.Next.TheVariants as next
 use Rattle.mufom_read.specs.declared.part.Extent as extents
 use Rattle.mufom_read.specs.declared.refusal.ReadRefusal.{ReadRefusal}
-use Rattle.mufom_read.specs.Prefixes.{Step, step_bytes, size_of, offsets_of, in_part, parts_in_order, location_after, raw_step, as_step, step_at}
-use Rattle.mufom_read.specs.Prefixes.{next_step, is_ended, bytes_to_debug}
-use Rattle.mufom_read.specs.Faults.{step_fault, ended_part_fault, fault_after}
+use Rattle.mufom_judging.specs.Prefixes.{Step, step_bytes, size_of, offsets_of, in_part, parts_in_order, location_after, raw_step, as_step, step_at}
+use Rattle.mufom_judging.specs.Prefixes.{next_step, is_ended, bytes_to_debug}
+use Rattle.mufom_judging.specs.Faults.{step_fault, ended_part_fault, fault_after}
 use Rattle.mufom_read.specs.PartsOfCode.{as_extent}
 use Rattle.mufom_read.specs.Kept.{as_fault}
 use Rattle.mufom_read.specs.PrefixOfCode.{IsPrefixOf, IsRead, as_location, mode_at, HasJudged, IsStepTaken, HasAdvanced, end_at}

@@ -7,9 +7,9 @@ use Rattle.mufom_read.specs.declared.refusal.ReadStop.TheVariants as stop
 use Rattle.mufom_read.specs.declared.prefix.Prefix.{Prefix}
 use Rattle.mufom_read.specs.declared.prefix.Next.TheVariants as next
 use Rattle.mufom_read.specs.declared.refusal.ReadRefusal.{ReadRefusal}
-use Rattle.mufom_read.specs.Prefixes.{Step, step_bytes, size_of, is_ended, next_step}
-use Rattle.mufom_read.specs.Faults.{ended_part_fault, step_fault, fault_after}
-use Rattle.mufom_read.specs.Judging.{IsSoundFrom}
+use Rattle.mufom_judging.specs.Prefixes.{Step, step_bytes, size_of, is_ended, next_step}
+use Rattle.mufom_judging.specs.Faults.{ended_part_fault, step_fault, fault_after}
+use Rattle.mufom_judging.specs.Judging.{IsSoundFrom}
 use Rattle.mufom_read.specs.PrefixOfCode.{IsPrefixOf, HasAdvanced}
 use Rattle.mufom_read.specs.Reader.{HasTakenAll, HasGoneOn}
 use Rattle.mufom_read.proofs.stepping.PrefixLaws.{size-append}

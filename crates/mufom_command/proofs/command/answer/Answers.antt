@@ -1,7 +1,7 @@
 use Rattle.std.proofs.Common.{List, Result, map, subst, sym, ℕ}
 use Rattle.std.specs.String.{string_bytes}
 use Rattle.mufom_command.proofs.AnswerLaws.{does-nothing}
-use Rattle.mufom_command.proofs.MakeLaws.{help-asked, help-prints}
+use Rattle.mufom_command.proofs.HelpLaws.{help-asked, help-prints}
 use Rattle.mufom_command.specs.RunParts.{AsksForHelp, DoesBy, DoesWith}
 use Rattle.mufom_task.specs.Calls.{Call, call_of}
 use Rattle.mufom_task.specs.declared.task.Request.{Request}

@@ -1,6 +1,6 @@
 use Rattle.std.proofs.Common.{List, ap, map, subst, sym, ℕ, ◌∙◌}
 use Rattle.std.specs.String.{string_bytes}
-use Rattle.mufom_command.specs.RunParts.{Explains}
+use Rattle.mufom_explain_text.specs.Explains.{Explains}
 use Rattle.mufom_task.specs.Calls.{Call, call_of}
 use Rattle.std.proofs.lemmas.List.{drop-map}
 use Rattle.mufom_command.proofs.command.answer_request.Goals as goal

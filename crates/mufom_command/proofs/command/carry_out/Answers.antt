@@ -1,7 +1,7 @@
 use Rattle.std.proofs.Common.{subst}
 use Rattle.mufom_command.proofs.DoesLaws.{help-ready, help-stop, put-does, stopped-does}
-use Rattle.mufom_command.specs.Ready.{ready_output}
-use Rattle.mufom_command.specs.RunParts.{PrintsHelpText}
+use Rattle.mufom_prepare.specs.Ready.{ready_output}
+use Rattle.mufom_prepare.specs.Prepared.{PrintsHelpText}
 use Rattle.mufom_command.proofs.command.carry_out.Goals as goal
 
 pub returns-in-Ok-clause-does : goal.returns-in-Ok-clause-does

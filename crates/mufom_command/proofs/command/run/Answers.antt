@@ -4,8 +4,8 @@ use Rattle.mufom_host.specs.World.{Faults, Meaning}
 use Rattle.mufom_words.specs.Answer.{answer_of}
 use Rattle.mufom_task.specs.Calls.{Call, call_of}
 use Rattle.mufom_command.proofs.AnswerLaws.{IsAnswered, answered, err-before, line-since}
-use Rattle.mufom_command.proofs.MakeLaws.{never-lacks}
-use Rattle.mufom_command.proofs.Runs.{answers-complete}
+use Rattle.mufom_command.proofs.HelpLaws.{never-lacks}
+use Rattle.mufom_works.proofs.Runs.{answers-complete}
 use Rattle.mufom_command.proofs.command.run.Goals as goal
 
 pub returns : goal.returns

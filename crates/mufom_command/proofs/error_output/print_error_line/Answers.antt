@@ -1,7 +1,7 @@
 use Rattle.std.proofs.Common.{ℕ, List, subst, ◌∙◌}
 use Rattle.mufom_outcome.specs.Complaint.{complaint}
 use Rattle.mufom_outcome.specs.declared.outcome.Outcome.TheVariants as outcome
-use Rattle.mufom_command.specs.Run.{AddsErrorLine}
+use Rattle.mufom_works.specs.Run.{AddsErrorLine}
 use Rattle.mufom_task.specs.Calls.{call_of}
 use Rattle.mufom_command.proofs.error_output.print_error_line.Goals as goal
 

@@ -1,6 +1,6 @@
 use Rattle.std.proofs.Common.{map, sym}
 use Rattle.std.specs.String.{string_bytes}
-use Rattle.mufom_command.proofs.ExplainReading.{lacking-all}
+use Rattle.mufom_explain_text.proofs.ExplainReading.{lacking-all}
 use Rattle.mufom_command.proofs.explain.explain.Goals as goal
 
 pub explain_request-requires-clause-asks : goal.explain_request-requires-clause-asks

@@ -1,13 +1,13 @@
 use Rattle.std.proofs.Common.{List, Option, map, refl, subst, ℕ}
 use Rattle.std.specs.String.{string_bytes}
-use Rattle.mufom_command.proofs.DoesLaws.{opens-read}
-use Rattle.mufom_command.proofs.ExplainReading.{done-explains, task-explains}
+use Rattle.mufom_works.proofs.OpenedLaws.{opens-read}
+use Rattle.mufom_explain_text.proofs.ExplainReading.{done-explains, task-explains}
 use Rattle.mufom_command.proofs.OtherLaws.{other-explained}
-use Rattle.mufom_command.specs.ExplainText.{explain_text}
-use Rattle.mufom_command.specs.InputLines.{untried_lines}
-use Rattle.mufom_command.specs.Making.{IsPrinted}
-use Rattle.mufom_command.specs.Ready.{ready_output}
-use Rattle.mufom_command.specs.Told.{told_text}
+use Rattle.mufom_works.specs.ExplainText.{explain_text}
+use Rattle.mufom_works.specs.InputLines.{untried_lines}
+use Rattle.mufom_works.specs.Making.{IsPrinted}
+use Rattle.mufom_prepare.specs.Ready.{ready_output}
+use Rattle.mufom_explain_text.specs.Told.{told_text}
 use Rattle.mufom_task.proofs.InputLaws.{call_between}
 use Rattle.mufom_task.specs.Tasks.{inputs_of}
 use Rattle.mufom_outcome.specs.declared.outcome.Outcome.TheVariants as outcome

@@ -1,7 +1,7 @@
 use Rattle.std.proofs.Common.{List, [], map, refl, subst, ℕ}
 use Rattle.std.specs.String.{string_bytes}
-use Rattle.mufom_command.proofs.ExplainReading.{again-explains}
-use Rattle.mufom_command.specs.RunParts.{AskFor}
+use Rattle.mufom_explain_text.proofs.ExplainReading.{again-explains}
+use Rattle.mufom_explain_text.specs.Explains.{AskFor}
 use Rattle.mufom_words.specs.declared.stop.UsageFault.TheVariants as usage
 use Rattle.mufom_outcome.specs.declared.outcome.Outcome.TheVariants as outcome
 use Rattle.mufom_command.proofs.explain.explain_request.Goals as goal

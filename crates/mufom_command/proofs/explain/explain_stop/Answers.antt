@@ -1,7 +1,7 @@
 use Rattle.std.proofs.Common.{List, map, ℕ}
 use Rattle.std.specs.String.{string_bytes}
-use Rattle.mufom_command.proofs.ExplainReading.{lacking-all, words-explain}
-use Rattle.mufom_command.specs.Told.{told_text}
+use Rattle.mufom_explain_text.proofs.ExplainReading.{lacking-all, words-explain}
+use Rattle.mufom_explain_text.specs.Told.{told_text}
 use Rattle.mufom_command.proofs.explain.explain_stop.Goals as goal
 
 pub returns : goal.returns

@@ -1,7 +1,7 @@
 use Rattle.std.proofs.Common.{map, subst}
 use Rattle.std.specs.String.{string_bytes}
 use Rattle.mufom_command.proofs.OtherLaws.{names-inputs}
-use Rattle.mufom_command.specs.RunParts.{AskFor}
+use Rattle.mufom_explain_text.specs.Explains.{AskFor}
 use Rattle.mufom_task.specs.declared.task.Task.{Task}
 use Rattle.mufom_task.specs.declared.task.Request.TheVariants as request
 use Rattle.mufom_command.proofs.explain.explain_task.Goals as goal

@@ -1,6 +1,6 @@
 use Rattle.std.proofs.Common.{◌≡◌, [], ℕ, length, arith, nat_le, sym, ap, ◌∙◌}
 use Rattle.mufom_records.specs.declared.record.Record.{Record}
-use Rattle.mufom_read.specs.Faults as faults
+use Rattle.mufom_judging.specs.Faults as faults
 use Rattle.mufom_read.specs.DebugSoFar.{stacked}
 use Rattle.mufom_read.proofs.so_far.DebugSteps.{stacked-length}
 use Rattle.mufom_read.proofs.debug.is_too_deep.Goals as goal

@@ -1,5 +1,5 @@
 use Rattle.std.proofs.Common.{◌-◌, List, [], length, arith, sym, ap}
-use Rattle.mufom_read.specs.Faults as faults
+use Rattle.mufom_judging.specs.Faults as faults
 use Rattle.mufom_read.proofs.so_far.DebugSteps.{innermost}
 use Rattle.mufom_read.proofs.debug.open_fault.Goals as goal
 

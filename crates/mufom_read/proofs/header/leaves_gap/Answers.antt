@@ -1,5 +1,5 @@
 use Rattle.std.proofs.Common.{◌∙◌, ◌==◌, ◌&&◌, ap, sym, not, nat_eq, eq-eqb}
-use Rattle.mufom_read.specs.Prefixes.{first_present}
+use Rattle.mufom_judging.specs.Prefixes.{first_present}
 use Rattle.mufom_read.specs.Kept.{first_or}
 use Rattle.mufom_read.proofs.WholeLaws.{gap-last}
 use Rattle.mufom_read.proofs.header.leaves_gap.Goals as goal

@@ -1,5 +1,5 @@
 use Rattle.std.proofs.Common.{◌≡◌, ◌++◌, ◌∙◌, sym, ap, arith, length, length-drop, List}
-use Rattle.mufom_read.specs.Prefixes.{Step}
+use Rattle.mufom_judging.specs.Prefixes.{Step}
 use Rattle.mufom_read.specs.PrefixOfCode.{IsPrefixOf}
 use Rattle.mufom_read.proofs.stepping.PrefixLaws.{size-append}
 use Rattle.mufom_read.proofs.stepping.Take.{gone-none, gone-more, all-ended, all-wanting, all-refused}

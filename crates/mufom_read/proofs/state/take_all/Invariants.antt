@@ -1,6 +1,6 @@
 use Rattle.std.proofs.Common.{◌≡◌, ◌-◌, length, List, false, None}
-use Rattle.mufom_read.specs.Prefixes.{Step, is_ended}
-use Rattle.mufom_read.specs.Faults.{ended_part_fault}
+use Rattle.mufom_judging.specs.Prefixes.{Step, is_ended}
+use Rattle.mufom_judging.specs.Faults.{ended_part_fault}
 use Rattle.mufom_read.specs.PrefixOfCode.{IsPrefixOf}
 use Rattle.mufom_read.specs.Reader.{HasGoneOn}
 use Rattle.mufom_read.proofs.state.take_all.Given as goal

@@ -1,5 +1,5 @@
 use Rattle.std.proofs.Common.{◌∙◌, ap, sym, None, []}
-use Rattle.mufom_read.specs.Faults.{open_fault, whole_fault}
+use Rattle.mufom_judging.specs.Faults.{open_fault, whole_fault}
 use Rattle.mufom_read.specs.DebugSoFar.{stacked}
 use Rattle.mufom_read.specs.PartsOfCode.{as_part}
 use Rattle.mufom_read.specs.NamesSoFar.{public_faults, least_from}

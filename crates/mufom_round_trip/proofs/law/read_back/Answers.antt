@@ -1,6 +1,6 @@
 use Rattle.std.proofs.Common.{Bool, sym, subst}
 use Rattle.mufom_module.specs.Written.{written}
-use Rattle.mufom_read.specs.Judging.{IsModule}
+use Rattle.mufom_judging.specs.Judging.{IsModule}
 use Rattle.mufom_read.specs.Reader.{options_of}
 use Rattle.mufom_round_trip.proofs.Written.{written-is-module}
 use Rattle.mufom_round_trip.proofs.law.read_back.Goals as goal

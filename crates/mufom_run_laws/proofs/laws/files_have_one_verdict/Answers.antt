@@ -1,4 +1,4 @@
-use Rattle.mufom_command.proofs.Runs.{one-verdict}
+use Rattle.mufom_works.proofs.Runs.{one-verdict}
 use Rattle.mufom_run_laws.proofs.laws.files_have_one_verdict.Goals as goal
 
 pub returns : goal.returns

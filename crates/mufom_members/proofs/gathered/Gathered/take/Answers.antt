@@ -1,6 +1,6 @@
 use Rattle.std.proofs.Common.{◌≡◌, ◌∙◌, ◌++◌, ◌∷◌, [], sym, ap, subst, true, Some}
 use Rattle.mufom_records.specs.declared.options.ReadOptions.{ReadOptions}
-use Rattle.mufom_read.specs.Judging.{IsModule}
+use Rattle.mufom_judging.specs.Judging.{IsModule}
 use Rattle.mufom_archive.specs.Names.{is_member}
 use Rattle.mufom_members.proofs.Taking.{early_by, early_small, going_answered, late_by, late_small, on_ok, taken_early, taken_late, taken_module, taken_more}
 use Rattle.mufom_members.proofs.gathered.Gathered.take.Goals as goal

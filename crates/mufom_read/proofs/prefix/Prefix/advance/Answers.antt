@@ -2,7 +2,7 @@ use Rattle.std.proofs.Common.{◌++◌, subst}
 use Rattle.mufom_read.specs.declared.prefix.Next.{Next}
 use Rattle.mufom_read.specs.PrefixOfCode.{IsStepTaken}
 use Rattle.mufom_read.specs.declared.prefix.Next.TheVariants as next
-use Rattle.mufom_read.specs.Prefixes.{offset_records_of}
+use Rattle.mufom_judging.specs.Prefixes.{offset_records_of}
 use Rattle.mufom_read.proofs.so_far.Contents.{contents-marked}
 use Rattle.mufom_read.proofs.stepping.Step.{stepped-refused}
 use Rattle.mufom_read.proofs.prefix.Prefix.advance.Goals as goal

@@ -1,6 +1,6 @@
 use Rattle.std.proofs.Common.{◌≡◌, ◌-◌, Some, None, cond, refl, ◌∙◌, sym, ap, arith, option_map, eq-eqb}
-use Rattle.mufom_read.specs.Prefixes.{size_of, part_among, parts_in_order, part_at}
-use Rattle.mufom_read.specs.Faults.{whole_fault, ended_fault}
+use Rattle.mufom_judging.specs.Prefixes.{size_of, part_among, parts_in_order, part_at}
+use Rattle.mufom_judging.specs.Faults.{whole_fault, ended_fault}
 use Rattle.mufom_read.specs.PartsOfCode.{as_part, as_extent}
 use Rattle.mufom_read.specs.PrefixOfCode.{is_inside}
 use Rattle.mufom_read.proofs.stepping.LocationMoves.{inside-whole}

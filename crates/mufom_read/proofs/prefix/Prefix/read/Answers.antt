@@ -6,12 +6,13 @@ use Rattle.mufom_records.specs.Parts.{HasParts}
 use Rattle.mufom_records.specs.Reading.{as_taken, in_place, record_within, next_seen}
 use Rattle.mufom_numbers.specs.declared.taken.Taken.TheVariants as results
 use Rattle.mufom_numbers.proofs.SpellingLaws.{are_bytes}
-use Rattle.mufom_read.specs.Prefixes.{size_of, as_step}
-use Rattle.mufom_read.specs.Faults.{step_fault}
+use Rattle.mufom_judging.specs.Prefixes.{size_of, as_step}
+use Rattle.mufom_judging.specs.Faults.{step_fault}
 use Rattle.mufom_read.specs.Kept.{as_record}
 use Rattle.mufom_read.specs.PrefixOfCode.{as_location, mode_at, end_at}
 use Rattle.mufom_read.proofs.WholeLaws.{if_ok}
-use Rattle.mufom_read.proofs.RecordFacts.{got-some, got-own, got-placed}
+use Rattle.mufom_read.proofs.RecordFacts.{got-own, got-placed}
+use Rattle.mufom_judging.proofs.RecordSizes.{got-some}
 use Rattle.mufom_read.proofs.NearFaults.{within-bad}
 use Rattle.mufom_read.proofs.stepping.Judge.{taken-judged, taken_length}
 use Rattle.mufom_read.proofs.prefix.Prefix.read.Goals as goal

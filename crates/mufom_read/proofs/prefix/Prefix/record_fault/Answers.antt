@@ -1,5 +1,5 @@
 use Rattle.std.proofs.Common.{◌∙◌, ap, sym}
-use Rattle.mufom_read.specs.Faults.{record_fault}
+use Rattle.mufom_judging.specs.Faults.{record_fault}
 use Rattle.mufom_read.specs.Kept.{record_of_seen}
 use Rattle.mufom_read.specs.PrefixOfCode.{as_location}
 use Rattle.mufom_read.proofs.prefix.Prefix.record_fault.Goals as goal

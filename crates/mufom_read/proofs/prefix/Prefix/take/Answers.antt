@@ -1,7 +1,7 @@
 use Rattle.std.proofs.Common.{◌≡◌, ◌∙◌, refl, ap, sym, subst, arith, List, [], ◌∷◌, ◌++◌, None, option_map}
 use Rattle.mufom_read.specs.declared.prefix.Prefix.{Prefix}
-use Rattle.mufom_read.specs.Prefixes.{read, size_of, offset_records_of}
-use Rattle.mufom_read.specs.Faults.{record_fault, OpenBlock, ends_badly}
+use Rattle.mufom_judging.specs.Prefixes.{read, size_of, offset_records_of}
+use Rattle.mufom_judging.specs.Faults.{record_fault, OpenBlock, ends_badly}
 use Rattle.mufom_read.specs.Kept.{is_new, record_of_seen, as_fault}
 use Rattle.mufom_read.specs.PrefixOfCode.{IsPrefixOf, as_location}
 use Rattle.mufom_read.proofs.stepping.Add.{addable, follows-at, room}

@@ -3,12 +3,12 @@ use Rattle.mufom_read.specs.declared.prefix.Prefix.{Prefix}
 use Rattle.mufom_read.specs.declared.refusal.ReadStop.{ReadStop}
 use Rattle.mufom_read.specs.declared.state.State.{State}
 use Rattle.mufom_read.specs.Built.{IsWhole}
-use Rattle.mufom_read.specs.Prefixes.{size_of, is_ended}
+use Rattle.mufom_judging.specs.Prefixes.{size_of, is_ended}
 use Rattle.mufom_read.specs.PrefixOfCode.{IsPrefixOf}
-use Rattle.mufom_read.specs.Judging.{IsModule}
+use Rattle.mufom_judging.specs.Judging.{IsModule}
 use Rattle.mufom_read.specs.Reader.{IsReading, Knows, HasRead}
 use Rattle.mufom_read.proofs.feeding.Finish.{is-whole, finish-stopped, finish-cut, finish-whole, finish-file}
-use Rattle.mufom_read.proofs.weighing.Files.{modules_weigh}
+use Rattle.mufom_judging.proofs.weighing.Files.{modules_weigh}
 use Rattle.mufom_read.proofs.reader.Reader.finish.Goals as goal
 
 pub returns-in-Some-clause-refused : goal.returns-in-Some-clause-refused

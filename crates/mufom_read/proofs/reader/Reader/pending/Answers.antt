@@ -1,7 +1,7 @@
 use Rattle.std.proofs.Common.{ap, sym, subst, ◌∙◌, arith, length, Option}
 use Rattle.mufom_read.specs.declared.refusal.ReadStop.{ReadStop}
 use Rattle.mufom_read.specs.declared.state.State.{State}
-use Rattle.mufom_read.specs.Judging.{IsPending}
+use Rattle.mufom_judging.specs.Judging.{IsPending}
 use Rattle.mufom_read.specs.Reader.{Knows}
 use Rattle.mufom_read.proofs.feeding.Chunks.{pending-is}
 use Rattle.mufom_read.proofs.feeding.Short.{few-pending}

@@ -1,5 +1,5 @@
 use Rattle.std.proofs.Common.{◌≡◌, ◌-◌, ◌≤◌, length, List}
-use Rattle.mufom_read.specs.Prefixes.{Step}
+use Rattle.mufom_judging.specs.Prefixes.{Step}
 use Rattle.mufom_read.specs.PrefixOfCode.{IsPrefixOf}
 use Rattle.mufom_read.specs.Reader.{IsIncomplete}
 use Rattle.mufom_read.proofs.feeding.Complete.{HasWaited}

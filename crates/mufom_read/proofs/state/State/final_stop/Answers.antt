@@ -1,6 +1,6 @@
 use Rattle.std.proofs.Common.{◌∙◌, refl, sym, subst, inr, Bool, false, Some}
 use Rattle.mufom_read.specs.declared.refusal.ReadStop.{ReadStop}
-use Rattle.mufom_read.specs.Prefixes.{is_ended}
+use Rattle.mufom_judging.specs.Prefixes.{is_ended}
 use Rattle.mufom_read.specs.Reader.{HasEndedChunk}
 use Rattle.mufom_read.proofs.stepping.Take.{never}
 use Rattle.mufom_read.proofs.state.State.final_stop.Goals as goal

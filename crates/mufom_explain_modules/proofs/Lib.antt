@@ -1,0 +1,2 @@
+pub mod KeptFlat
+pub mod ToldEnds

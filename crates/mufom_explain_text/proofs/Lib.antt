@@ -1,0 +1,4 @@
+pub mod ArgumentLaws
+pub mod ExplainLaws
+pub mod ExplainReading
+pub mod ToldLaws

@@ -1,0 +1,5 @@
+use Rattle.mufom_explain_text.proofs.input_lines.untried_line.Goals as goal
+
+pub returns : goal.returns
+returns g c = let l = g.met.K.Output in
+    l.joins _ _ _ _ _ (l.joins _ _ _ _ _ c.put.ensures (rw (c.as_bytes.ensures.value, c.as_str.ensures) at c.quoted.ensures)) c.put-2.ensures

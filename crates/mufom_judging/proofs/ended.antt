@@ -1,0 +1,20 @@
+-- A sound prefix that ends is a module's file, and states the module.
+pub mod Walk
+pub mod Rows
+pub mod Header
+pub mod Seen
+pub mod Parts
+pub mod Chunks
+pub mod Nesting
+pub mod Blocks
+pub mod Sliced
+pub mod Slicing
+pub mod Names
+pub mod Gathered
+pub mod Stated
+pub mod Trees
+pub mod Good
+pub mod Entries
+pub mod Loads
+pub mod Debug
+pub mod Prefix

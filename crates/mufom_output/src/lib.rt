@@ -1,0 +1,10 @@
+//! The second step of a task: its output is printed, or written to a file.
+//!
+//! [`put_out`] does this for each kind of output. A file is created only when its contents are complete, and is
+//! written, finished or begun; nothing else changes.
+#![tactic(auto)]
+
+mod put_out;
+mod writing;
+
+pub use put_out::put_out;

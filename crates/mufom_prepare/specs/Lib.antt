@@ -1,0 +1,3 @@
+pub mod Locations
+pub mod Ready
+pub mod Prepared

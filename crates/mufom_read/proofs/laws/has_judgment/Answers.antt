@@ -1,7 +1,0 @@
-use Rattle.mufom_read.proofs.ended.Prefix.{ended_prefix}
-use Rattle.mufom_read.proofs.judged.PrefixJudged.{has_judgment}
-use Rattle.mufom_read.proofs.weighing.Files.{files_weigh}
-use Rattle.mufom_read.proofs.laws.has_judgment.Goals as goal
-
-pub returns : goal.returns
-returns c = has_judgment (ended_prefix files_weigh)

@@ -1,6 +1,0 @@
-use Rattle.mufom_read.proofs.judged.PrefixJudged.{has_one_judgment}
-use Rattle.mufom_read.proofs.spelled.Judged.{judgments_exclude_each_other}
-use Rattle.mufom_read.proofs.laws.has_one_judgment.Goals as goal
-
-pub returns : goal.returns
-returns c = has_one_judgment judgments_exclude_each_other

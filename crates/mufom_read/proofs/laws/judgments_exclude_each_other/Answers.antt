@@ -1,5 +1,0 @@
-use Rattle.mufom_read.proofs.spelled.Judged.{judgments_exclude_each_other}
-use Rattle.mufom_read.proofs.laws.judgments_exclude_each_other.Goals as goal
-
-pub returns : goal.returns
-returns c = judgments_exclude_each_other

@@ -1,5 +1,0 @@
-use Rattle.mufom_read.proofs.spelled.Prefix.{module_is_ended_prefix}
-use Rattle.mufom_read.proofs.laws.module_is_ended_prefix.Goals as goal
-
-pub returns : goal.returns
-returns c = module_is_ended_prefix

@@ -1,5 +1,0 @@
-use Rattle.mufom_read.proofs.judged.PrefixesOne.{prefixes_are_one}
-use Rattle.mufom_read.proofs.laws.prefixes_are_one.Goals as goal
-
-pub returns : goal.returns
-returns c = prefixes_are_one

@@ -1,9 +1,0 @@
-use Rattle.mufom_read.proofs.ended.Prefix.{ended_prefix}
-use Rattle.mufom_read.proofs.judged.PrefixJudged.{prefixes_are_cut_off}
-use Rattle.mufom_read.proofs.spelled.Prefix.{module_is_ended_prefix}
-use Rattle.mufom_read.proofs.spelled.Judged.{judgments_exclude_each_other}
-use Rattle.mufom_read.proofs.weighing.Files.{files_weigh}
-use Rattle.mufom_read.proofs.laws.prefixes_of_modules_are_cut_off.Goals as goal
-
-pub returns : goal.returns
-returns c = prefixes_are_cut_off (ended_prefix files_weigh) module_is_ended_prefix judgments_exclude_each_other

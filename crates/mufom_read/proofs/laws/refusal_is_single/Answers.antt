@@ -1,5 +1,0 @@
-use Rattle.mufom_read.proofs.judged.PrefixesOne.{refusal_is_single}
-use Rattle.mufom_read.proofs.laws.refusal_is_single.Goals as goal
-
-pub returns : goal.returns
-returns c = refusal_is_single

@@ -1,5 +1,0 @@
-use Rattle.mufom_read.proofs.weighing.Files.{modules_weigh}
-use Rattle.mufom_read.proofs.weight_laws.modules_weigh_tenfold.Goals as goal
-
-pub returns : goal.returns
-returns c = modules_weigh

@@ -1,0 +1,12 @@
+pub mod LineLaws
+pub mod RegionLaws
+pub mod TextLaws
+pub mod EndLaws
+pub mod KeptLaws
+pub mod LocatingLaws
+pub mod MapLaws
+pub mod ProductLaws
+pub mod OpenedLaws
+pub mod MadeLaws
+pub mod Runs
+pub mod ExplainSingle

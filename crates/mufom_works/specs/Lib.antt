@@ -1,0 +1,14 @@
+pub mod Text
+pub mod FlatFiles
+pub mod Roots
+pub mod Works
+pub mod WorkEnds
+pub mod Same
+pub mod Run
+pub mod Making
+pub mod ExplainText
+pub mod PlanLines
+pub mod InputLines
+pub mod HasDetails
+pub mod Explain
+pub mod Result
