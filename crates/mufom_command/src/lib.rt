@@ -10,7 +10,7 @@
 //! outcome, and what its error line names.
 //!
 //! A task is done in two steps: `prepare` of `mufom_prepare` reads its inputs and completes its output, and
-//! `put_out` of `mufom_output` prints or writes that. `explain` takes the first step alone, and prints how the
+//! `put_out` of `mufom_put_out` prints or writes that. `explain` takes the first step alone, and prints how the
 //! task ends.
 //!
 //! The main clause is the contract of [`run`]: each outcome has its cause in the arguments, the files or the

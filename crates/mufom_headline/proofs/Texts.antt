@@ -59,7 +59,7 @@ text-read files c name text short alone there =
     subst (λ (names : List (List ℕ)). text_in files names (gives text)) (sym alone) (text, there, kept)
 
 module _ (text : List ℕ) (maus : ℕ) (runs : List Run) (low : 1 ≤ maus) (high : maus ≤ 8) (short : length text ≤ MOST_FILE_BYTES)
-    (is : IsTxtOf text (8 * maus) runs) (few : length (written (text_parts maus runs)) ≤ MOST_FILE_BYTES) where
+    (is : IsTxtOf text (8 * maus) runs) where
   abbrev m : Parts
   m = text_parts maus runs
 
@@ -105,7 +105,8 @@ module _ (text : List ℕ) (maus : ℕ) (runs : List Run) (low : 1 ≤ maus) (hi
     is-located =
         is-located-by (text_parts maus runs ∷ []) no_regions r (((plain_plans_mean_the_same (text_parts maus runs ∷ []) no_regions refl tt).1 r).1 is_location)
 
-    module _ (files : List NamedFile) (c : Inputs) (name out : List ℕ) (does : IsFileAlone c name) (there : file_named name files ≡ Some bytes) where
+    module _ (few : length bytes ≤ MOST_FILE_BYTES) (files : List NamedFile) (c : Inputs) (name out : List ℕ) (does : IsFileAlone c name)
+        (there : file_named name files ≡ Some bytes) where
       is-planned : plan_in files c.plan (gives no_regions)
       is-planned = subst (λ (o : Option (List ℕ)). plan_in files o (gives no_regions)) (sym does.plan) refl
 
@@ -165,15 +166,15 @@ module _ (files : List NamedFile) (t : Task) (name bytes : List ℕ) (works : wo
   }
 
 pub texts-come-back : TextsComeBack
-texts-come-back text maus runs low high short is few = record {
+texts-come-back text maus runs low high short is = record {
   module_file = λ files inputs name out alone there.
       makes files (task.FromTxt inputs maus out) out (written (text_parts maus runs))
-      (module-file text maus runs low high short is few files inputs name out alone there);
-  read_back = read-back (text_parts maus runs) (λ gnu. text-is-module maus runs low high (has-module text maus runs low high short is few)
-      (has-text text maus runs low high short is few) few (record { debug = true; gnu = gnu })) few;
-  text_file = λ files inputs name out does there.
-      let (r, is_location, same) = text_located maus runs (has-module text maus runs low high short is few) low high in
+      (module-file text maus runs low high short is files inputs name out alone there);
+  read_back = λ few. read-back (text_parts maus runs) (λ gnu. text-is-module maus runs low high (has-module text maus runs low high short is)
+      (has-text text maus runs low high short is) few (record { debug = true; gnu = gnu })) few;
+  text_file = λ few files inputs name out does there.
+      let (r, is_location, same) = text_located maus runs (has-module text maus runs low high short is) low high in
       makes files (task.Locate inputs [] (product.TiTxt out)) out (txt_text runs)
-      (text-file text maus runs low high short is few r is_location files inputs name out does there same);
-  same_runs = written_is_read (8 * maus) runs (has-text text maus runs low high short is few);
+      (text-file text maus runs low high short is r is_location few files inputs name out does there same);
+  same_runs = written_is_read (8 * maus) runs (has-text text maus runs low high short is);
 }

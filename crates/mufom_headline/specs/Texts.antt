@@ -44,22 +44,22 @@ pub record Makes (files : List NamedFile) (t : Task) (name bytes : List ℕ) : T
   pub run : (words : List (List ℕ)) (call : Call) (result : Outcome) (c : Command) → Answers words call result → IsUndisturbed files call result
       → answer_of words ≡ Ok c → request_of c ≡ request.Run t → (result ≡ outcome.Done) × MakesFile name bytes call
 
--- Given the text, `fromtxt` makes the file of the module of the runs, from which a later run reads that module. Given this file, `txt` without `--keep`
--- makes the text of the runs, which is again a text of them.
+-- Given the text, `fromtxt` makes the file of the module of the runs. If the file is not too long, a later run reads that module from it, and given this
+-- file `txt` without `--keep` makes the text of the runs, which is again a text of them.
 pub record ComesBack (text : List ℕ) (maus : ℕ) (runs : List Run) : Type 0 where
   pub module_file : (files : List NamedFile) (inputs : Inputs) (name out : List ℕ) → inputs.files ≡ name ∷ [] → file_named name files ≡ Some text
       → Makes files (task.FromTxt inputs maus out) out (written (text_parts maus runs))
-  pub read_back : IsReadBack (text_parts maus runs)
-  pub text_file : (files : List NamedFile) (inputs : Inputs) (name out : List ℕ) → IsFileAlone inputs name
+  pub read_back : length (written (text_parts maus runs)) ≤ MOST_FILE_BYTES → IsReadBack (text_parts maus runs)
+  pub text_file : length (written (text_parts maus runs)) ≤ MOST_FILE_BYTES → (files : List NamedFile) (inputs : Inputs) (name out : List ℕ) → IsFileAlone inputs name
       → file_named name files ≡ Some (written (text_parts maus runs))
       → Makes files (task.Locate inputs [] (product.TiTxt out)) out (txt_text runs)
   pub same_runs : IsTxtOf (txt_text runs) (8 * maus) runs
 
--- A text without an error comes back, if it and the file of its module are not too long.
+-- A text without an error that is not too long comes back.
 abbrev pub TextsComeBack : Type 0
 TextsComeBack =
     (text : List ℕ) (maus : ℕ) (runs : List Run) → 1 ≤ maus → maus ≤ 8 → length text ≤ MOST_FILE_BYTES → IsTxtOf text (8 * maus) runs
-    → length (written (text_parts maus runs)) ≤ MOST_FILE_BYTES → ComesBack text maus runs
+    → ComesBack text maus runs
 
 -- Given a text from which the module is built, `build` makes the file of the module. A later run reads the module from it, if the file is not too long.
 pub record IsBuilt (text : List ℕ) (m : Parts) : Type 0 where

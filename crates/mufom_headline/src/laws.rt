@@ -54,9 +54,9 @@ pub fn written_files_are_read_back()
     ensures { WrittenFilesAreReadBack }
 {}
 
-/// `fromtxt` followed by `txt` preserves the bytes and addresses of a text: `fromtxt` makes the file of the
-/// module of the text's runs, and `txt` over this file alone makes the text of these runs. This holds if the
-/// text and the module file are not too long.
+/// `fromtxt` followed by `txt` preserves the bytes and addresses of a text that is not too long: `fromtxt` makes
+/// the file of the module of the text's runs. If this file is not too long either, `txt` over it alone makes the
+/// text of these runs.
 pub fn texts_come_back()
     ensures { TextsComeBack }
 {}
