@@ -68,7 +68,7 @@ links-are-put-out words files call result c inputs name out plan flat is calm na
   staged = λ leaves came.
       let same = (lists-link-as-their-leaves flat leaves came).facts in
       has-linked (named_as flat leaves) same.answer (λ f stands. (same.facts f).0 stands)
-      (λ none. (links-alike plan (plan-sound files inputs.plan plan accepts.planned).symbols flat leaves
+      (λ none. (links-alike plan flat leaves (plan-sound files inputs.plan plan accepts.planned).symbols
       (accepted-light files inputs plan flat bytes sound accepts) none came).linked name out) came.renamed;
 } where
   bytes : HoldBytes files
