@@ -77,11 +77,11 @@ fn file(alloc: Global, records: &Records) -> Result<Vec<u8>, NoMemory> {
 }
 
 // The module `m` of four units to an address with these records.
-fn module(
+fn module<'a>(
     alloc: Global,
-    sections: &[u8],
-    external: &[u8],
-    data: &[u8],
+    sections: &'a [u8],
+    external: &'a [u8],
+    data: &'a [u8],
 ) -> Result<Vec<u8>, NoMemory> {
     let records = Records {
         sections,

@@ -33,7 +33,7 @@ impl From<AllocError> for Mismatch {
 
 // The text of these bytes.
 fn text_of(alloc: Global, bytes: &[u8]) -> Result<String, AllocError> {
-    match core::str::from_utf8(bytes) {
+    match std::str::from_utf8(bytes) {
         Ok(text) => text.to_string(alloc),
         Err(_) => "bytes that are no text".to_string(alloc),
     }

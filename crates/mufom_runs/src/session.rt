@@ -165,7 +165,7 @@ impl<'a> Session<'a> {
         let Some((name, bytes)) = host.made() else {
             return Ok(());
         };
-        let Ok(name) = core::str::from_utf8(name) else {
+        let Ok(name) = std::str::from_utf8(name) else {
             return Ok(());
         };
         self.add(name, bytes)
