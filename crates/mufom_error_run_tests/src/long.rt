@@ -18,6 +18,20 @@ fn add_references(external: &mut Vec<u8>, first: u8) -> Result<(), AllocError> {
     Ok(())
 }
 
+// The file of a module with this name, a string of the format, and these records of its external part.
+fn module_with<'a>(
+    alloc: Global,
+    name: &'a [u8],
+    external: &'a [u8],
+) -> Result<Vec<u8>, AllocError> {
+    let records = Records {
+        name,
+        external,
+        ..Records::NONE
+    };
+    records.file(alloc)
+}
+
 // The file of a module with the longest name, which refers to all of the names.
 fn long_module(alloc: Global) -> Result<Vec<u8>, AllocError> {
     let mut name = Vec::from_slice(alloc, b"\xDF\xFF\xFF")?;
@@ -26,12 +40,7 @@ fn long_module(alloc: Global) -> Result<Vec<u8>, AllocError> {
     for first in FIRSTS {
         add_references(&mut external, *first)?;
     }
-    let records = Records {
-        name: name.as_slice(),
-        external: external.as_slice(),
-        ..Records::NONE
-    };
-    records.file(alloc)
+    module_with(alloc, name.as_slice(), external.as_slice())
 }
 
 // The lines of the references to the names with this first letter.
