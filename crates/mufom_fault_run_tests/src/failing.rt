@@ -79,9 +79,7 @@ fn has_reads(rt: &impl Abort, alloc: Global, script: &Script, reads: u64) {
 }
 
 // A run that no call keeps from its end.
-fn undisturbed<'a>(line: &'a str, by_bytes: bool) -> Script<'a>
-    ensures { result.line.now ≡ line.now }
-{
+fn undisturbed<'a>(line: &'a str, by_bytes: bool) -> Script<'a> {
     Script {
         line,
         by_bytes,
