@@ -50,7 +50,8 @@ pub record ComesBack (text : List ℕ) (maus : ℕ) (runs : List Run) : Type 0 w
   pub module_file : (files : List NamedFile) (inputs : Inputs) (name out : List ℕ) → inputs.files ≡ name ∷ [] → file_named name files ≡ Some text
       → Makes files (task.FromTxt inputs maus out) out (written (text_parts maus runs))
   pub read_back : length (written (text_parts maus runs)) ≤ MOST_FILE_BYTES → IsReadBack (text_parts maus runs)
-  pub text_file : length (written (text_parts maus runs)) ≤ MOST_FILE_BYTES → (files : List NamedFile) (inputs : Inputs) (name out : List ℕ) → IsFileAlone inputs name
+  pub text_file : length (written (text_parts maus runs)) ≤ MOST_FILE_BYTES
+      → (files : List NamedFile) (inputs : Inputs) (name out : List ℕ) → IsFileAlone inputs name
       → file_named name files ≡ Some (written (text_parts maus runs))
       → Makes files (task.Locate inputs [] (product.TiTxt out)) out (txt_text runs)
   pub same_runs : IsTxtOf (txt_text runs) (8 * maus) runs

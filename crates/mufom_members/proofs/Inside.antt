@@ -20,7 +20,8 @@ use Rattle.mufom_module.specs.RecordParts.{Part, section_part, external_part, de
 use Rattle.mufom_module.specs.Grammar.{file_limit}
 use Rattle.mufom_judging.specs.Prefixes.{Step, raw, read, step_bytes, prefix_bytes, size_of}
 use Rattle.mufom_judging.specs.Prefixes.{records_of, OffsetRecord, offset_record, offset_records_of, Extent, Location}
-use Rattle.mufom_judging.specs.Prefixes.{in_header, in_part, at_end, as_step, body_mode, bytes_to_debug, header_mode, is_raw, location_after, next_step, part_at}
+use Rattle.mufom_judging.specs.Prefixes.{in_header, in_part, at_end, as_step, body_mode, bytes_to_debug, header_mode}
+use Rattle.mufom_judging.specs.Prefixes.{is_raw, location_after, next_step, part_at}
 use Rattle.mufom_judging.specs.Prefixes.{offsets_of, raw_step, step_at}
 use Rattle.mufom_judging.specs.Faults.{Fault, OpenBlock, ended_fault, ended_part_fault, external_fault, fault_after, fault_for, fault_if, first_fault}
 use Rattle.mufom_judging.specs.Faults.{has_unknown_variable, header_fault, is_bad_descriptor, is_out_of_order, lacks_base, lacks_value, leaves_gap, open_blocks}

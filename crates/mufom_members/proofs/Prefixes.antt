@@ -1,5 +1,6 @@
 -- The stop for an archive that goes on after the bytes that were read.
-use Rattle.std.proofs.Common.{◌≡◌, ◌≢◌, ℕ, ◌+◌, ◌∙◌, sym, ap, refl, Bool, true, false, ◌||◌, ◌&&◌, ◌==◌, nat_le, nat_lt, if◌then◌else◌, List, length, map, take, drop}
+use Rattle.std.proofs.Common.{◌≡◌, ◌≢◌, ℕ, ◌+◌, ◌∙◌, sym, ap, refl, Bool, true, false, ◌||◌, ◌&&◌, ◌==◌, nat_le, nat_lt}
+use Rattle.std.proofs.Common.{if◌then◌else◌, List, length, map, take, drop}
 use Rattle.std.proofs.Common.{Option, Some, None, subst, eqb-true}
 use Rattle.std.specs.List.{find}
 use Rattle.std.specs.Option.{is_none}
@@ -118,7 +119,8 @@ module _ (g : Gatherer) (stream : List ℕ) (has : HasGathered g stream) (member
       → StopsBy (IsPrefixVerdict g.gathered.options stream) s
   gathered_prefix o s is made = subst (λ (x : MembersStop). StopsBy (IsPrefixVerdict g.gathered.options stream) x) (sym made) (by_stop o (sym is))
 
-pub prefix_no_fault : (header nameless : Option ℕ) (o : Option MembersStop) (s : MembersStop) → s ≡ prefix_stop header nameless o → ◌≢◌ {A = MembersStop} s stop.Fault
+pub prefix_no_fault : (header nameless : Option ℕ) (o : Option MembersStop) (s : MembersStop) → s ≡ prefix_stop header nameless o
+    → ◌≢◌ {A = MembersStop} s stop.Fault
 prefix_no_fault header nameless o s made = λ is. by_stop o (sym made ∙ is) where
   by_stop : (o : Option MembersStop) → prefix_stop header nameless o ≡ stop.Fault → ⊥
   by_stop None is = let wrong : stop.Limit ≡ stop.Fault = is in cc

@@ -1,9 +1,7 @@
 -- What holds of a record that was read, and of an error.
-use Rattle.std.proofs.Common.{◌≡◌, ℕ, zero, suc, ◌+◌, ◌<◌, Bool, true, false, cond, List, [], ◌∷◌, ◌++◌, length, Option, Some, None, is_some, nat_le}
-use Rattle.std.proofs.Common.{le-leb, sym, ap, subst, ◌∙◌, arith, length-append}
-use Rattle.mufom_numbers.specs.Spelling.{SpellsNumber}
+use Rattle.std.proofs.Common.{◌≡◌, ℕ, zero, suc, Bool, true, false, cond, List, Option, is_some, nat_le}
+use Rattle.std.proofs.Common.{le-leb, sym, ap, subst, ◌∙◌, arith}
 use Rattle.mufom_records.specs.declared.record.Mode.TheVariants as mode
-use Rattle.mufom_records.specs.declared.record.Record.TheVariants as r
 use Rattle.mufom_records.specs.Layouts
 use Rattle.mufom_judging.proofs.ended.Rows.{begin_row, descriptor_row, offset_row, body_kind, items_kind}
 use Rattle.mufom_read.proofs.OwnParts.{body_owned, item_owned, gnu_item_owned, begin_owned}

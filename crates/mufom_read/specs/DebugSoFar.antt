@@ -1,5 +1,5 @@
 -- The debug items read so far, and the blocks that are still open, as the code keeps them.
-use Rattle.std.specs.Prelude.{◌≡◌, ℕ, List, [], ◌∷◌, ◌++◌, map}
+use Rattle.std.specs.Prelude.{◌≡◌, List, [], ◌∷◌, ◌++◌, map}
 use Rattle.std.specs.List.{cons_option}
 use Rattle.mufom_debug.specs.Marks.{DebugMark, block_begin, joined, marks_of, kind_number}
 use Rattle.mufom_module.specs.SpelledRecords.{SpelledRecord}

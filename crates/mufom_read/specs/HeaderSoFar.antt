@@ -4,7 +4,6 @@ use Rattle.std.specs.Option.{option_or}
 use Rattle.mufom_numbers.specs.declared.taken.Span.{Span}
 use Rattle.mufom_records.specs.declared.record.Record.{Record}
 use Rattle.mufom_records.specs.declared.record.Record.TheVariants as r
-use Rattle.mufom_module.specs.declared.module.Order.{Order}
 use Rattle.mufom_module.specs.SpelledRecords.{SpelledRecord, text_in}
 use Rattle.mufom_module.specs.Gathered.{first_answer}
 use Rattle.mufom_judging.specs.RecordFields.{order_of}

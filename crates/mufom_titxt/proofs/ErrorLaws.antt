@@ -156,16 +156,22 @@ module _ (modulus : ℕ) where
   over : (at : ℕ) (b : ℕ) (bytes taken : List ℕ) → IsFree modulus taken at
       → byte_fault modulus taken at (b ∷ bytes) ≡ byte_fault modulus (at ∷ taken) (suc at) bytes
   over at b bytes taken (low, none) =
-      ap (λ t. if t then (if has_number taken at then Some (Twice at) else byte_fault modulus (at ∷ taken) (suc at) bytes) else Some Beyond) (is_lt at modulus low)
+      ap
+      (λ t. if t then (if has_number taken at then Some (Twice at) else byte_fault modulus (at ∷ taken) (suc at) bytes)
+      else Some Beyond) (is_lt at modulus low)
       ∙ ap (λ t. if t then Some (Twice at) else byte_fault modulus (at ∷ taken) (suc at) bytes) none
 
   -- the first byte may not have its address
   barred-first : (at b : ℕ) (bytes taken : List ℕ) (reason : TxtReason) → IsBarred modulus taken at reason
       → byte_fault modulus taken at (b ∷ bytes) ≡ Some reason
   barred-first at b bytes taken Beyond high =
-      ap (λ t. if t then (if has_number taken at then Some (Twice at) else byte_fault modulus (at ∷ taken) (suc at) bytes) else Some Beyond) (not_lt at modulus high)
+      ap
+      (λ t. if t then (if has_number taken at then Some (Twice at) else byte_fault modulus (at ∷ taken) (suc at) bytes)
+      else Some Beyond) (not_lt at modulus high)
   barred-first at b bytes taken (Twice c) (low, had, is) =
-      ap (λ t. if t then (if has_number taken at then Some (Twice at) else byte_fault modulus (at ∷ taken) (suc at) bytes) else Some Beyond) (is_lt at modulus low)
+      ap
+      (λ t. if t then (if has_number taken at then Some (Twice at) else byte_fault modulus (at ∷ taken) (suc at) bytes)
+      else Some Beyond) (is_lt at modulus low)
       ∙ (ap (λ t. if t then Some (Twice at) else byte_fault modulus (at ∷ taken) (suc at) bytes) had ∙ ap (λ x. Some (Twice x)) (sym is))
   barred-first at b bytes taken BadLine h = absurd h
   barred-first at b bytes taken NoAddress h = absurd h
@@ -526,19 +532,21 @@ module _ (modulus : ℕ) where
   walk-wrong count next taken (Some end_line) lines reason wrong = absurd wrong
 
   -- blank lines after the end, and one that is not blank
-  walk-late : (blanks count : ℕ) (next : Option ℕ) (taken : List ℕ) (line : Option Line) (lines : List (Option Line)) → line ≢ Some blank_line
+  walk-late : (blanks count : ℕ) (next : Option ℕ) (taken : List ℕ) (line : Option Line) (lines : List (Option Line))
+      → line ≢ Some blank_line
       → refusal_after modulus count (stopped next) taken (good (replicate blanks blank_line) ++ line ∷ lines) ≡ Some (refusal_at (suc (count + blanks)) AfterEnd)
   walk-late (suc blanks) count next taken line lines wrong =
       walk-late blanks (suc count) next taken line lines wrong
       ∙ ap (λ n. Some (refusal_at (suc n) AfterEnd)) (let same : suc count + blanks ≡ count + suc blanks = omega arith in same)
-  walk-late zero count next taken line lines wrong = at_line line wrong ∙ ap (λ n. Some (refusal_at (suc n) AfterEnd)) (let same : count ≡ count + 0 = omega arith in same) where
-    at_line : (line : Option Line) → line ≢ Some blank_line
-        → refusal_after modulus count (stopped next) taken (line ∷ lines) ≡ Some (refusal_at (suc count) AfterEnd)
-    at_line None wrong = refl
-    at_line (Some blank_line) wrong = absurd (wrong refl)
-    at_line (Some (address_line address)) wrong = refl
-    at_line (Some (byte_line bytes)) wrong = refl
-    at_line (Some end_line) wrong = refl
+  walk-late zero count next taken line lines wrong =
+      at_line line wrong ∙ ap (λ n. Some (refusal_at (suc n) AfterEnd)) (let same : count ≡ count + 0 = omega arith in same) where
+        at_line : (line : Option Line) → line ≢ Some blank_line
+            → refusal_after modulus count (stopped next) taken (line ∷ lines) ≡ Some (refusal_at (suc count) AfterEnd)
+        at_line None wrong = refl
+        at_line (Some blank_line) wrong = absurd (wrong refl)
+        at_line (Some (address_line address)) wrong = refl
+        at_line (Some (byte_line bytes)) wrong = refl
+        at_line (Some end_line) wrong = refl
 
   -- an error with its parts
   made : (r : TxtRefusal) (line : ℕ) (reason : TxtReason) → r.line ≡ line → r.reason ≡ reason
@@ -571,7 +579,8 @@ error_to width lines r (inl f) = inl record {
   split = f.split;
   begun = follow-begun width f.before f.fine;
   number = f.number ∙ omega arith;
-  wrong = same-line (2 ^ width) (passed [] (addresses_of f.before)) (addresses_of f.before) (members f.before) (address_after None f.before) f.line r.reason f.wrong;
+  wrong = same-line (2 ^ width) (passed [] (addresses_of f.before)) (addresses_of f.before) (members f.before)
+      (address_after None f.before) f.line r.reason f.wrong;
 }
 error_to width lines r (inr (inl f)) = inr (inl record {
   before = f.before;

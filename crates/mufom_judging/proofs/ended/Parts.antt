@@ -16,7 +16,8 @@ use Rattle.mufom_module.specs.Grammar.{offset_in, AreWhole, declares_again, stat
 use Rattle.mufom_judging.specs.Prefixes.{Step, raw, read, step_bytes, prefix_bytes, size_of, records_of, offset_records_of, offsets_of, Extent, Location}
 use Rattle.mufom_judging.specs.Prefixes.{in_part, part_among, parts_in_order, location_by, location_after, is_raw, awaits_items, body_mode}
 use Rattle.mufom_judging.specs.Prefixes.{is_module_end, is_ended, bytes_to_debug}
-use Rattle.mufom_judging.specs.Faults.{fault_if, fault_for, has_bad_alignment, misplaces_counter, breaks, rule_broken, part_record_fault, record_fault, step_fault}
+use Rattle.mufom_judging.specs.Faults.{fault_if, fault_for, has_bad_alignment, misplaces_counter, breaks, rule_broken}
+use Rattle.mufom_judging.specs.Faults.{part_record_fault, record_fault, step_fault}
 use Rattle.mufom_judging.proofs.BlockKinds.{open_kinds, ends_badly_in, is_too_deep_in, ends-kinds, deep-kinds}
 use Rattle.mufom_judging.proofs.ended.Walk.{bytes-append, size-append, records-append, IsRaw, IsNextAt, IsWalk, taken, no_fault, IsRead, IsRead}
 use Rattle.mufom_judging.proofs.spelled.Begin.{body_begins, items_begin, record_some, record_some}

@@ -19,8 +19,10 @@ use Rattle.mufom_module.specs.Grammar.{file_limit}
 use Rattle.mufom_judging.specs.Prefixes.{Step, step_bytes, prefix_bytes, size_of, Location, in_header, in_part, at_end, location_after, header_mode}
 use Rattle.mufom_judging.specs.Prefixes.{body_mode, next_step, is_ended, bytes_to_debug}
 use Rattle.mufom_judging.specs.Faults.{Fault, ended_part_fault, step_fault, fault_after}
-use Rattle.mufom_judging.specs.Judging.{IsSoundFrom, IsSoundPrefix, within_limit, EndsAt, IsWaiting, IsTruncated, IsModule, Judgment, module_of, refusal, IsJudged}
-use Rattle.mufom_judging.specs.Laws.{EndedPrefixIsModule, ModuleIsEndedPrefix, JudgmentsExcludeEachOther, HasJudgment, HasOneJudgment, PrefixesOfModulesAreCutOff}
+use Rattle.mufom_judging.specs.Judging.{IsSoundFrom, IsSoundPrefix, within_limit, EndsAt, IsWaiting, IsTruncated}
+use Rattle.mufom_judging.specs.Judging.{IsModule, Judgment, module_of, refusal, IsJudged}
+use Rattle.mufom_judging.specs.Laws.{EndedPrefixIsModule, ModuleIsEndedPrefix, JudgmentsExcludeEachOther}
+use Rattle.mufom_judging.specs.Laws.{HasJudgment, HasOneJudgment, PrefixesOfModulesAreCutOff}
 use Rattle.mufom_judging.proofs.RecordSizes.{got-some}
 use Rattle.mufom_judging.proofs.ended.Walk.{IsRead, IsNextAt, taken, next_at, next_prefix, size-append, prefix_first}
 use Rattle.mufom_judging.proofs.judged.PrefixesOne.{refusal_is_single, not_cut}

@@ -28,7 +28,8 @@ use Rattle.mufom_judging.proofs.ended.Parts.{IsKept, KeptFrom, AllInside, locati
 use Rattle.mufom_judging.proofs.ended.Chunks.{is_within, is_after}
 use Rattle.mufom_judging.proofs.ended.Stated.{first_at}
 use Rattle.mufom_judging.proofs.spelled.Begin.{record_some, begins_grown}
-use Rattle.mufom_judging.proofs.spelled.Walk.{steps_of, raw_steps, steps_bytes, steps_records, raw_bytes, raw_none, IsStep, sound_step, sound-append, next_within}
+use Rattle.mufom_judging.proofs.spelled.Walk.{steps_of, raw_steps, steps_bytes, steps_records, raw_bytes, raw_none}
+use Rattle.mufom_judging.proofs.spelled.Walk.{IsStep, sound_step, sound-append, next_within}
 use Rattle.mufom_records.specs.declared.options.ReadOptions.{ReadOptions}
 
 -- ---- a place in a part
