@@ -5,8 +5,8 @@ use Rattle.std.proofs.lemmas.List.{take-append-drop}
 use Rattle.std.specs.List.{AllByRecursion}
 use Rattle.mufom_text.specs.Words.{Text, line}
 use Rattle.mufom_build_text.specs.declared.cursor.LineError.{LineError}
-use Rattle.mufom_build_text.specs.declared.refusal.BuildReason.{BuildReason}
-use Rattle.mufom_build_text.specs.declared.refusal.BuildReason.TheVariants.{BadText}
+use Rattle.mufom_refusals.specs.declared.build.BuildReason.{BuildReason}
+use Rattle.mufom_refusals.specs.declared.build.BuildReason.TheVariants.{BadText}
 use Rattle.mufom_build_text.specs.Pieces.{exact, loose, Spells, AreSpaces}
 use Rattle.mufom_build_text.specs.Errors.{error_at, is_bad, IsSound, Fails, wrong_line, IsWrongEnd, IsNamed}
 use Rattle.mufom_build_text.specs.Loosely.{Avoids, Goes}

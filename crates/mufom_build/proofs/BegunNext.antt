@@ -3,7 +3,7 @@ use Rattle.std.proofs.Common.{◌≡◌, ℕ, suc, ◌+◌, ◌-◌, ◌<◌, �
 use Rattle.std.proofs.Common.{Some, None, refl, sym, ap, subst, ◌∙◌, inl, inr, ◌⊎◌, append_assoc, append-nil, arith, if◌then◌else◌, length-append}
 use Rattle.std.specs.List.{AllByRecursion}
 use Rattle.mufom_text.specs.Words.{Text, line}
-use Rattle.mufom_build_text.specs.declared.refusal.BuildReason.TheVariants.{BadText}
+use Rattle.mufom_refusals.specs.declared.build.BuildReason.TheVariants.{BadText}
 use Rattle.mufom_build_text.specs.Pieces.{exact, loose, Spells, AreSpaces}
 use Rattle.mufom_build_text.specs.Places.{AreBlank, SpellsLines}
 use Rattle.mufom_build_text.specs.Errors.{wrong_line, IsSound}

@@ -4,7 +4,7 @@ use Rattle.std.proofs.Common.{◌∙◌, inl, inr, ◌⊎◌, append_assoc, appe
 use Rattle.std.proofs.lemmas.List.{take-append-drop}
 use Rattle.std.specs.List.{AllByRecursion}
 use Rattle.mufom_text.specs.Words.{Text, line}
-use Rattle.mufom_build_text.specs.declared.refusal.BuildReason.{BuildReason}
+use Rattle.mufom_refusals.specs.declared.build.BuildReason.{BuildReason}
 use Rattle.mufom_build_text.specs.Pieces.{Reading, exact, loose, Spells, AreSpaces}
 use Rattle.mufom_build_text.specs.Places.{SpellsLines}
 use Rattle.mufom_build_text.proofs.Spelling.{spells-append, spells-one}

@@ -3,7 +3,7 @@ use Rattle.std.proofs.Common.{◌≡◌, ℕ, ◌+◌, ◌<◌, ◌≤◌, nat_l
 use Rattle.std.proofs.Common.{◌∙◌, inl, inr, ◌⊎◌, append_assoc, append-nil, arith, if◌then◌else◌, length-append}
 use Rattle.mufom_text.specs.Words.{Text}
 use Rattle.mufom_build_text.specs.declared.cursor.LineError.{LineError}
-use Rattle.mufom_build_text.specs.declared.refusal.BuildReason.{BuildReason}
+use Rattle.mufom_refusals.specs.declared.build.BuildReason.{BuildReason}
 use Rattle.mufom_build_text.specs.Pieces.{Piece, loose, Spells, SpellsPiece, AreSpaces}
 use Rattle.mufom_build_text.specs.Errors.{error_at, first_error, noted, piece_error}
 use Rattle.mufom_build_text.specs.Loosely.{PassesOne, Passes}

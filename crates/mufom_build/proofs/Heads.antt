@@ -7,7 +7,7 @@ use Rattle.mufom_debug.specs.Marks.{kind_number}
 use Rattle.mufom_expr.specs.Tree.{Tree}
 use Rattle.mufom_text.specs.Words.{Text}
 use Rattle.mufom_build_text.specs.declared.cursor.LineError.{LineError}
-use Rattle.mufom_build_text.specs.declared.refusal.BuildReason.TheVariants.{Deep}
+use Rattle.mufom_refusals.specs.declared.build.BuildReason.TheVariants.{Deep}
 use Rattle.mufom_build_text.specs.Errors.{Fails, error_at, first_error, noted, is_bad}
 use Rattle.mufom_build_text.specs.Loosely.{Passes, Goes, ReadsLoosely, ReadsText, ReadsFigure, NoFigure, Nothing}
 use Rattle.mufom_build_text.specs.Loosely.{Anything, AnyText, Follows, ReadsWords}

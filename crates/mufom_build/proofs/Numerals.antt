@@ -4,7 +4,7 @@ use Rattle.std.proofs.Common.{refl, sym, ap, subst, ◌∙◌, arith, append_ass
 use Rattle.std.specs.Str.Parse.{IsNumeral, digits_value}
 use Rattle.mufom_text.specs.Words.{Text}
 use Rattle.mufom_build_text.specs.declared.cursor.LineError.{LineError}
-use Rattle.mufom_build_text.specs.declared.refusal.BuildReason.TheVariants.{Count, TooGreat}
+use Rattle.mufom_refusals.specs.declared.build.BuildReason.TheVariants.{Count, TooGreat}
 use Rattle.mufom_build_text.specs.Errors.{IsSound, noted, judged, piece_error, stated_error, is_bad}
 use Rattle.mufom_build_text.specs.Loosely.{Moves, PassesOne, Passes, Goes, ReadsWords, ReadsDigits, ReadsHex, NoFigure, NoHex}
 use Rattle.mufom_build_text.specs.Pieces.{Piece, gap, figure, count, digits, loose, SpellsPiece, SpellsDigits, MOST_NUMBER}

@@ -3,8 +3,8 @@ use Rattle.std.proofs.Common.{◌≡◌, ℕ, suc, ◌+◌, ◌<◌, ◌≤◌, 
 use Rattle.std.proofs.Common.{subst, ◌∙◌, inl, inr, ◌⊎◌, append_assoc, append-nil, arith, if◌then◌else◌, length-append}
 use Rattle.std.specs.List.{AllByRecursion}
 use Rattle.mufom_text.specs.Words.{Text}
-use Rattle.mufom_build_text.specs.declared.refusal.BuildReason.{BuildReason}
-use Rattle.mufom_build_text.specs.declared.refusal.BuildReason.TheVariants.{Deep, TooLong}
+use Rattle.mufom_refusals.specs.declared.build.BuildReason.{BuildReason}
+use Rattle.mufom_refusals.specs.declared.build.BuildReason.TheVariants.{Deep, TooLong}
 use Rattle.mufom_build_text.specs.Pieces.{Piece, byte, gap, figure, position, count, name, digits, expression, block, exact, loose, Spells, SpellsPiece}
 use Rattle.mufom_build_text.specs.Pieces.{AreSpaces}
 use Rattle.mufom_build_text.specs.Errors.{piece_error}

@@ -2,7 +2,7 @@
 use Rattle.std.proofs.Common.{◌≡◌, ℕ, suc, ◌+◌, ◌<◌, Bool, true, false, List, [], ◌∷◌, ◌++◌, length, refl, sym, ap, subst, ◌∙◌, inl, inr, ◌⊎◌, arith}
 use Rattle.std.proofs.Common.{length-append, Result, Err}
 use Rattle.mufom_text.specs.Words.{Text}
-use Rattle.mufom_build_text.specs.declared.refusal.BuildReason.{BuildReason}
+use Rattle.mufom_refusals.specs.declared.build.BuildReason.{BuildReason}
 use Rattle.mufom_build_text.specs.declared.refusal.PieceStop.{PieceStop}
 use Rattle.mufom_build_text.specs.declared.refusal.PieceStop.TheVariants as stops
 use Rattle.mufom_build_text.specs.Reads.{Place, IsRight, LeavesLine}

@@ -4,8 +4,8 @@ use Rattle.std.proofs.Common.{◌∙◌, inl, inr, ◌⊎◌, append_assoc, appe
 use Rattle.std.specs.List.{AllByRecursion}
 use Rattle.std.specs.Str.Parse.{digits_value}
 use Rattle.mufom_text.specs.Words.{Text}
-use Rattle.mufom_build_text.specs.declared.refusal.BuildReason.{BuildReason}
-use Rattle.mufom_build_text.specs.declared.refusal.BuildReason.TheVariants.{Position, Count, TooGreat, TooLong, Deep}
+use Rattle.mufom_refusals.specs.declared.build.BuildReason.{BuildReason}
+use Rattle.mufom_refusals.specs.declared.build.BuildReason.TheVariants.{Position, Count, TooGreat, TooLong, Deep}
 use Rattle.mufom_build_text.specs.Pieces.{Piece, byte, gap, figure, position, count, name}
 use Rattle.mufom_build_text.specs.Pieces.{digits, expression, block, Reading, exact, loose, Spells, SpellsPiece}
 use Rattle.mufom_build_text.specs.Pieces.{AreSpaces, MOST_POSITION, MOST_NUMBER}

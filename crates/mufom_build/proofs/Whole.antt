@@ -5,12 +5,12 @@ use Rattle.mufom_module.specs.declared.module.Defect.{Defect}
 use Rattle.mufom_module.specs.Defects.{IsValid, first_defect}
 use Rattle.mufom_module.specs.Made.{IsMade}
 use Rattle.mufom_text.specs.Words.{Text}
-use Rattle.mufom_build_text.specs.declared.refusal.BuildReason.{BuildReason}
-use Rattle.mufom_build_text.specs.declared.refusal.BuildReason.TheVariants.{BadText}
+use Rattle.mufom_refusals.specs.declared.build.BuildReason.{BuildReason}
+use Rattle.mufom_refusals.specs.declared.build.BuildReason.TheVariants.{BadText}
 use Rattle.mufom_build_text.specs.declared.refusal.PieceStop.TheVariants as stops
 use Rattle.mufom_build_text.specs.Errors.{wrong_line}
 use Rattle.mufom_build_text.specs.Reads.{Place, beginning, PassesBlanks, IsPastBlanks}
-use Rattle.mufom_build.specs.declared.refusal.BuildRefusal.{BuildRefusal}
+use Rattle.mufom_refusals.specs.declared.build.BuildRefusal.{BuildRefusal}
 use Rattle.mufom_build.specs.Begun.{Begun}
 use Rattle.mufom_build.specs.Lines.{Build}
 use Rattle.mufom_build.specs.Order.{State, start, state_after, may_end}

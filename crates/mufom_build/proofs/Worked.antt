@@ -14,7 +14,7 @@ use Rattle.mufom_text.specs.Words.{Text}
 use Rattle.mufom_loads.specs.declared.load.Item.TheVariants as items
 use Rattle.mufom_loads.specs.declared.load.Load.TheVariants as loads
 use Rattle.mufom_sections.specs.declared.section.Purpose.TheVariants as purposes
-use Rattle.mufom_build_text.specs.declared.refusal.BuildReason.TheVariants as reasons
+use Rattle.mufom_refusals.specs.declared.build.BuildReason.TheVariants as reasons
 use Rattle.mufom_build_text.specs.Pieces.{exact, loose, figure, position, count, expression, block, value_pieces, MOST_BYTE}
 use Rattle.mufom_build_text.specs.Places.{SpellsLines}
 use Rattle.mufom_build.specs.Lines.{listing_lines, mark_lines, load_lines, raw_lines}

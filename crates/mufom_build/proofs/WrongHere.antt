@@ -4,8 +4,8 @@ use Rattle.std.proofs.Common.{◌∙◌, inl, inr, ◌⊎◌, append_assoc, appe
 use Rattle.std.specs.List.{AllByRecursion}
 use Rattle.mufom_text.specs.Words.{Text}
 use Rattle.mufom_build_text.specs.declared.cursor.LineError.{LineError}
-use Rattle.mufom_build_text.specs.declared.refusal.BuildReason.{BuildReason}
-use Rattle.mufom_build_text.specs.declared.refusal.BuildReason.TheVariants.{BadText}
+use Rattle.mufom_refusals.specs.declared.build.BuildReason.{BuildReason}
+use Rattle.mufom_refusals.specs.declared.build.BuildReason.TheVariants.{BadText}
 use Rattle.mufom_build_text.specs.Pieces.{loose, exact, Spells, AreSpaces}
 use Rattle.mufom_build_text.specs.Errors.{error_at, is_bad, IsSound, Fails, IsWrongEnd, IsNamed}
 use Rattle.mufom_build_text.specs.Loosely.{Passes}

@@ -4,7 +4,7 @@ use Rattle.std.specs.List.{AllByRecursion}
 use Rattle.mufom_text.specs.Words.{Text, line}
 use Rattle.mufom_build_text.specs.Pieces.{Piece, byte, gap, figure, position, count, name, digits, expression, block, Reading, exact, Spells, AreSpaces}
 use Rattle.mufom_build_text.specs.Pieces.{MOST_POSITION, MOST_NUMBER}
-use Rattle.mufom_build_text.specs.declared.refusal.BuildReason.{BuildReason}
+use Rattle.mufom_refusals.specs.declared.build.BuildReason.{BuildReason}
 use Rattle.mufom_build_text.specs.Errors.{wrong_line, Fails, IsNamed}
 use Rattle.mufom_build_text.specs.Reads.{Place, IsRight, IsPastBlanks}
 use Rattle.mufom_build.specs.Lines.{Line}

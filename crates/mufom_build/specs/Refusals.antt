@@ -5,8 +5,8 @@ use Rattle.mufom_module.specs.declared.module.Parts.{Parts}
 use Rattle.mufom_module.specs.declared.module.Defect.{Defect}
 use Rattle.mufom_module.specs.Defects.{first_defect}
 use Rattle.mufom_text.specs.Words.{Text, line}
-use Rattle.mufom_build_text.specs.declared.refusal.BuildReason.{BuildReason}
-use Rattle.mufom_build_text.specs.declared.refusal.BuildReason.TheVariants.{BadText}
+use Rattle.mufom_refusals.specs.declared.build.BuildReason.{BuildReason}
+use Rattle.mufom_refusals.specs.declared.build.BuildReason.TheVariants.{BadText}
 use Rattle.mufom_build_text.specs.Pieces.{Piece, exact, loose, Spells, SpellsPiece, AreSpaces}
 use Rattle.mufom_build_text.specs.Errors.{piece_error}
 use Rattle.mufom_build_text.specs.Places.{SpellsLines}

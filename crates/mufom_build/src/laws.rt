@@ -7,7 +7,7 @@ ghost use Rattle.mufom_module.specs.Defects.{IsValid};
 ghost use Rattle.mufom_module.specs.Made.{IsMade};
 ghost use Rattle.mufom_text.specs.Show.{listing_text};
 ghost use Rattle.mufom_text.specs.Words.{Text};
-ghost use Rattle.mufom_build_text.specs.declared.refusal.BuildReason.{BuildReason};
+ghost use Rattle.mufom_refusals.specs.declared.build.BuildReason.{BuildReason};
 ghost use Rattle.mufom_build_text.specs.Pieces.{loose};
 ghost use Rattle.mufom_build_text.specs.Places.{SpellsLines};
 ghost use Rattle.mufom_build.specs.Lines.{listing_lines, Build, Shape};

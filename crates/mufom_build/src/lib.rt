@@ -28,5 +28,4 @@ pub use laws::{
     texts_have_one_refusal, texts_list_one_module,
 };
 pub use module::build;
-pub use mufom_build_text::BuildReason;
-pub use refusal::BuildRefusal;
+pub use mufom_refusals::{BuildReason, BuildRefusal};

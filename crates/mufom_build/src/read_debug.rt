@@ -11,10 +11,11 @@ ghost use Rattle.mufom_build.specs.Rows.{on_block, on_end, on_name, on_value};
 use crate::ahead::is_ahead;
 use crate::read_names::read_numbers;
 use crate::row::Row;
-use mufom_build_text::{BuildReason, Cursor};
+use mufom_build_text::Cursor;
 use mufom_debug::BlockHead;
 use mufom_expr::Postfix;
 use mufom_numbers::NoMemory;
+use mufom_refusals::BuildReason;
 use std::alloc::Global;
 
 // The most blocks that may be open at once.

@@ -10,10 +10,11 @@ ghost use Rattle.mufom_build.specs.Rows.{on_select, on_counter, on_bytes, on_fie
 
 use crate::ahead::is_end_ahead;
 use crate::row::Row;
-use mufom_build_text::{BuildReason, Cursor};
+use mufom_build_text::Cursor;
 use mufom_expr::FieldKind;
 use mufom_loads::Item;
 use mufom_numbers::{Bytes, NoMemory};
+use mufom_refusals::BuildReason;
 use std::alloc::Global;
 
 /// Reads the line that makes a section the current one.

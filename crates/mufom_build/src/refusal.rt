@@ -1,25 +1,10 @@
-//! The error of `build`.
+//! The conversion of the error of a piece to that of `build`.
 
 ghost use Rattle.std.specs.Prelude.{◌≡◌, ℕ};
 ghost use Rattle.mufom_module.specs.declared.module.Defect.{Defect};
 
-use mufom_build_text::{BuildReason, PieceStop};
-use mufom_module::Defect;
-
-/// Why no module is built from a text.
-#[derive(Clone, Copy, Debug, PartialEq, Eq)]
-pub enum BuildRefusal {
-    /// The text is wrong at this line and column, which count from 1; a column counts bytes.
-    At {
-        line: u32,
-        column: u32,
-        reason: BuildReason,
-    },
-    /// The text is the listing of parts with this defect, which are not a module.
-    Module(Defect),
-    /// Memory ran out.
-    NoMemory,
-}
+use mufom_build_text::PieceStop;
+use mufom_refusals::BuildRefusal;
 
 /// Converts the error of a piece to an error of [`build`](crate::build).
 pub(crate) fn refusal_of(stop: PieceStop) -> BuildRefusal

@@ -5,7 +5,7 @@ use Rattle.std.proofs.Common.{if◌then◌else◌, eqb-true}
 use Rattle.std.proofs.lemmas.List.{take_more, take_all, take-append-drop, map-append}
 use Rattle.std.specs.Str.Parse.{AllDigits, IsNumeral, digits_value}
 use Rattle.mufom_text.specs.Words.{Text}
-use Rattle.mufom_build_text.specs.declared.refusal.BuildReason.TheVariants.{Position, Count}
+use Rattle.mufom_refusals.specs.declared.build.BuildReason.TheVariants.{Position, Count}
 use Rattle.mufom_build_text.specs.Pieces.{Piece, byte, gap, figure, position, count, name, digits, expression, block, exact, loose}
 use Rattle.mufom_build_text.specs.Pieces.{Spells, SpellsPiece, SpellsNumber, AreSpaces, words, word_piece, MOST_POSITION, MOST_NUMBER}
 use Rattle.mufom_build_text.specs.Reads.{Place, IsRight, IsSpaceFront, IsLineEnd, ReadsRight, Reads, ReadsNumeral}

@@ -10,8 +10,8 @@ use Rattle.mufom_expr.specs.InfixText.{opening_text, middle_text}
 use Rattle.mufom_expr.specs.Terms.{the_term, LeavesMoreThanOne}
 use Rattle.mufom_expr.specs.TreeCode.{the_term-tokens_of}
 use Rattle.mufom_build_text.specs.declared.cursor.LineError.{LineError}
-use Rattle.mufom_build_text.specs.declared.refusal.BuildReason.{BuildReason}
-use Rattle.mufom_build_text.specs.declared.refusal.BuildReason.TheVariants.{TooLong}
+use Rattle.mufom_refusals.specs.declared.build.BuildReason.{BuildReason}
+use Rattle.mufom_refusals.specs.declared.build.BuildReason.TheVariants.{TooLong}
 use Rattle.mufom_build_text.specs.declared.expression.Infix.{Infix}
 use Rattle.mufom_build_text.specs.Pieces.{Piece, byte, expression, words, infix_pieces, value_pieces}
 use Rattle.mufom_build_text.specs.Reads.{Place}

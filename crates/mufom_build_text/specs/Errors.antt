@@ -4,8 +4,8 @@ use Rattle.std.specs.Prelude.{if◌then◌else◌, ◌⊎◌}
 use Rattle.std.specs.Str.Parse.{digits_value}
 use Rattle.mufom_text.specs.Words.{Text}
 use Rattle.mufom_build_text.specs.declared.cursor.LineError.{LineError}
-use Rattle.mufom_build_text.specs.declared.refusal.BuildReason.{BuildReason}
-use Rattle.mufom_build_text.specs.declared.refusal.BuildReason.TheVariants.{BadText, TooGreat, Position, Count, TooLong, Deep}
+use Rattle.mufom_refusals.specs.declared.build.BuildReason.{BuildReason}
+use Rattle.mufom_refusals.specs.declared.build.BuildReason.TheVariants.{BadText, TooGreat, Position, Count, TooLong, Deep}
 use Rattle.mufom_build_text.specs.Pieces.{Piece, byte, gap, figure, position, count, name, digits, expression, block, MOST_POSITION, MOST_NUMBER}
 use Rattle.mufom_build_text.specs.Reads.{Place, IsSpaceFront, IsLineEnd, ReadsNumeral}
 

@@ -6,7 +6,8 @@ ghost use Rattle.mufom_build_text.specs.Reads.{beginning, IsRight, IsSpaceFront,
 ghost use Rattle.mufom_build_text.specs.Reads.{IsPastBlanks, PassesBlanks, LeavesLine};
 ghost use Rattle.mufom_build_text.specs.Errors.{error_at, first_error, is_bad, wrong_line, Fails, IsWrongEnd, IsNamed};
 
-use crate::refusal::{BuildReason, PieceStop};
+use crate::refusal::PieceStop;
+use mufom_refusals::BuildReason;
 use std::marker::Model;
 
 /// An error within a line, and its column, which counts bytes from 1.

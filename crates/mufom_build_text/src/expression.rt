@@ -15,11 +15,11 @@ ghost use Rattle.mufom_build_text.specs.Infix.{frame_before, letter_before, Tell
 ghost use Rattle.mufom_build_text.specs.Infix.{IsLeaf, IsBefore, IsBehind, IsBetween, IsClosed, IsWhole};
 
 use crate::cursor::{Cursor, after_spaces};
-use crate::refusal::BuildReason;
 use mufom_expr::{
     Builder, ExprFault, Function, Letter, Postfix, Token, infix_middle, infix_opening, letter_name,
 };
 use mufom_numbers::NoMemory;
+use mufom_refusals::BuildReason;
 use std::alloc::Global;
 
 /// What comes between the two operands of a function.

@@ -13,4 +13,4 @@ mod refusal;
 mod spelled;
 
 pub use cursor::{Cursor, after_spaces};
-pub use refusal::{BuildReason, PieceStop};
+pub use refusal::PieceStop;

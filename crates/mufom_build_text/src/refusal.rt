@@ -1,24 +1,8 @@
 //! Why reading a text stopped.
 
 use mufom_numbers::NoMemory;
+use mufom_refusals::BuildReason;
 use std::alloc::{AllocError, AllocFailed};
-
-/// What is wrong at a place of a text, in the order in which two errors at one place are named.
-#[derive(Clone, Copy, Debug, PartialEq, Eq)]
-pub enum BuildReason {
-    /// The line is not one of a listing, or may not come after the lines before it.
-    BadText,
-    /// A number is greater than its field holds.
-    TooGreat,
-    /// A line states a wrong position.
-    Position,
-    /// A line states a wrong number of bytes.
-    Count,
-    /// An expression has more than 255 tokens.
-    TooLong,
-    /// More than 32 blocks are open.
-    Deep,
-}
 
 /// Why reading a text stopped.
 #[derive(Clone, Copy, Debug, PartialEq, Eq)]

@@ -12,8 +12,9 @@ ghost use Rattle.mufom_build_text.specs.Loosely.{Avoids, IsFigure, TakesDigits, 
 ghost use Rattle.mufom_build_text.specs.Loosely.{ReadsByte, ReadsGap, ReadsDigits, ReadsWords, ReadsFigure, ReadsPosition, ReadsName, ReadsHex};
 
 use crate::cursor::{Cursor, after_spaces};
-use crate::refusal::{BuildReason, PieceStop};
+use crate::refusal::PieceStop;
 use mufom_numbers::{Bytes, NoMemory, hex_digit};
+use mufom_refusals::BuildReason;
 use std::alloc::Global;
 
 // The number of decimal digits at the beginning of the text.

@@ -4,7 +4,7 @@ use Rattle.std.proofs.Common.{inl, inr, arith}
 use Rattle.mufom_host.specs.World.{Faults, Meaning, NamedFile, OnlyPrints}
 use Rattle.mufom_host.specs.declared.cause.Cause.{Cause}
 use Rattle.mufom_module.specs.declared.module.Parts.{Parts}
-use Rattle.mufom_titxt.specs.declared.refusal.TxtRefusal.{TxtRefusal}
+use Rattle.mufom_refusals.specs.declared.text.TxtRefusal.{TxtRefusal}
 use Rattle.mufom_titxt.specs.Texts.{txt_refusal}
 use Rattle.mufom_groups.specs.Work.{Work, stops}
 use Rattle.mufom_outcome.specs.declared.outcome.Outcome.{Outcome}

@@ -7,8 +7,8 @@ use Rattle.mufom_plan.specs.declared.plan.Region.{Region}
 use Rattle.mufom_plan.specs.Names.{has_name}
 use Rattle.mufom_place.specs.declared.refusal.PlaceRefusal.{PlaceRefusal}
 use Rattle.mufom_place.specs.declared.refusal.PlaceRefusal.TheVariants as place
-use Rattle.mufom_image.specs.declared.refusal.LocateRefusal.{LocateRefusal}
-use Rattle.mufom_image.specs.declared.refusal.LocateRefusal.TheVariants as locate
+use Rattle.mufom_refusals.specs.declared.locate.LocateRefusal.{LocateRefusal}
+use Rattle.mufom_refusals.specs.declared.locate.LocateRefusal.TheVariants as locate
 use Rattle.mufom_meaning.specs.declared.located.Site.{Site}
 use Rattle.mufom_meaning.specs.declared.located.Site.TheVariants as site
 use Rattle.mufom_meaning.specs.Flat.{commons, flat_sections, needs}

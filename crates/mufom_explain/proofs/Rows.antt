@@ -15,8 +15,8 @@ use Rattle.mufom_names.specs.declared.name.Public.{Public}
 use Rattle.mufom_names.specs.declared.name.Reference.{Reference}
 use Rattle.mufom_plan.specs.declared.plan.Plan.{Plan}
 use Rattle.mufom_place.specs.declared.refusal.PlaceRefusal.TheVariants.{Misfit, Overlap}
-use Rattle.mufom_link.specs.declared.refusal.LinkRefusal.TheVariants.{Duplicate, DuplicateStart, Mismatch}
-use Rattle.mufom_image.specs.declared.refusal.LocateRefusal.TheVariants.{Overflow, Place, Undefined}
+use Rattle.mufom_refusals.specs.declared.link.LinkRefusal.TheVariants.{Duplicate, DuplicateStart, Mismatch}
+use Rattle.mufom_refusals.specs.declared.locate.LocateRefusal.TheVariants.{Overflow, Place, Undefined}
 use Rattle.mufom_meaning.specs.Steps.{counter}
 use Rattle.mufom_meaning.specs.Values.{value_within}
 use Rattle.mufom_text.specs.Words.{line}

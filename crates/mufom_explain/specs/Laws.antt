@@ -1,7 +1,7 @@
 -- Laws about explanations.
 use Rattle.std.specs.Prelude.{◌≡◌, List}
 use Rattle.mufom_module.specs.declared.module.Parts.{Parts}
-use Rattle.mufom_image.specs.declared.refusal.LocateRefusal.{LocateRefusal}
+use Rattle.mufom_refusals.specs.declared.locate.LocateRefusal.{LocateRefusal}
 use Rattle.mufom_meaning.specs.StagingLaws.{MeansTheSame}
 use Rattle.mufom_explain.specs.Details.{Explained, locate_details}
 

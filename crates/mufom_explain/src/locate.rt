@@ -10,7 +10,7 @@ ghost use Rattle.mufom_image.specs.Stages.{circular};
 ghost use Rattle.mufom_meaning.specs.Facts.{placement, zero_divisor};
 ghost use Rattle.mufom_planned.specs.Planned.{copied_answer};
 ghost use Rattle.mufom_locating.specs.Exported.{AllListed};
-ghost use Rattle.mufom_locating.specs.Plans.{IsReadPlan};
+ghost use Rattle.mufom_planned.specs.ReadPlans.{IsReadPlan};
 ghost use Rattle.mufom_explain.specs.Details.{entry_lines, field_details, layout_of, lines_among, locate_details, numbered_copy, numbered_lines};
 ghost use Rattle.mufom_explain.specs.Details.{commons_of, placed_lines, placement_details, site_details, undefined_names};
 ghost use Rattle.mufom_explain.specs.Explained.{explained_of, locate_lines, locate_text, taken_text};

@@ -7,11 +7,11 @@ use Rattle.mufom_plan.specs.declared.plan.Plan.{Plan}
 use Rattle.mufom_plan.specs.declared.plan.PlanSymbol.{PlanSymbol}
 use Rattle.mufom_explain.specs.Details.{Explained, link_details, locate_details, name_details, shared_details}
 use Rattle.mufom_explain.proofs.AlikeLaws.{explained-alike}
-use Rattle.mufom_image.specs.declared.refusal.LocateRefusal.{LocateRefusal}
-use Rattle.mufom_image.specs.declared.refusal.LocateRefusal.TheVariants as locate
+use Rattle.mufom_refusals.specs.declared.locate.LocateRefusal.{LocateRefusal}
+use Rattle.mufom_refusals.specs.declared.locate.LocateRefusal.TheVariants as locate
 use Rattle.mufom_image.specs.Refusals.{IsMet}
-use Rattle.mufom_link.specs.declared.refusal.LinkRefusal.{LinkRefusal}
-use Rattle.mufom_link.specs.declared.refusal.LinkRefusal.TheVariants as link
+use Rattle.mufom_refusals.specs.declared.link.LinkRefusal.{LinkRefusal}
+use Rattle.mufom_refusals.specs.declared.link.LinkRefusal.TheVariants as link
 use Rattle.mufom_meaning.specs.Facts.{LinkFact, LocateFact, placement, undefined, common_unplaced, cycle, image_limit, zero_divisor, load_outside}
 use Rattle.mufom_meaning.specs.Facts.{loaded_twice, overflow}
 use Rattle.mufom_meaning.specs.Joined.{HasFirstHeader, IsJoined}

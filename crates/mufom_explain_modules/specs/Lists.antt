@@ -16,7 +16,7 @@ use Rattle.mufom_origins.specs.Origins.{FileModule, modules_of, origins_of}
 use Rattle.mufom_origins.specs.Words.{ModuleFiles}
 use Rattle.mufom_outcome.specs.declared.outcome.Outcome.TheVariants as outcome
 use Rattle.mufom_outcome.specs.declared.outcome.Refusal.TheVariants as refusal
-use Rattle.mufom_prune.specs.declared.refusal.PruneRefusal.{PruneRefusal}
+use Rattle.mufom_refusals.specs.declared.prune.PruneRefusal.{PruneRefusal}
 use Rattle.mufom_outcome.specs.Outcomes.{outcome_of_prune}
 use Rattle.mufom_task.specs.declared.task.Inputs.{Inputs}
 use Rattle.mufom_task.specs.declared.task.Task.{Task}

@@ -6,7 +6,7 @@ ghost use Rattle.mufom_host.specs.World.{NamedFile};
 ghost use Rattle.mufom_image.specs.Refusals.{IsMet};
 ghost use Rattle.mufom_planned.specs.Planned.{copied_answer, planned_answer, shared_name};
 ghost use Rattle.mufom_locating.specs.Light.{weight_limit};
-ghost use Rattle.mufom_locating.specs.Plans.{IsReadPlan};
+ghost use Rattle.mufom_planned.specs.ReadPlans.{IsReadPlan};
 ghost use Rattle.mufom_locating.specs.Refusals.{IsMetBy};
 ghost use Rattle.mufom_module.specs.declared.module.Parts.{Parts};
 ghost use Rattle.mufom_names.specs.Names.{names_of, AreDistinct};

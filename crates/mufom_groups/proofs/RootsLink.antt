@@ -2,8 +2,8 @@
 use Rattle.std.proofs.Common.{◌≡◌, ◌⊎◌, ℕ, ◌≤◌, ◌<◌, List, [], ◌∷◌, ◌++◌, length, map, Option, Some, None, inl, inr, sym, ◌∙◌, ap, subst, arith}
 use Rattle.mufom_module.specs.declared.module.Parts.{Parts}
 use Rattle.mufom_place.specs.Facts.{first_some, ◌or_else◌}
-use Rattle.mufom_link.specs.declared.refusal.LinkRefusal.{LinkRefusal}
-use Rattle.mufom_link.specs.declared.refusal.LinkRefusal.TheVariants.{Mismatch, Duplicate, DuplicateStart, NoMemory}
+use Rattle.mufom_refusals.specs.declared.link.LinkRefusal.{LinkRefusal}
+use Rattle.mufom_refusals.specs.declared.link.LinkRefusal.TheVariants.{Mismatch, Duplicate, DuplicateStart, NoMemory}
 use Rattle.mufom_link.specs.Refusals.{IsRefusalOf}
 use Rattle.mufom_meaning.specs.Facts.{LinkFact}
 use Rattle.mufom_meaning.specs.LinkAnswer.{link_answer}

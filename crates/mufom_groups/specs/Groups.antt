@@ -3,8 +3,8 @@ use Rattle.std.specs.Prelude.{◌≡◌, ℕ, ◌+◌, ◌-◌, ◌<◌, ◌≤�
 use Rattle.mufom_module.specs.declared.module.Parts.{Parts}
 use Rattle.mufom_module.specs.Defects.{IsValid}
 use Rattle.mufom_module.specs.Written.{weight}
-use Rattle.mufom_link.specs.declared.refusal.LinkRefusal.{LinkRefusal}
-use Rattle.mufom_link.specs.declared.refusal.LinkRefusal.TheVariants.{Mismatch, Duplicate, DuplicateStart, NoMemory}
+use Rattle.mufom_refusals.specs.declared.link.LinkRefusal.{LinkRefusal}
+use Rattle.mufom_refusals.specs.declared.link.LinkRefusal.TheVariants.{Mismatch, Duplicate, DuplicateStart, NoMemory}
 use Rattle.mufom_link.specs.Refusals.{IsRefusalOf}
 use Rattle.mufom_meaning.specs.Facts.{LinkFact}
 use Rattle.mufom_meaning.specs.Joined.{IsJoined}

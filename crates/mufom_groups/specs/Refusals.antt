@@ -1,8 +1,8 @@
 -- The error that a link returns for a link fact.
 use Rattle.mufom_meaning.specs.declared.located.Descriptor.{Descriptor}
 use Rattle.mufom_meaning.specs.Facts.{Descriptor as Described, LinkFact, mismatch, duplicate, duplicate_start}
-use Rattle.mufom_link.specs.declared.refusal.LinkRefusal.{LinkRefusal}
-use Rattle.mufom_link.specs.declared.refusal.LinkRefusal.TheVariants.{Mismatch, Duplicate, DuplicateStart}
+use Rattle.mufom_refusals.specs.declared.link.LinkRefusal.{LinkRefusal}
+use Rattle.mufom_refusals.specs.declared.link.LinkRefusal.TheVariants.{Mismatch, Duplicate, DuplicateStart}
 
 abbrev pub descriptor_of : Described → Descriptor
 descriptor_of d = record { maus = d.0; order = d.1 }

@@ -9,8 +9,8 @@ use Rattle.mufom_meaning.specs.Placed.{planned_bases}
 use Rattle.mufom_meaning.specs.Values.{setting}
 use Rattle.mufom_meaning.specs.Walk.{walk_answer}
 use Rattle.mufom_meaning.proofs.Unfolding.{locate_answer-order}
-use Rattle.mufom_image.specs.declared.refusal.LocateRefusal.{LocateRefusal}
-use Rattle.mufom_image.specs.declared.refusal.LocateRefusal.TheVariants as refusals
+use Rattle.mufom_refusals.specs.declared.locate.LocateRefusal.{LocateRefusal}
+use Rattle.mufom_refusals.specs.declared.locate.LocateRefusal.TheVariants as refusals
 use Rattle.mufom_image.specs.Refusals.{IsMet}
 use Rattle.mufom_image.specs.Stages.{unplaced, unresolved, roomless, circular, oversized, judged, IsJudged}
 

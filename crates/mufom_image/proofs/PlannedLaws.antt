@@ -20,7 +20,7 @@ use Rattle.mufom_image_values.specs.Evaluated.{setting_of, IsGraph, IsPlaced, Ar
 use Rattle.mufom_image_values.specs.Resolutions.{resolutions_of}
 use Rattle.mufom_image_entries.specs.declared.valued.ValuedModule.{ValuedModule}
 use Rattle.mufom_image_entries.specs.Valued.{parts_of, IsValued}
-use Rattle.mufom_image.specs.declared.refusal.LocateRefusal.{LocateRefusal}
+use Rattle.mufom_refusals.specs.declared.locate.LocateRefusal.{LocateRefusal}
 use Rattle.mufom_image.specs.Placements.{placing_refusal, ArePlaced, StandsAt}
 use Rattle.mufom_image.specs.Refusals.{IsMet}
 use Rattle.mufom_image.specs.Entries.{HasEntries, AreRuns}

@@ -1,23 +1,15 @@
 -- The sections and commons of a module, placed by a plan.
-use Rattle.std.specs.Prelude.{◌≡◌, ◌<◌, ◌^◌, ℕ, List, [], ◌∷◌, length, take, drop, Option, None}
+use Rattle.std.specs.Prelude.{◌≡◌, ℕ, List, [], ◌∷◌, length, take, drop, Option, None}
 use Rattle.mufom_sections.specs.declared.section.Section.{Section}
 use Rattle.mufom_module.specs.declared.module.Parts.{Parts}
 use Rattle.mufom_module.specs.Defects.{IsValid}
 use Rattle.mufom_plan.specs.declared.plan.Plan.{Plan}
-use Rattle.mufom_plan.specs.Names.{AreDistinctNames, listed_names}
-use Rattle.mufom_plan.specs.Commons.{HasAtMostOneCommon}
 use Rattle.mufom_place.specs.declared.refusal.PlaceRefusal.{PlaceRefusal}
 use Rattle.mufom_place.specs.Facts.{place_refusal}
 use Rattle.mufom_meaning.specs.Flat.{flat_sections, width}
 use Rattle.mufom_meaning.specs.Placed.{placed_commons, extended_sections, base_list}
 use Rattle.mufom_image_values.specs.declared.resolutions.Resolution.{Resolution}
 use Rattle.mufom_image_values.specs.declared.values.PlacedModule.{PlacedModule}
-
--- the conditions that every plan meets once it is read: no section name occurs twice, fewer than 2^32 regions, at most one of them for the commons
-pub record IsSoundPlan (plan : Plan) : Type 0 where
-  pub names : AreDistinctNames (listed_names plan.regions)
-  pub regions : length plan.regions < 2 ^ 32
-  pub common : HasAtMostOneCommon plan.regions
 
 -- what keeps the sections and commons of the module from being placed by the plan
 abbrev pub placing_refusal : Parts → Plan → Option PlaceRefusal

@@ -1,8 +1,8 @@
 -- The facts that the errors of locating report.
 use Rattle.std.specs.Prelude.{◌≡◌, Option, Some}
 use Rattle.mufom_meaning.specs.Facts.{LocateFact, placement, undefined, common_unplaced, cycle, image_limit, zero_divisor, load_outside, loaded_twice, overflow}
-use Rattle.mufom_image.specs.declared.refusal.LocateRefusal.{LocateRefusal}
-use Rattle.mufom_image.specs.declared.refusal.LocateRefusal.TheVariants as refusals
+use Rattle.mufom_refusals.specs.declared.locate.LocateRefusal.{LocateRefusal}
+use Rattle.mufom_refusals.specs.declared.locate.LocateRefusal.TheVariants as refusals
 
 -- the error reports this fact, or is out of memory
 abbrev pub IsMet : Option LocateFact → LocateRefusal → Type 0

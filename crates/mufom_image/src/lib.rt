@@ -13,11 +13,10 @@ mod entries;
 mod locating;
 mod names;
 mod placing;
-mod refusal;
 mod walk;
 
 pub use commons::planned_commons;
 pub use locating::locate;
 pub use mufom_located::{Located, absolute};
 pub use mufom_meaning::{LocatedParts, PublicValue, Run, Site};
-pub use refusal::LocateRefusal;
+pub use mufom_refusals::LocateRefusal;

@@ -8,14 +8,14 @@ ghost use Rattle.mufom_meaning.specs.LocateAnswer.{locate_answer};
 ghost use Rattle.mufom_meaning.specs.Location.{IsLocation};
 ghost use Rattle.mufom_image_values.specs.Resolutions.{resolutions_of};
 ghost use Rattle.mufom_located.specs.Located.{IsLocated};
-ghost use Rattle.mufom_image.specs.Placements.{IsSoundPlan, StandsAt};
+ghost use Rattle.mufom_image.specs.Placements.{StandsAt};
+ghost use Rattle.mufom_plan.specs.SoundPlans.{IsSoundPlan};
 ghost use Rattle.mufom_image.specs.Refusals.{IsMet};
 ghost use Rattle.mufom_image.specs.Stages.{most_weight};
 
 use crate::entries::located_parts;
 use crate::names::check_module;
 use crate::placing::{Placement, placed_sections, placing};
-use crate::refusal::LocateRefusal;
 use crate::walk::walk_module;
 use mufom_image_entries::ValuedModule;
 use mufom_image_values::{Graph, PlacedModule, Resolution, resolve_references};
@@ -23,6 +23,7 @@ use mufom_located::Located;
 use mufom_meaning::{LocatedParts, absolute_weighs};
 use mufom_module::Module;
 use mufom_plan::Plan;
+use mufom_refusals::LocateRefusal;
 use std::alloc::Global;
 
 // The module with the bases of its sections, followed by the bases of its commons.

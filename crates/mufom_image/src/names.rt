@@ -7,7 +7,6 @@ ghost use Rattle.mufom_image.specs.Refusals.{IsMet};
 ghost use Rattle.mufom_image.specs.Stages.{unresolved, roomless, circular, oversized, judged, IsJudged};
 
 use crate::commons::has_common;
-use crate::refusal::LocateRefusal;
 use mufom_copies::copy_bytes;
 use mufom_image_values::{
     Components, Graph, Resolution, components_of, first_common, first_on_cycle, first_undefined,
@@ -16,6 +15,7 @@ use mufom_loads::loaded_bytes;
 use mufom_module::{Module, items_are_within_the_weight};
 use mufom_numbers::limits::MOST_IMAGE_BYTES;
 use mufom_plan::Plan;
+use mufom_refusals::LocateRefusal;
 use std::alloc::Global;
 
 // Checks that each strong reference has a public or a common; the error names the first that has neither.

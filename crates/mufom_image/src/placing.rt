@@ -5,11 +5,11 @@ ghost use Rattle.mufom_place.specs.Facts.{IsAnswer};
 ghost use Rattle.mufom_meaning.specs.Facts.{placement};
 ghost use Rattle.mufom_meaning.specs.Location.{placed_sections};
 ghost use Rattle.mufom_image_values.specs.Resolutions.{resolutions_of};
-ghost use Rattle.mufom_image.specs.Placements.{ArePlaced, IsSoundPlan, placing_refusal};
+ghost use Rattle.mufom_image.specs.Placements.{ArePlaced, placing_refusal};
+ghost use Rattle.mufom_plan.specs.SoundPlans.{IsSoundPlan};
 ghost use Rattle.mufom_image.specs.Refusals.{IsMet};
 
 use crate::commons::planned_commons;
-use crate::refusal::LocateRefusal;
 use mufom_copies::copy_section;
 use mufom_image_values::Resolution;
 use mufom_meaning::modules_may_be_placed;
@@ -17,6 +17,7 @@ use mufom_module::Module;
 use mufom_numbers::{List, NoMemory};
 use mufom_place::{PlaceRefusal, place};
 use mufom_plan::Plan;
+use mufom_refusals::LocateRefusal;
 use mufom_sections::Section;
 use std::alloc::Global;
 

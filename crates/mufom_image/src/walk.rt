@@ -12,12 +12,12 @@ ghost use Rattle.mufom_image.specs.Refusals.{IsMet};
 ghost use Rattle.mufom_image.specs.Stages.{public_division, start_division, debug_division, bases_of, valuation_of, MayBeWalked};
 
 use crate::counter_values::AtCounter;
-use crate::refusal::LocateRefusal;
 use mufom_copies::copy_bytes;
 use mufom_image_bytes::{ImageStop, LoadRefusal, image_of_module};
 use mufom_image_entries::{ValuedModule, divides_at_start, first_debug_division};
 use mufom_meaning::{Run, Site};
 use mufom_numbers::List;
+use mufom_refusals::LocateRefusal;
 use std::alloc::Global;
 
 // Checks that no public divides by 0; the error names the first that does.

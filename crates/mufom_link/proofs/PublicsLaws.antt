@@ -8,8 +8,8 @@ use Rattle.mufom_names.specs.Index.{Entry, position_of, with_entry, numbered_fro
 use Rattle.mufom_plan.specs.Names.{has_name}
 use Rattle.mufom_meaning.specs.LinkAnswer.{first_duplicate}
 use Rattle.mufom_meaning.specs.Joined.{position_of as place_of}
-use Rattle.mufom_link.specs.declared.refusal.LinkRefusal.{LinkRefusal}
-use Rattle.mufom_link.specs.declared.refusal.LinkRefusal.TheVariants.{Mismatch, Duplicate, DuplicateStart, NoMemory}
+use Rattle.mufom_refusals.specs.declared.link.LinkRefusal.{LinkRefusal}
+use Rattle.mufom_refusals.specs.declared.link.LinkRefusal.TheVariants.{Mismatch, Duplicate, DuplicateStart, NoMemory}
 use Rattle.mufom_link.specs.Publics.{indexed, IsRefusedName}
 
 -- ---- duplicates

@@ -11,8 +11,8 @@ use Rattle.mufom_meaning.specs.Joined.{IsJoined}
 use Rattle.mufom_meaning.specs.Staging.{AreValid, StandsFor, HasSettledReferences}
 use Rattle.mufom_meaning.specs.StagingLaws.{JoinedStandsFor}
 use Rattle.mufom_meaning.specs.LinkAnswer.{first_mismatch, first_duplicate, two_starts, link_answer}
-use Rattle.mufom_link.specs.declared.refusal.LinkRefusal.{LinkRefusal}
-use Rattle.mufom_link.specs.declared.refusal.LinkRefusal.TheVariants.{Mismatch, Duplicate, DuplicateStart, NoMemory}
+use Rattle.mufom_refusals.specs.declared.link.LinkRefusal.{LinkRefusal}
+use Rattle.mufom_refusals.specs.declared.link.LinkRefusal.TheVariants.{Mismatch, Duplicate, DuplicateStart, NoMemory}
 use Rattle.mufom_link.specs.Publics.{indexed, IsRefusedName}
 use Rattle.mufom_link.specs.Refusals.{IsRefusalOf}
 use Rattle.mufom_link.proofs.PublicsLaws.{indexed-all, indexed-fails}

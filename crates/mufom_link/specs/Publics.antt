@@ -1,8 +1,8 @@
 -- The public names of a list, each with its position, in an index.
 use Rattle.std.specs.Prelude.{◌≡◌, ℕ, suc, List, [], ◌∷◌, is_some, Result, Ok, Err, if◌then◌else◌}
 use Rattle.mufom_names.specs.Index.{Entry, position_of, with_entry}
-use Rattle.mufom_link.specs.declared.refusal.LinkRefusal.{LinkRefusal}
-use Rattle.mufom_link.specs.declared.refusal.LinkRefusal.TheVariants.{Mismatch, Duplicate, DuplicateStart, NoMemory}
+use Rattle.mufom_refusals.specs.declared.link.LinkRefusal.{LinkRefusal}
+use Rattle.mufom_refusals.specs.declared.link.LinkRefusal.TheVariants.{Mismatch, Duplicate, DuplicateStart, NoMemory}
 
 -- the index once names are added, the first of them at position n; or the first name that the index already had
 abbrev pub indexed : List Entry → ℕ → List (List ℕ) → Result (List Entry) (List ℕ)

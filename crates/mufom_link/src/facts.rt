@@ -7,11 +7,11 @@ ghost use Rattle.mufom_meaning.specs.Flat.{flat_starts, public_names};
 ghost use Rattle.mufom_meaning.specs.LinkAnswer.{first_mismatch, same_descriptor};
 ghost use Rattle.mufom_link.specs.Publics.{indexed, IsIndexed, IsRefusedName};
 
-use crate::refusal::LinkRefusal;
 use mufom_meaning::Descriptor;
 use mufom_module::Module;
 use mufom_names::{HashSeed, NameIndex, Public};
 use mufom_numbers::Bytes;
+use mufom_refusals::LinkRefusal;
 use std::alloc::Global;
 
 /// The greatest number of names in an index that needs no seed of its own. So few names cannot cost much time,

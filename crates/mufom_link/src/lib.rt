@@ -15,11 +15,10 @@ mod facts;
 mod joined;
 mod linking;
 mod references;
-mod refusal;
 mod renaming;
 mod renumbering;
 mod resolved;
 
 pub use conditions::may_be_linked;
 pub use linking::{link, link_owned};
-pub use refusal::LinkRefusal;
+pub use mufom_refusals::LinkRefusal;

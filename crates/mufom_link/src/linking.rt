@@ -15,7 +15,6 @@ ghost use Rattle.mufom_link.specs.References.{AreResolved, targets_of};
 ghost use Rattle.mufom_link.specs.Refusals.{IsRefusalOf};
 
 use crate::joined::Joined;
-use crate::refusal::LinkRefusal;
 use crate::resolved::{Resolved, resolve};
 use mufom_copies::{copy_bytes, copy_module};
 use mufom_expr::Letter;
@@ -23,6 +22,7 @@ use mufom_meaning::{joined_is_valid, joined_stands_for, no_link_answer_is_linkab
 use mufom_module::{Module, Order, Parts};
 use mufom_names::NameTable;
 use mufom_numbers::{Bytes, List, NoMemory};
+use mufom_refusals::LinkRefusal;
 use std::alloc::Global;
 
 // The laws of partial links that the contract of `link` rests on. It does nothing.

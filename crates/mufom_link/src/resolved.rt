@@ -10,11 +10,11 @@ ghost use Rattle.mufom_link.specs.References.{AreResolved};
 
 use crate::facts::{first_mismatch, index_publics, start_count};
 use crate::references::{References, reference_count};
-use crate::refusal::LinkRefusal;
 use mufom_expr::Letter;
 use mufom_module::Module;
 use mufom_names::{NameIndex, Reference};
 use mufom_numbers::{List, NoMemory};
+use mufom_refusals::LinkRefusal;
 use std::alloc::Global;
 
 /// The references of a list of modules in its link.

@@ -21,7 +21,7 @@ use Rattle.mufom_meaning.specs.Readings.{readings}
 use Rattle.mufom_meaning.specs.Staging.{AreValid}
 use Rattle.mufom_meaning.specs.Steps.{steps, readings_after}
 use Rattle.mufom_meaning.specs.Values.{Setting, setting}
-use Rattle.mufom_image.specs.declared.refusal.LocateRefusal.{LocateRefusal}
+use Rattle.mufom_refusals.specs.declared.locate.LocateRefusal.{LocateRefusal}
 use Rattle.mufom_image.specs.Refusals.{IsMet}
 use Rattle.mufom_image_bytes.specs.Images.{AreLow}
 use Rattle.mufom_moves.specs.Shifts.{shifted_cells, ShareNoAddress, StayApart}

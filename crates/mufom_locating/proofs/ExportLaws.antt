@@ -13,8 +13,8 @@ use Rattle.mufom_meaning.specs.Flat.{width}
 use Rattle.mufom_meaning.specs.Joined.{IsJoined}
 use Rattle.mufom_meaning.specs.LocateAnswer.{after_placing}
 use Rattle.mufom_meaning.specs.StagingLaws.{MeansTheSame}
-use Rattle.mufom_image.specs.declared.refusal.LocateRefusal.{LocateRefusal}
-use Rattle.mufom_image.specs.declared.refusal.LocateRefusal.TheVariants as refusals
+use Rattle.mufom_refusals.specs.declared.locate.LocateRefusal.{LocateRefusal}
+use Rattle.mufom_refusals.specs.declared.locate.LocateRefusal.TheVariants as refusals
 use Rattle.mufom_image.specs.Refusals.{IsMet}
 use Rattle.mufom_planned.specs.Layout.{layout}
 use Rattle.mufom_planned.specs.Numbers.{symbol_number}

@@ -18,8 +18,8 @@ use Rattle.mufom_meaning.specs.Staging.{unlinked, linked}
 use Rattle.mufom_meaning.proofs.Placed.{same_placed_commons}
 use Rattle.mufom_meaning.proofs.facts.Linkable.{no_link_answer_is_linkable}
 use Rattle.mufom_meaning.proofs.staging.Stages.{Stays, stays_linked}
-use Rattle.mufom_image.specs.declared.refusal.LocateRefusal.{LocateRefusal}
-use Rattle.mufom_image.specs.declared.refusal.LocateRefusal.TheVariants as refusals
+use Rattle.mufom_refusals.specs.declared.locate.LocateRefusal.{LocateRefusal}
+use Rattle.mufom_refusals.specs.declared.locate.LocateRefusal.TheVariants as refusals
 use Rattle.mufom_image.specs.Refusals.{IsMet}
 use Rattle.mufom_image.proofs.MetLaws.{met-first}
 use Rattle.mufom_planned.specs.Layout.{Layout, layout, has_bytes}
@@ -28,8 +28,8 @@ use Rattle.mufom_planned.specs.Planned.{PlanFact, HasLocation, IsPlanned, copied
 use Rattle.mufom_planned.specs.PlanLaws.{HasSoundSymbols}
 use Rattle.mufom_planned.proofs.Alike.{layout_same, same_answer, location_there}
 use Rattle.mufom_planned.proofs.SymbolsModule.{symbols_valid, followed_names}
-use Rattle.mufom_locating.specs.declared.refusal.PlannedRefusal.{PlannedRefusal}
-use Rattle.mufom_locating.specs.declared.refusal.PlannedRefusal.TheVariants as planned
+use Rattle.mufom_refusals.specs.declared.planned.PlannedRefusal.{PlannedRefusal}
+use Rattle.mufom_refusals.specs.declared.planned.PlannedRefusal.TheVariants as planned
 use Rattle.mufom_locating.specs.Copied.{IsLocatedWithCopies}
 use Rattle.mufom_locating.specs.Linked.{IsLinkWith, symbols_behind}
 use Rattle.mufom_planned.specs.Numbers.{symbol_number}

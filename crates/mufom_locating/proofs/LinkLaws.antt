@@ -27,8 +27,8 @@ use Rattle.mufom_plan.specs.Names.{AreDistinctNames, has_name, symbol_names}
 use Rattle.mufom_plan.specs.Symbols.{HaveShortNames}
 use Rattle.mufom_place.specs.Facts.{◌or_else◌}
 use Rattle.mufom_numbers.proofs.Choices.{mapped_none, mapped_some}
-use Rattle.mufom_link.specs.declared.refusal.LinkRefusal.{LinkRefusal}
-use Rattle.mufom_link.specs.declared.refusal.LinkRefusal.TheVariants.{Mismatch, Duplicate, DuplicateStart, NoMemory}
+use Rattle.mufom_refusals.specs.declared.link.LinkRefusal.{LinkRefusal}
+use Rattle.mufom_refusals.specs.declared.link.LinkRefusal.TheVariants.{Mismatch, Duplicate, DuplicateStart, NoMemory}
 use Rattle.mufom_link.specs.Refusals.{IsRefusalOf}
 use Rattle.mufom_meaning.specs.Facts.{LinkFact, duplicate, mismatch, duplicate_start}
 use Rattle.mufom_meaning.specs.FactLaws.{IsLinkable}

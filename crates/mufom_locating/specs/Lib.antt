@@ -1,5 +1,4 @@
 pub mod Plain
-pub mod Plans
 pub mod Refusals
 pub mod Loaded
 pub mod Placed

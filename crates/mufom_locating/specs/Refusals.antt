@@ -3,8 +3,8 @@ use Rattle.std.specs.Prelude.{◌≡◌, Option, Some, None}
 use Rattle.mufom_meaning.specs.Facts.{LocateFact}
 use Rattle.mufom_planned.specs.Planned.{PlanFact, shared_name, of_list}
 use Rattle.mufom_image.specs.Refusals.{IsMet}
-use Rattle.mufom_locating.specs.declared.refusal.PlannedRefusal.{PlannedRefusal}
-use Rattle.mufom_locating.specs.declared.refusal.PlannedRefusal.TheVariants as refusals
+use Rattle.mufom_refusals.specs.declared.planned.PlannedRefusal.{PlannedRefusal}
+use Rattle.mufom_refusals.specs.declared.planned.PlannedRefusal.TheVariants as refusals
 
 -- the fact about the list with the plan's symbols, if it is one
 abbrev pub list_fact : Option PlanFact → Option LocateFact

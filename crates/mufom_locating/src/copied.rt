@@ -2,7 +2,7 @@
 
 ghost use Rattle.std.specs.Prelude.{◌≡◌, ◌∷◌, [], All, IfOk, IfErr};
 ghost use Rattle.mufom_names.specs.Names.{names_of, AreDistinct};
-ghost use Rattle.mufom_image.specs.Placements.{IsSoundPlan};
+ghost use Rattle.mufom_plan.specs.SoundPlans.{IsSoundPlan};
 ghost use Rattle.mufom_image.specs.Refusals.{IsMet};
 ghost use Rattle.mufom_place.specs.Packing.{IsLow};
 ghost use Rattle.mufom_planned.specs.Layout.{layout, layout_placings};

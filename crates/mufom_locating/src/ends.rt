@@ -6,7 +6,7 @@ ghost use Rattle.mufom_plan.specs.Names.{region_position};
 ghost use Rattle.mufom_place.specs.Bases.{aligned_up};
 ghost use Rattle.mufom_place.specs.Filling.{AreFilled, AreMarked, marked};
 ghost use Rattle.mufom_place.specs.Packing.{IsLow};
-ghost use Rattle.mufom_image.specs.Placements.{IsSoundPlan};
+ghost use Rattle.mufom_plan.specs.SoundPlans.{IsSoundPlan};
 ghost use Rattle.mufom_planned.specs.Layout.{layout};
 ghost use Rattle.mufom_locating.specs.Ends.{AreEnds, ArePlain, copied_whole, copy_holder, placed_with_copies, with_copy_end};
 ghost use Rattle.mufom_locating.specs.Exported.{AllListed};

@@ -6,7 +6,7 @@ ghost use Rattle.mufom_names.specs.Names.{names_of, AreDistinct};
 ghost use Rattle.mufom_module.specs.Written.{weight};
 ghost use Rattle.mufom_meaning.specs.Joined.{IsJoined};
 ghost use Rattle.mufom_meaning.specs.StagingLaws.{MeansTheSame};
-ghost use Rattle.mufom_image.specs.Placements.{IsSoundPlan};
+ghost use Rattle.mufom_plan.specs.SoundPlans.{IsSoundPlan};
 ghost use Rattle.mufom_meaning.specs.Placed.{extended_sections};
 ghost use Rattle.mufom_planned.specs.Layout.{layout};
 ghost use Rattle.mufom_planned.specs.PlanSymbols.{first_shared, with_symbols};
@@ -16,7 +16,7 @@ ghost use Rattle.mufom_locating.specs.Placed.{AreCopies};
 ghost use Rattle.mufom_locating.specs.Light.{weight_limit};
 ghost use Rattle.mufom_locating.specs.Linked.{HaveNumbers, IsLinkWith};
 ghost use Rattle.mufom_locating.specs.Numbered.{AreValues};
-ghost use Rattle.mufom_locating.specs.Plans.{IsReadPlan};
+ghost use Rattle.mufom_planned.specs.ReadPlans.{IsReadPlan};
 
 use crate::layout::{copies_among, layout_of, plain_sections};
 use crate::locating::{values_at, zeros};

@@ -9,7 +9,7 @@ ghost use Rattle.mufom_meaning.specs.Flat.{width};
 ghost use Rattle.mufom_meaning.specs.Placed.{extended_sections};
 ghost use Rattle.mufom_planned.specs.Layout.{layout};
 ghost use Rattle.mufom_planned.specs.Planned.{layout_fact};
-ghost use Rattle.mufom_image.specs.Placements.{IsSoundPlan};
+ghost use Rattle.mufom_plan.specs.SoundPlans.{IsSoundPlan};
 ghost use Rattle.mufom_image.specs.Refusals.{IsMet};
 ghost use Rattle.mufom_locating.specs.Placed.{AreCopies, ArePlacedAt, HaveRoom, IsPlacedBy, is_overlap};
 

@@ -17,10 +17,9 @@ mod locating;
 mod moves;
 mod numbers;
 mod plain;
-mod refusal;
 mod symbols;
 
 pub use ends::region_ends;
 pub use exports::{module_copies, planned_copies, with_plan_symbols};
 pub use locating::locate_by_plan;
-pub use refusal::PlannedRefusal;
+pub use mufom_refusals::PlannedRefusal;

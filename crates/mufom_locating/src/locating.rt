@@ -5,7 +5,7 @@ ghost use Rattle.mufom_place.specs.Packing.{IsLow};
 ghost use Rattle.mufom_names.specs.Names.{names_of, AreDistinct};
 ghost use Rattle.mufom_module.specs.Written.{weight};
 ghost use Rattle.mufom_meaning.specs.Absolute.{absolute_of};
-ghost use Rattle.mufom_image.specs.Placements.{IsSoundPlan};
+ghost use Rattle.mufom_plan.specs.SoundPlans.{IsSoundPlan};
 ghost use Rattle.mufom_image.specs.Refusals.{IsMet};
 ghost use Rattle.mufom_planned.specs.Layout.{layout};
 ghost use Rattle.mufom_planned.specs.Numbers.{symbol_number};
@@ -16,7 +16,7 @@ ghost use Rattle.mufom_locating.specs.Light.{weight_limit};
 ghost use Rattle.mufom_locating.specs.Numbered.{AreValues};
 ghost use Rattle.mufom_locating.specs.Placed.{IsNamedLayout, IsPlacedBy};
 ghost use Rattle.mufom_locating.specs.Plain.{IsPlain};
-ghost use Rattle.mufom_locating.specs.Plans.{IsReadPlan};
+ghost use Rattle.mufom_planned.specs.ReadPlans.{IsReadPlan};
 ghost use Rattle.mufom_locating.specs.Refusals.{IsMetBy};
 
 use crate::copied::{located_at, placings_of};
@@ -24,7 +24,6 @@ use crate::layout::{Layout, layout_of};
 use crate::moves::region_moves;
 use crate::numbers::{Numbering, symbol_values};
 use crate::plain::{have_short_names, is_plain};
-use crate::refusal::PlannedRefusal;
 use crate::symbols::linked_with;
 use mufom_image::{LocateRefusal, locate};
 use mufom_located::Located;
@@ -37,6 +36,7 @@ use mufom_planned::{
     plain_plans_mean_the_same, planned_absolute_is_located_as_itself, planned_absolute_is_valid,
     planned_absolute_weighs, planned_is_locatable,
 };
+use mufom_refusals::PlannedRefusal;
 use std::alloc::Global;
 
 // Whether all bases are addresses of 64 bits.

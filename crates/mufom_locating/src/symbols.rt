@@ -15,7 +15,6 @@ ghost use Rattle.mufom_locating.specs.Linked.{HaveNumbers, IsSharedName, IsLinkW
 ghost use Rattle.mufom_locating.specs.Numbered.{AreValues};
 ghost use Rattle.mufom_locating.specs.Refusals.{IsMetBy};
 
-use crate::refusal::PlannedRefusal;
 use mufom_copies::{copy_bytes, copy_module};
 use mufom_expr::Postfix;
 use mufom_image::LocateRefusal;
@@ -25,6 +24,7 @@ use mufom_module::{Module, Parts};
 use mufom_names::Public;
 use mufom_numbers::{List, NoMemory};
 use mufom_plan::PlanSymbol;
+use mufom_refusals::PlannedRefusal;
 use std::alloc::Global;
 
 // A symbol as a public without notes.

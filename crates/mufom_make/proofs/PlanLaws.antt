@@ -6,8 +6,8 @@ use Rattle.mufom_plan.specs.declared.plan.Plan.{Plan}
 use Rattle.mufom_meaning.specs.declared.located.LocatedParts.{LocatedParts}
 use Rattle.mufom_meaning.specs.Location.{IsLocation}
 use Rattle.mufom_meaning.specs.LocateAnswer.{locate_answer}
-use Rattle.mufom_image.specs.declared.refusal.LocateRefusal.{LocateRefusal}
-use Rattle.mufom_image.specs.Placements.{IsSoundPlan}
+use Rattle.mufom_refusals.specs.declared.locate.LocateRefusal.{LocateRefusal}
+use Rattle.mufom_plan.specs.SoundPlans.{IsSoundPlan}
 use Rattle.mufom_image.specs.Refusals.{IsMet}
 use Rattle.mufom_make.specs.Generated.{made_modules, made_plan}
 use Rattle.mufom_make.specs.Links.{IsLinkOf}

@@ -1,7 +1,7 @@
 //! What is printed of a common that does not fit its region, and of undefined names.
 
 ghost use Rattle.std.specs.Prelude.{◌∷◌, [], IsTrue};
-ghost use Rattle.mufom_image.specs.Placements.{IsSoundPlan};
+ghost use Rattle.mufom_plan.specs.SoundPlans.{IsSoundPlan};
 ghost use Rattle.mufom_image.specs.Refusals.{IsMet};
 ghost use Rattle.mufom_planned.specs.Planned.{copied_answer};
 ghost use Rattle.mufom_planned.specs.PlanLaws.{AreLoadedInPlace};

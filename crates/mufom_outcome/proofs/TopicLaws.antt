@@ -5,13 +5,13 @@ use Rattle.mufom_numbers.specs.declared.reason.Reason.TheVariants as why
 use Rattle.mufom_help.specs.Topics.{error_lines, errors, read_errors, topic_in, topics}
 use Rattle.mufom_plan.specs.declared.refusal.PlanRefusal.TheVariants as plan
 use Rattle.mufom_place.specs.declared.refusal.PlaceRefusal.TheVariants as place
-use Rattle.mufom_link.specs.declared.refusal.LinkRefusal.TheVariants as link
-use Rattle.mufom_image.specs.declared.refusal.LocateRefusal.TheVariants as locate
-use Rattle.mufom_titxt.specs.declared.refusal.TxtReason.{TxtReason}
-use Rattle.mufom_titxt.specs.declared.refusal.TxtReason.TheVariants as txt
-use Rattle.mufom_build_text.specs.declared.refusal.BuildReason.{BuildReason}
-use Rattle.mufom_build_text.specs.declared.refusal.BuildReason.TheVariants as reasons
-use Rattle.mufom_build.specs.declared.refusal.BuildRefusal.TheVariants as build
+use Rattle.mufom_refusals.specs.declared.link.LinkRefusal.TheVariants as link
+use Rattle.mufom_refusals.specs.declared.locate.LocateRefusal.TheVariants as locate
+use Rattle.mufom_refusals.specs.declared.text.TxtReason.{TxtReason}
+use Rattle.mufom_refusals.specs.declared.text.TxtReason.TheVariants as txt
+use Rattle.mufom_refusals.specs.declared.build.BuildReason.{BuildReason}
+use Rattle.mufom_refusals.specs.declared.build.BuildReason.TheVariants as reasons
+use Rattle.mufom_refusals.specs.declared.build.BuildRefusal.TheVariants as build
 use Rattle.mufom_module.specs.declared.module.Defect.{Defect}
 use Rattle.mufom_module.specs.declared.module.Defect.TheVariants as defects
 use Rattle.mufom_outcome.specs.declared.outcome.BinRefusal.TheVariants as bins

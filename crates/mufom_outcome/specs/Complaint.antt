@@ -14,10 +14,10 @@ use Rattle.mufom_place.specs.declared.refusal.PlaceRefusal.TheVariants as place
 use Rattle.mufom_meaning.specs.declared.located.Descriptor.{Descriptor}
 use Rattle.mufom_meaning.specs.declared.located.Site.{Site}
 use Rattle.mufom_meaning.specs.declared.located.Site.TheVariants as site
-use Rattle.mufom_image.specs.declared.refusal.LocateRefusal.{LocateRefusal}
-use Rattle.mufom_image.specs.declared.refusal.LocateRefusal.TheVariants as locate
-use Rattle.mufom_link.specs.declared.refusal.LinkRefusal.{LinkRefusal}
-use Rattle.mufom_link.specs.declared.refusal.LinkRefusal.TheVariants as link
+use Rattle.mufom_refusals.specs.declared.locate.LocateRefusal.{LocateRefusal}
+use Rattle.mufom_refusals.specs.declared.locate.LocateRefusal.TheVariants as locate
+use Rattle.mufom_refusals.specs.declared.link.LinkRefusal.{LinkRefusal}
+use Rattle.mufom_refusals.specs.declared.link.LinkRefusal.TheVariants as link
 use Rattle.mufom_text.specs.Show.{kind_text, order_letter}
 use Rattle.mufom_outcome.specs.declared.outcome.Input.{Input}
 use Rattle.mufom_outcome.specs.declared.outcome.Input.TheVariants as input
@@ -27,12 +27,12 @@ use Rattle.mufom_outcome.specs.declared.outcome.Outcome.{Outcome}
 use Rattle.mufom_outcome.specs.declared.outcome.Outcome.TheVariants as outcome
 use Rattle.mufom_outcome.specs.declared.outcome.Refusal.{Refusal}
 use Rattle.mufom_outcome.specs.declared.outcome.Refusal.TheVariants as refusal
-use Rattle.mufom_titxt.specs.declared.refusal.TxtReason.{TxtReason}
-use Rattle.mufom_titxt.specs.declared.refusal.TxtReason.TheVariants as txt
-use Rattle.mufom_build_text.specs.declared.refusal.BuildReason.{BuildReason}
-use Rattle.mufom_build_text.specs.declared.refusal.BuildReason.TheVariants as reasons
-use Rattle.mufom_build.specs.declared.refusal.BuildRefusal.{BuildRefusal}
-use Rattle.mufom_build.specs.declared.refusal.BuildRefusal.TheVariants as build
+use Rattle.mufom_refusals.specs.declared.text.TxtReason.{TxtReason}
+use Rattle.mufom_refusals.specs.declared.text.TxtReason.TheVariants as txt
+use Rattle.mufom_refusals.specs.declared.build.BuildReason.{BuildReason}
+use Rattle.mufom_refusals.specs.declared.build.BuildReason.TheVariants as reasons
+use Rattle.mufom_refusals.specs.declared.build.BuildRefusal.{BuildRefusal}
+use Rattle.mufom_refusals.specs.declared.build.BuildRefusal.TheVariants as build
 use Rattle.mufom_module.specs.declared.module.Defect.{Defect}
 use Rattle.mufom_module.specs.declared.module.Defect.TheVariants as defects
 use Rattle.mufom_words.specs.declared.stop.UsageFault.{UsageFault}

@@ -1,7 +1,7 @@
 -- The error that locating returns for a locate fact.
 use Rattle.mufom_meaning.specs.Facts.{LocateFact, placement, undefined, common_unplaced, cycle, image_limit, zero_divisor, load_outside, loaded_twice, overflow}
-use Rattle.mufom_image.specs.declared.refusal.LocateRefusal.{LocateRefusal}
-use Rattle.mufom_image.specs.declared.refusal.LocateRefusal.TheVariants as refusals
+use Rattle.mufom_refusals.specs.declared.locate.LocateRefusal.{LocateRefusal}
+use Rattle.mufom_refusals.specs.declared.locate.LocateRefusal.TheVariants as refusals
 
 abbrev pub locate_refusal : LocateFact → LocateRefusal
 locate_refusal (placement refusal) = refusals.Place refusal

@@ -2,14 +2,14 @@
 use Rattle.std.specs.Prelude.{ℕ}
 use Rattle.mufom_words.specs.declared.stop.WordsStop.{WordsStop}
 use Rattle.mufom_words.specs.declared.stop.WordsStop.TheVariants as words_stop
-use Rattle.mufom_link.specs.declared.refusal.LinkRefusal.{LinkRefusal}
-use Rattle.mufom_link.specs.declared.refusal.LinkRefusal.TheVariants as link
-use Rattle.mufom_image.specs.declared.refusal.LocateRefusal.{LocateRefusal}
-use Rattle.mufom_image.specs.declared.refusal.LocateRefusal.TheVariants as locate
-use Rattle.mufom_locating.specs.declared.refusal.PlannedRefusal.{PlannedRefusal}
-use Rattle.mufom_locating.specs.declared.refusal.PlannedRefusal.TheVariants as planned
-use Rattle.mufom_prune.specs.declared.refusal.PruneRefusal.{PruneRefusal}
-use Rattle.mufom_prune.specs.declared.refusal.PruneRefusal.TheVariants as prune
+use Rattle.mufom_refusals.specs.declared.link.LinkRefusal.{LinkRefusal}
+use Rattle.mufom_refusals.specs.declared.link.LinkRefusal.TheVariants as link
+use Rattle.mufom_refusals.specs.declared.locate.LocateRefusal.{LocateRefusal}
+use Rattle.mufom_refusals.specs.declared.locate.LocateRefusal.TheVariants as locate
+use Rattle.mufom_refusals.specs.declared.planned.PlannedRefusal.{PlannedRefusal}
+use Rattle.mufom_refusals.specs.declared.planned.PlannedRefusal.TheVariants as planned
+use Rattle.mufom_refusals.specs.declared.prune.PruneRefusal.{PruneRefusal}
+use Rattle.mufom_refusals.specs.declared.prune.PruneRefusal.TheVariants as prune
 use Rattle.mufom_outcome.specs.declared.cause.Cause.{Cause}
 use Rattle.mufom_outcome.specs.declared.cause.Cause.TheVariants as cause
 use Rattle.mufom_outcome.specs.declared.outcome.Outcome.{Outcome}

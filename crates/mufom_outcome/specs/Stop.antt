@@ -3,8 +3,8 @@ use Rattle.std.specs.Prelude.{ℕ, List}
 use Rattle.mufom_words.specs.declared.stop.WordsStop.{WordsStop}
 use Rattle.mufom_plan.specs.declared.refusal.PlanRefusal.{PlanRefusal}
 use Rattle.mufom_read.specs.declared.refusal.ReadRefusal.{ReadRefusal}
-use Rattle.mufom_titxt.specs.declared.refusal.TxtRefusal.{TxtRefusal}
-use Rattle.mufom_build.specs.declared.refusal.BuildRefusal.{BuildRefusal}
+use Rattle.mufom_refusals.specs.declared.text.TxtRefusal.{TxtRefusal}
+use Rattle.mufom_refusals.specs.declared.build.BuildRefusal.{BuildRefusal}
 use Rattle.mufom_meaning.specs.Facts.{LinkFact, LocateFact}
 use Rattle.mufom_outcome.specs.declared.outcome.BinRefusal.{BinRefusal}
 

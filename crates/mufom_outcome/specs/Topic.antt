@@ -9,14 +9,14 @@ use Rattle.mufom_plan.specs.declared.refusal.PlanRefusal.{PlanRefusal}
 use Rattle.mufom_plan.specs.declared.refusal.PlanRefusal.TheVariants as plan
 use Rattle.mufom_place.specs.declared.refusal.PlaceRefusal.{PlaceRefusal}
 use Rattle.mufom_place.specs.declared.refusal.PlaceRefusal.TheVariants as place
-use Rattle.mufom_link.specs.declared.refusal.LinkRefusal.{LinkRefusal}
-use Rattle.mufom_link.specs.declared.refusal.LinkRefusal.TheVariants as link
-use Rattle.mufom_image.specs.declared.refusal.LocateRefusal.{LocateRefusal}
-use Rattle.mufom_image.specs.declared.refusal.LocateRefusal.TheVariants as locate
-use Rattle.mufom_titxt.specs.declared.refusal.TxtReason.{TxtReason}
-use Rattle.mufom_titxt.specs.declared.refusal.TxtReason.TheVariants as txt
-use Rattle.mufom_build.specs.declared.refusal.BuildRefusal.{BuildRefusal}
-use Rattle.mufom_build.specs.declared.refusal.BuildRefusal.TheVariants as build
+use Rattle.mufom_refusals.specs.declared.link.LinkRefusal.{LinkRefusal}
+use Rattle.mufom_refusals.specs.declared.link.LinkRefusal.TheVariants as link
+use Rattle.mufom_refusals.specs.declared.locate.LocateRefusal.{LocateRefusal}
+use Rattle.mufom_refusals.specs.declared.locate.LocateRefusal.TheVariants as locate
+use Rattle.mufom_refusals.specs.declared.text.TxtReason.{TxtReason}
+use Rattle.mufom_refusals.specs.declared.text.TxtReason.TheVariants as txt
+use Rattle.mufom_refusals.specs.declared.build.BuildRefusal.{BuildRefusal}
+use Rattle.mufom_refusals.specs.declared.build.BuildRefusal.TheVariants as build
 use Rattle.mufom_outcome.specs.declared.outcome.BinRefusal.{BinRefusal}
 use Rattle.mufom_outcome.specs.declared.outcome.BinRefusal.TheVariants as bins
 use Rattle.mufom_outcome.specs.declared.outcome.Outcome.{Outcome}

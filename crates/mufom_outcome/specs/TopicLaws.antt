@@ -7,9 +7,9 @@ use Rattle.mufom_words.specs.Options.{form_of, forms, usage_of}
 use Rattle.mufom_text.specs.Words.{Text}
 use Rattle.mufom_plan.specs.declared.refusal.PlanRefusal.TheVariants as plan
 use Rattle.mufom_place.specs.declared.refusal.PlaceRefusal.TheVariants as place
-use Rattle.mufom_link.specs.declared.refusal.LinkRefusal.TheVariants as link
-use Rattle.mufom_image.specs.declared.refusal.LocateRefusal.TheVariants as locate
-use Rattle.mufom_build.specs.declared.refusal.BuildRefusal.TheVariants as build
+use Rattle.mufom_refusals.specs.declared.link.LinkRefusal.TheVariants as link
+use Rattle.mufom_refusals.specs.declared.locate.LocateRefusal.TheVariants as locate
+use Rattle.mufom_refusals.specs.declared.build.BuildRefusal.TheVariants as build
 use Rattle.mufom_outcome.specs.declared.outcome.Refusal.{Refusal}
 use Rattle.mufom_outcome.specs.declared.outcome.Refusal.TheVariants as refusal
 use Rattle.mufom_outcome.specs.Topic.{refusal_name}

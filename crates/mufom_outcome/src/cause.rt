@@ -1,9 +1,8 @@
 //! An outcome whose error is borrowed.
 
 use crate::outcome::Outcome;
-use mufom_image::LocateRefusal;
-use mufom_link::LinkRefusal;
 use mufom_numbers::Bytes;
+use mufom_refusals::{LinkRefusal, LocateRefusal};
 
 /// The outcome of a run, or the error of a layer that would end it.
 #[derive(Clone, Copy, Debug)]

@@ -8,16 +8,15 @@ ghost use Rattle.mufom_outcome.specs.Complaint.{txt_reason_text};
 
 use crate::locate_text::{push_locate, push_region};
 use crate::outcome::{BinRefusal, Input, Outcome, Refusal};
-use mufom_build::{BuildReason, BuildRefusal};
-use mufom_image::LocateRefusal;
-use mufom_link::LinkRefusal;
 use mufom_meaning::Descriptor;
 use mufom_module::{Defect, Order};
 use mufom_numbers::{Bytes, NoMemory, Reason};
 use mufom_plan::{PlanField, PlanRefusal, PlanTable};
 use mufom_read::ReadRefusal;
+use mufom_refusals::{
+    BuildReason, BuildRefusal, LinkRefusal, LocateRefusal, TxtReason, TxtRefusal,
+};
 use mufom_text::quoted_name;
-use mufom_titxt::{TxtReason, TxtRefusal};
 use mufom_words::UsageFault;
 use std::alloc::Global;
 

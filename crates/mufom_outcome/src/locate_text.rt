@@ -9,10 +9,10 @@ ghost use Rattle.mufom_text.specs.Words.{quoted as quoted_text};
 ghost use Rattle.mufom_outcome.specs.Complaint.{locate_text, place_text, region_text, site_text};
 
 use mufom_expr::FieldKind;
-use mufom_image::LocateRefusal;
 use mufom_meaning::Site;
 use mufom_numbers::{Bytes, NoMemory};
 use mufom_place::PlaceRefusal;
+use mufom_refusals::LocateRefusal;
 use mufom_text::quoted_name;
 use std::alloc::Global;
 

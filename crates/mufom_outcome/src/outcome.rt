@@ -3,13 +3,10 @@
 ghost use Rattle.std.specs.Prelude.{◌≡◌};
 ghost use Rattle.mufom_outcome.specs.Complaint.{status_of};
 
-use mufom_build::BuildRefusal;
-use mufom_image::LocateRefusal;
-use mufom_link::LinkRefusal;
 use mufom_numbers::Bytes;
 use mufom_plan::PlanRefusal;
 use mufom_read::ReadRefusal;
-use mufom_titxt::TxtRefusal;
+use mufom_refusals::{BuildRefusal, LinkRefusal, LocateRefusal, TxtRefusal};
 use mufom_words::UsageFault;
 
 /// An input of a run.

@@ -4,10 +4,7 @@ ghost use Rattle.std.specs.Prelude.{◌≡◌};
 ghost use Rattle.mufom_outcome.specs.Outcomes.{outcome_of_link as of_link, outcome_of_locate as of_locate, outcome_of_planned as of_planned, outcome_of_prune as of_prune, stop_answer};
 
 use crate::outcome::{Outcome, Refusal};
-use mufom_image::LocateRefusal;
-use mufom_link::LinkRefusal;
-use mufom_locating::PlannedRefusal;
-use mufom_prune::PruneRefusal;
+use mufom_refusals::{LinkRefusal, LocateRefusal, PlannedRefusal, PruneRefusal};
 use mufom_words::WordsStop;
 
 /// The outcome of arguments that are not a command.

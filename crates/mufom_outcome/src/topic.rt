@@ -11,14 +11,11 @@ ghost use Rattle.mufom_outcome.specs.Topic.{usage_topic as usage};
 use crate::cause::Cause;
 use crate::error_lines::{build_reason_name, defect_name, reason_name};
 use crate::outcome::{BinRefusal, Outcome, Refusal};
-use mufom_build::BuildRefusal;
 use mufom_help::commands::command_topic;
 use mufom_help::{command_list, topic_text};
-use mufom_image::LocateRefusal;
-use mufom_link::LinkRefusal;
 use mufom_place::PlaceRefusal;
 use mufom_plan::PlanRefusal;
-use mufom_titxt::TxtReason;
+use mufom_refusals::{BuildRefusal, LinkRefusal, LocateRefusal, TxtReason};
 
 // The name of an error in a plan.
 fn plan_name(refusal: PlanRefusal) -> &'static str

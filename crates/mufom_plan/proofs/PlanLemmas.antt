@@ -188,7 +188,7 @@ unfolding IsDistinct
 none_sound = record { distinct = tt; common = omega arith }
 
 -- what a plan keeps: its regions are sound and loaded as they may be, and no symbol's name occurs twice
-pub record IsSoundPlan (plan : Plan) : Type 0 where
+pub record KeepsItsRules (plan : Plan) : Type 0 where
   pub regions : IsSound plan.regions
   pub loads : AreLoads plan.regions
   pub symbols : AreDistinctNames (symbol_names plan.symbols)
@@ -198,7 +198,7 @@ unfolding IsDistinct
 none_named = tt
 
 -- the plan that a document states is sound
-pub plan_of_document-sound : (document : Members) (plan : Plan) → plan_of_document document ≡ Ok plan → IsSoundPlan plan
+pub plan_of_document-sound : (document : Members) (plan : Plan) → plan_of_document document ≡ Ok plan → KeepsItsRules plan
 plan_of_document-sound document plan e = by_keys (has_only_keys plan_keys document) e where
   keep : Option (List (List ℕ))
   keep = kept_names (get_member (codes "keep") document)
@@ -211,11 +211,11 @@ plan_of_document-sound document plan e = by_keys (has_only_keys plan_keys docume
 
   by_symbols : (read : List Region) (items : List Data) (kept : List (List ℕ)) (answer : Result (List PlanSymbol) PlanRefusal) → IsSound read → AreLoads read
       → symbols_of (listed_names read) (region_names read) [] items ≡ answer
-      → answer >>= (λ symbols. Ok (record { regions = read; symbols = symbols; keep = kept })) ≡ Ok plan → IsSoundPlan plan
+      → answer >>= (λ symbols. Ok (record { regions = read; symbols = symbols; keep = kept })) ≡ Ok plan → KeepsItsRules plan
   by_symbols read items kept (Err refusal) sound loads is h = absurd cc
   by_symbols read items kept (Ok symbols) sound loads is h =
       let whole : record { regions = read; symbols = symbols; keep = kept } ≡ plan = cc in
-      subst IsSoundPlan whole (record {
+      subst KeepsItsRules whole (record {
         regions = sound;
         loads = loads;
         symbols = symbols_of-distinct (listed_names read) (region_names read) [] items symbols is none_named;
@@ -223,7 +223,7 @@ plan_of_document-sound document plan e = by_keys (has_only_keys plan_keys docume
 
   by_loads : (read : List Region) (items : List Data) (kept : List (List ℕ)) (wrong : Option ℕ) → IsSound read → first_wrong_load read ≡ wrong
       → with_loads wrong read >>= (λ regions. symbols_of (listed_names regions) (region_names regions) [] items >>= λ symbols.
-      Ok (record { regions = regions; symbols = symbols; keep = kept })) ≡ Ok plan → IsSoundPlan plan
+      Ok (record { regions = regions; symbols = symbols; keep = kept })) ≡ Ok plan → KeepsItsRules plan
   by_loads read items kept (Some place) sound is h = absurd cc
   by_loads read items kept None sound is h =
       by_symbols read items kept (symbols_of (listed_names read) (region_names read) [] items) sound is refl h
@@ -231,28 +231,28 @@ plan_of_document-sound document plan e = by_keys (has_only_keys plan_keys docume
   by_regions : (items more : List Data) (kept : List (List ℕ)) (answer : Result (List Region) PlanRefusal) → regions_of [] items ≡ answer
       → answer >>= (λ read. with_loads (first_wrong_load read) read >>= λ regions.
       symbols_of (listed_names regions) (region_names regions) [] more >>= λ symbols.
-      Ok (record { regions = regions; symbols = symbols; keep = kept })) ≡ Ok plan → IsSoundPlan plan
+      Ok (record { regions = regions; symbols = symbols; keep = kept })) ≡ Ok plan → KeepsItsRules plan
   by_regions items more kept (Err refusal) is h = absurd cc
   by_regions items more kept (Ok read) is h = by_loads read more kept (first_wrong_load read) (regions_of-sound [] items read is none_sound) refl h
 
   by_keep : (items more : List Data) (kept : Option (List (List ℕ))) → or_refuse (Shape None field.Keep) kept >>= (λ k.
       regions_of [] items >>= λ read. with_loads (first_wrong_load read) read >>= λ regions.
       symbols_of (listed_names regions) (region_names regions) [] more >>= λ symbols.
-      Ok (record { regions = regions; symbols = symbols; keep = k })) ≡ Ok plan → IsSoundPlan plan
+      Ok (record { regions = regions; symbols = symbols; keep = k })) ≡ Ok plan → KeepsItsRules plan
   by_keep items more None h = absurd cc
   by_keep items more (Some kept) h = by_regions items more kept (regions_of [] items) refl h
 
   by_symbol_items : (items : List Data) (answer : Result (List Data) PlanRefusal) → answer >>= (λ more. or_refuse (Shape None field.Keep) keep >>= λ k.
       regions_of [] items >>= λ read. with_loads (first_wrong_load read) read >>= λ regions.
       symbols_of (listed_names regions) (region_names regions) [] more >>= λ symbols.
-      Ok (record { regions = regions; symbols = symbols; keep = k })) ≡ Ok plan → IsSoundPlan plan
+      Ok (record { regions = regions; symbols = symbols; keep = k })) ≡ Ok plan → KeepsItsRules plan
   by_symbol_items items (Err refusal) h = absurd cc
   by_symbol_items items (Ok more) h = by_keep items more keep h
 
   by_region_items : (answer : Result (List Data) PlanRefusal) → answer >>= (λ items. symbol_items >>= λ more. or_refuse (Shape None field.Keep) keep >>= λ k.
       regions_of [] items >>= λ read. with_loads (first_wrong_load read) read >>= λ regions.
       symbols_of (listed_names regions) (region_names regions) [] more >>= λ symbols.
-      Ok (record { regions = regions; symbols = symbols; keep = k })) ≡ Ok plan → IsSoundPlan plan
+      Ok (record { regions = regions; symbols = symbols; keep = k })) ≡ Ok plan → KeepsItsRules plan
   by_region_items (Err refusal) h = absurd cc
   by_region_items (Ok items) h = by_symbol_items items symbol_items h
 
@@ -260,7 +260,7 @@ plan_of_document-sound document plan e = by_keys (has_only_keys plan_keys docume
       or_refuse (Shape None field.Keep) keep >>= λ k.
       regions_of [] items >>= λ read. with_loads (first_wrong_load read) read >>= λ regions.
       symbols_of (listed_names regions) (region_names regions) [] more >>= λ symbols.
-      Ok (record { regions = regions; symbols = symbols; keep = k })) ≡ Ok plan → IsSoundPlan plan
+      Ok (record { regions = regions; symbols = symbols; keep = k })) ≡ Ok plan → KeepsItsRules plan
   by_keys true h = by_region_items region_items h
   by_keys false h = absurd cc
 

@@ -4,3 +4,4 @@ pub mod Commons
 pub mod Document
 pub mod PlanText
 pub mod Symbols
+pub mod SoundPlans

@@ -4,3 +4,4 @@ pub mod PlanSymbols
 pub mod Planned
 pub mod PlanLaws
 pub mod Shown
+pub mod ReadPlans

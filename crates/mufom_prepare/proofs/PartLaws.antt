@@ -5,7 +5,7 @@ use Rattle.mufom_module.specs.declared.module.Parts.{Parts}
 use Rattle.mufom_module.specs.Written.{weight}
 use Rattle.mufom_plan.specs.declared.plan.Plan.{Plan}
 use Rattle.mufom_locating.specs.Light.{weight_limit}
-use Rattle.mufom_locating.specs.Plans.{IsReadPlan}
+use Rattle.mufom_planned.specs.ReadPlans.{IsReadPlan}
 use Rattle.mufom_planned.specs.Planned.{IsPlanned}
 use Rattle.mufom_planned.specs.PlanLaws.{HasSoundSymbols}
 use Rattle.mufom_meaning.specs.declared.located.LocatedParts.{LocatedParts}

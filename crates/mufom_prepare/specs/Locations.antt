@@ -7,8 +7,8 @@ use Rattle.mufom_names.specs.Names.{AreDistinct, names_of}
 use Rattle.mufom_plan.specs.declared.plan.Plan.{Plan}
 use Rattle.mufom_planned.specs.Planned.{IsPlanned, planned_answer}
 use Rattle.mufom_locating.specs.Light.{weight_limit}
-use Rattle.mufom_locating.specs.Plans.{IsReadPlan}
-use Rattle.mufom_locating.specs.declared.refusal.PlannedRefusal.{PlannedRefusal}
+use Rattle.mufom_planned.specs.ReadPlans.{IsReadPlan}
+use Rattle.mufom_refusals.specs.declared.planned.PlannedRefusal.{PlannedRefusal}
 use Rattle.mufom_locating.specs.Refusals.{IsMetBy}
 use Rattle.mufom_meaning.specs.Selection.{IsSelected}
 use Rattle.mufom_meaning.specs.Staging.{AreValid}
@@ -34,7 +34,7 @@ use Rattle.mufom_works.specs.Roots.{Roots, roots_by}
 use Rattle.mufom_works.specs.Works.{Kept, kept_of, kept_origins, located, mapped_kept}
 use Rattle.mufom_works.specs.FlatFiles.{AreFlatFiles}
 use Rattle.mufom_outcome.specs.declared.outcome.Outcome.{Outcome}
-use Rattle.mufom_prune.specs.declared.refusal.PruneRefusal.{PruneRefusal}
+use Rattle.mufom_refusals.specs.declared.prune.PruneRefusal.{PruneRefusal}
 use Rattle.mufom_outcome.specs.Outcomes.{outcome_of_link, outcome_of_planned, outcome_of_prune}
 use Rattle.mufom_outcome.specs.Stop.{Stop, link_fact}
 use Rattle.mufom_works.specs.WorkEnds.{EndsAt, own_kept}

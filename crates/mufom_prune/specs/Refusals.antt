@@ -4,8 +4,8 @@ use Rattle.std.specs.List.{find}
 use Rattle.mufom_module.specs.declared.module.Parts.{Parts}
 use Rattle.mufom_plan.specs.Names.{has_name}
 use Rattle.mufom_meaning.specs.Flat.{public_names}
-use Rattle.mufom_prune.specs.declared.refusal.PruneRefusal.{PruneRefusal}
-use Rattle.mufom_prune.specs.declared.refusal.PruneRefusal.TheVariants.{Unknown, NoMemory}
+use Rattle.mufom_refusals.specs.declared.prune.PruneRefusal.{PruneRefusal}
+use Rattle.mufom_refusals.specs.declared.prune.PruneRefusal.TheVariants.{Unknown, NoMemory}
 
 -- the first of the names that no public has
 abbrev pub first_unknown : Parts → List (List ℕ) → Option (List ℕ)

@@ -16,9 +16,8 @@ mod needs;
 mod positions;
 mod pruning;
 mod reach;
-mod refusal;
 mod remaining;
 
 pub use laws::{pruned_is_single, pruned_means_the_rest};
+pub use mufom_refusals::PruneRefusal;
 pub use pruning::{Pruned, prune, prune_for, prune_with_marks};
-pub use refusal::PruneRefusal;

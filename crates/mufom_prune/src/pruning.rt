@@ -14,7 +14,6 @@ ghost use Rattle.mufom_prune.specs.Steps.{entry_count, with_names};
 use crate::needs::{first_unknown, index_publics, needs, roots};
 use crate::positions::{NewPositions, new_positions};
 use crate::reach::reach;
-use crate::refusal::PruneRefusal;
 use crate::remaining::{
     move_start, reference_marks, remaining_loads, remaining_publics, remaining_references,
     remaining_sections,
@@ -23,6 +22,7 @@ use mufom_copies::copy_bytes;
 use mufom_module::{Module, Parts};
 use mufom_names::{NameIndex, NameTable};
 use mufom_numbers::{Bytes, NoMemory};
+use mufom_refusals::PruneRefusal;
 use std::alloc::Global;
 
 /// The result of [`prune_for`].

@@ -11,7 +11,7 @@ use Rattle.std.specs.List.{IsDistinct}
 use Rattle.mufom_plan.specs.Names.{AreDistinctNames}
 use Rattle.mufom_plan.specs.Document.{document_of}
 use Rattle.mufom_plan.specs.PlanText.{◌>>=◌, or_refuse, unless, plan_of_document, plan_of_text}
-use Rattle.mufom_locating.specs.Plans.{IsReadPlan}
+use Rattle.mufom_planned.specs.ReadPlans.{IsReadPlan}
 use Rattle.mufom_meaning.specs.Absolute.{no_regions}
 use Rattle.mufom_groups.specs.Work.{gives, stops}
 use Rattle.mufom_outcome.specs.declared.outcome.Input.TheVariants as input

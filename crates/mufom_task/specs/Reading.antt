@@ -7,7 +7,7 @@ use Rattle.mufom_plan.specs.declared.plan.Plan.{Plan}
 use Rattle.mufom_plan.specs.declared.refusal.PlanRefusal.{PlanRefusal}
 use Rattle.mufom_plan.specs.PlanText.{plan_of_text}
 use Rattle.mufom_meaning.specs.Absolute.{no_regions}
-use Rattle.mufom_locating.specs.Plans.{IsReadPlan}
+use Rattle.mufom_planned.specs.ReadPlans.{IsReadPlan}
 use Rattle.mufom_groups.specs.Work.{gives, stops, Work, ◌>>=◌, sure, one_with, stop_at, nowhere}
 use Rattle.mufom_outcome.specs.Stop.{Stop, words_refused, plan_refused, file_refused, past_limit, too_many_modules, link_fact}
 use Rattle.mufom_outcome.specs.Stop.{keep_unknown, name_shared, locate_fact, bytes_refused}

@@ -4,7 +4,7 @@ ghost use Rattle.std.specs.Prelude.{◌≡◌, ◌<◌, ◌≤◌, ◌^◌, ◌+
 ghost use Rattle.mufom_meaning.specs.Staging.{AreValid};
 ghost use Rattle.mufom_meaning.specs.StagingLaws.{total_weight};
 ghost use Rattle.mufom_host.specs.World.{GrowsBy, OnlyOpens};
-ghost use Rattle.mufom_locating.specs.Plans.{IsReadPlan};
+ghost use Rattle.mufom_planned.specs.ReadPlans.{IsReadPlan};
 ghost use Rattle.mufom_groups.specs.Groups.{most_weight};
 ghost use Rattle.mufom_groups.specs.Work.{gives};
 ghost use Rattle.mufom_words.specs.Sound.{HasTree};

@@ -4,7 +4,7 @@ ghost use Rattle.std.specs.Prelude.{◌≡◌, ◌∷◌, [], IfErr, IfOk, IfSom
 ghost use Rattle.mufom_host.specs.World.{GrowsBy, OnlyOpens};
 ghost use Rattle.mufom_plan.specs.PlanText.{plan_of_text};
 ghost use Rattle.mufom_meaning.specs.Absolute.{no_regions as without_regions};
-ghost use Rattle.mufom_locating.specs.Plans.{IsReadPlan};
+ghost use Rattle.mufom_planned.specs.ReadPlans.{IsReadPlan};
 ghost use Rattle.mufom_groups.specs.Work.{gives};
 ghost use Rattle.mufom_task.specs.Reading.{plan_in};
 ghost use Rattle.mufom_task.specs.InputsRead.{IsPlanAnswer, KeepsPlan, PlanStops};

@@ -8,9 +8,9 @@ use Rattle.mufom_meaning.specs.AddressMap.{Cell}
 use Rattle.mufom_meaning.specs.Facts.{loaded_twice}
 use Rattle.mufom_meaning.specs.Walk.{has_number, first_twice}
 use Rattle.mufom_image_bytes.specs.Chunks.{cell_addresses}
-use Rattle.mufom_titxt.specs.declared.refusal.TxtReason.{TxtReason}
-use Rattle.mufom_titxt.specs.declared.refusal.TxtReason.TheVariants.{Twice}
-use Rattle.mufom_titxt.specs.declared.refusal.TxtRefusal.{TxtRefusal}
+use Rattle.mufom_refusals.specs.declared.text.TxtReason.{TxtReason}
+use Rattle.mufom_refusals.specs.declared.text.TxtReason.TheVariants.{Twice}
+use Rattle.mufom_refusals.specs.declared.text.TxtRefusal.{TxtRefusal}
 use Rattle.mufom_titxt.specs.Lines.{Line, blank_line, address_line, byte_line, end_line, line_of, lines_of}
 use Rattle.mufom_titxt.specs.Texts.{nothing_stated, line_cells, next_after, cells_of_lines, IsInside, AreInside, refusal_at, cells_after, txt_refusal}
 use Rattle.mufom_titxt.specs.Texts.{txt_cells, TxtMap}

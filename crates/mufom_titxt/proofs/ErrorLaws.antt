@@ -11,9 +11,9 @@ use Rattle.mufom_meaning.specs.Facts.{loaded_twice}
 use Rattle.mufom_meaning.specs.Walk.{has_number, first_twice}
 use Rattle.mufom_numbers.proofs.Choices.{equal_numbers, some_same, of_lt, is_lt, of_not_lt, not_lt}
 use Rattle.mufom_image_bytes.proofs.TwiceLaws.{passed, twice-append}
-use Rattle.mufom_titxt.specs.declared.refusal.TxtReason.{TxtReason}
-use Rattle.mufom_titxt.specs.declared.refusal.TxtReason.TheVariants.{BadLine, NoAddress, Beyond, Twice, AfterEnd, NoEnd}
-use Rattle.mufom_titxt.specs.declared.refusal.TxtRefusal.{TxtRefusal}
+use Rattle.mufom_refusals.specs.declared.text.TxtReason.{TxtReason}
+use Rattle.mufom_refusals.specs.declared.text.TxtReason.TheVariants.{BadLine, NoAddress, Beyond, Twice, AfterEnd, NoEnd}
+use Rattle.mufom_refusals.specs.declared.text.TxtRefusal.{TxtRefusal}
 use Rattle.mufom_titxt.specs.Lines.{Line, blank_line, address_line, byte_line, end_line, line_of, lines_of}
 use Rattle.mufom_titxt.specs.Texts.{SoFar, nothing_stated, next_after, cells_of_lines, AreInside, byte_fault, taken_after, refusal_at}
 use Rattle.mufom_titxt.specs.Texts.{refusal_after, txt_refusal}

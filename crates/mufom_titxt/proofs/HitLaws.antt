@@ -3,7 +3,7 @@ use Rattle.std.proofs.Common.{◌≡◌, ℕ, zero, suc, ◌+◌, ◌-◌, ◌^�
 use Rattle.std.proofs.Common.{false, refl, sym, ◌∙◌, ap, arith}
 use Rattle.std.specs.Prelude.{◌==◌, min, nat_lt, if◌then◌else◌}
 use Rattle.mufom_meaning.specs.AddressMap.{Cell}
-use Rattle.mufom_titxt.specs.declared.refusal.TxtReason.{TxtReason}
+use Rattle.mufom_refusals.specs.declared.text.TxtReason.{TxtReason}
 use Rattle.mufom_titxt.specs.Lines.{lines_of, line_of}
 use Rattle.mufom_titxt.specs.Scans.{lines_later}
 use Rattle.mufom_titxt.specs.Texts.{SoFar, so_far}

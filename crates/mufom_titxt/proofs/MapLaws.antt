@@ -8,8 +8,8 @@ use Rattle.mufom_place.specs.Facts.{◌or_else◌}
 use Rattle.mufom_meaning.specs.AddressMap.{Cell, cells_from}
 use Rattle.mufom_meaning.specs.Walk.{first_twice}
 use Rattle.mufom_image_bytes.specs.Chunks.{cell_addresses}
-use Rattle.mufom_titxt.specs.declared.refusal.TxtReason.{TxtReason}
-use Rattle.mufom_titxt.specs.declared.refusal.TxtReason.TheVariants.{Beyond}
+use Rattle.mufom_refusals.specs.declared.text.TxtReason.{TxtReason}
+use Rattle.mufom_refusals.specs.declared.text.TxtReason.TheVariants.{Beyond}
 use Rattle.mufom_titxt.specs.Lines.{Line, blank_line, address_line, byte_line, end_line, line_of, lines_of}
 use Rattle.mufom_titxt.specs.Texts.{nothing_stated, cells_of_lines, AreInside, refusal_at, cells_after, txt_refusal, txt_cells, TxtMap}
 use Rattle.mufom_titxt.specs.Reading.{open_fault, stop_read, cells_read, places_read}

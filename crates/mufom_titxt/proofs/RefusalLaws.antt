@@ -10,9 +10,9 @@ use Rattle.mufom_meaning.specs.Facts.{LocateFact, loaded_twice}
 use Rattle.mufom_meaning.specs.Walk.{has_number, first_twice}
 use Rattle.mufom_numbers.proofs.Choices.{equal_numbers, of_lt}
 use Rattle.mufom_image_bytes.specs.Chunks.{cell_addresses}
-use Rattle.mufom_titxt.specs.declared.refusal.TxtReason.{TxtReason}
-use Rattle.mufom_titxt.specs.declared.refusal.TxtReason.TheVariants.{Beyond, Twice}
-use Rattle.mufom_titxt.specs.declared.refusal.TxtRefusal.{TxtRefusal}
+use Rattle.mufom_refusals.specs.declared.text.TxtReason.{TxtReason}
+use Rattle.mufom_refusals.specs.declared.text.TxtReason.TheVariants.{Beyond, Twice}
+use Rattle.mufom_refusals.specs.declared.text.TxtRefusal.{TxtRefusal}
 use Rattle.mufom_titxt.specs.Lines.{Line, blank_line, address_line, byte_line, end_line}
 use Rattle.mufom_titxt.specs.Texts.{SoFar, so_far, cells_at, line_cells, cells_on, byte_fault, bytes_fault, inner_fault, later_fault, line_fault}
 use Rattle.mufom_titxt.specs.Texts.{taken_after, refusal_at, refusal_after, cells_after}

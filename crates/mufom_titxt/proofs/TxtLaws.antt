@@ -14,8 +14,8 @@ use Rattle.mufom_image_bytes.specs.declared.refusal.LoadRefusal.{LoadRefusal}
 use Rattle.mufom_image_bytes.specs.declared.refusal.LoadRefusal.TheVariants as refusals
 use Rattle.mufom_image_bytes.specs.declared.stop.ImageStop.{ImageStop}
 use Rattle.mufom_image_bytes.specs.declared.stop.ImageStop.TheVariants as stops
-use Rattle.mufom_titxt.specs.declared.refusal.TxtReason.TheVariants.{Twice}
-use Rattle.mufom_titxt.specs.declared.refusal.TxtRefusal.{TxtRefusal}
+use Rattle.mufom_refusals.specs.declared.text.TxtReason.TheVariants.{Twice}
+use Rattle.mufom_refusals.specs.declared.text.TxtRefusal.{TxtRefusal}
 use Rattle.mufom_titxt.specs.declared.refusal.TxtStop.{TxtStop}
 use Rattle.mufom_titxt.specs.declared.refusal.TxtStop.TheVariants as answers
 use Rattle.mufom_titxt.specs.Twice.{NamesTwice}

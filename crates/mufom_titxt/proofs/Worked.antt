@@ -1,7 +1,7 @@
 -- Texts worked out: what is wrong with them, and the bytes that they give.
 use Rattle.std.proofs.Common.{◌≡◌, [], ◌∷◌, Some, None, refl}
 use Rattle.std.specs.Prelude.{codes}
-use Rattle.mufom_titxt.specs.declared.refusal.TxtReason.TheVariants.{BadLine, NoAddress, Beyond, Twice, AfterEnd, NoEnd}
+use Rattle.mufom_refusals.specs.declared.text.TxtReason.TheVariants.{BadLine, NoAddress, Beyond, Twice, AfterEnd, NoEnd}
 use Rattle.mufom_titxt.specs.Texts.{refusal_at, txt_refusal, txt_cells}
 use Rattle.mufom_titxt.specs.Written.{run_text, txt_text}
 

@@ -6,9 +6,9 @@ use Rattle.mufom_place.specs.Facts.{◌or_else◌}
 use Rattle.mufom_meaning.specs.declared.located.Run.{Run}
 use Rattle.mufom_meaning.specs.AddressMap.{Cell, cells_from, AreRunsOf}
 use Rattle.mufom_meaning.specs.Walk.{has_number, first_twice}
-use Rattle.mufom_titxt.specs.declared.refusal.TxtReason.{TxtReason}
-use Rattle.mufom_titxt.specs.declared.refusal.TxtReason.TheVariants.{BadLine, NoAddress, Beyond, Twice, AfterEnd, NoEnd}
-use Rattle.mufom_titxt.specs.declared.refusal.TxtRefusal.{TxtRefusal}
+use Rattle.mufom_refusals.specs.declared.text.TxtReason.{TxtReason}
+use Rattle.mufom_refusals.specs.declared.text.TxtReason.TheVariants.{BadLine, NoAddress, Beyond, Twice, AfterEnd, NoEnd}
+use Rattle.mufom_refusals.specs.declared.text.TxtRefusal.{TxtRefusal}
 use Rattle.mufom_titxt.specs.Lines.{Line, blank_line, address_line, byte_line, end_line, line_of, lines_of}
 
 -- ---- lines in sequence

@@ -7,7 +7,7 @@ ghost use Rattle.mufom_meaning.specs.declared.located.LocatedParts.{LocatedParts
 ghost use Rattle.mufom_meaning.specs.Absolute.{no_regions};
 ghost use Rattle.mufom_meaning.specs.AddressMap.{Cell};
 ghost use Rattle.mufom_meaning.specs.Location.{IsLocation};
-ghost use Rattle.mufom_titxt.specs.declared.refusal.TxtRefusal.{TxtRefusal};
+ghost use Rattle.mufom_refusals.specs.declared.text.TxtRefusal.{TxtRefusal};
 ghost use Rattle.mufom_titxt.specs.FirstErrors.{IsTxtError};
 ghost use Rattle.mufom_titxt.specs.Texts.{TxtMap, IsTxtOf, txt_cells, txt_refusal};
 ghost use Rattle.mufom_titxt.specs.TextModules.{text_parts, HaveModule, HaveText};

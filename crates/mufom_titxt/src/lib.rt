@@ -30,6 +30,7 @@ pub use laws::{
 };
 pub use module::text_module;
 pub use mufom_meaning::Run as TextRun;
-pub use refusal::{TxtReason, TxtRefusal, TxtStop};
+pub use mufom_refusals::{TxtReason, TxtRefusal};
+pub use refusal::TxtStop;
 pub use txt::read_txt;
 pub use write::{write_end, write_run};

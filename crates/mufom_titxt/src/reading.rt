@@ -8,10 +8,10 @@ ghost use Rattle.mufom_titxt.specs.Reading.{stated, word_bytes, bytes_read, byte
 ghost use Rattle.mufom_titxt.specs.Reading.{stop_read, hits_after};
 
 use crate::lines::next_line;
-use crate::refusal::{TxtReason, TxtRefusal};
 use crate::shape::{Shape, shape_of, short_bytes};
 use crate::store::Store;
 use mufom_numbers::NoMemory;
+use mufom_refusals::{TxtReason, TxtRefusal};
 use std::alloc::Global;
 
 /// What the lines of a text have stated so far, with their bytes.

@@ -9,8 +9,8 @@ ghost use Rattle.mufom_image_bytes.specs.Chunks.{cell_addresses};
 ghost use Rattle.mufom_image_bytes.specs.Images.{AreLow};
 ghost use Rattle.mufom_image_bytes.specs.Stops.{fact_of};
 ghost use Rattle.mufom_image_bytes.specs.Loaded.{loaded_cells, IsTiled};
-ghost use Rattle.mufom_titxt.specs.declared.refusal.TxtRefusal.{TxtRefusal};
-ghost use Rattle.mufom_titxt.specs.declared.refusal.TxtReason.TheVariants as TxtReason;
+ghost use Rattle.mufom_refusals.specs.declared.text.TxtRefusal.{TxtRefusal};
+ghost use Rattle.mufom_refusals.specs.declared.text.TxtReason.TheVariants as TxtReason;
 ghost use Rattle.mufom_titxt.specs.declared.refusal.TxtStop.TheVariants as TxtStop;
 ghost use Rattle.mufom_titxt.specs.Lines.{line_of, lines_of};
 ghost use Rattle.mufom_titxt.specs.TextModules.{HaveModule};
@@ -20,11 +20,12 @@ ghost use Rattle.mufom_titxt.specs.Twice.{IsTwice, NamesTwice};
 
 use crate::lines::next_line;
 use crate::reading::Reading;
-use crate::refusal::{TxtReason, TxtRefusal, TxtStop};
+use crate::refusal::TxtStop;
 use crate::store::Store;
 use mufom_image_bytes::{ImageStop, LoadRefusal, Loaded, runs_of_loaded};
 use mufom_meaning::Run;
 use mufom_numbers::{List, NoMemory};
+use mufom_refusals::{TxtReason, TxtRefusal};
 use std::alloc::Global;
 
 // Why bytes could not be joined into runs.

@@ -17,13 +17,13 @@ use Rattle.mufom_planned.proofs.Plain.{plain_plans_mean_the_same}
 use Rattle.mufom_meaning.specs.LocateAnswer.{locate_answer}
 use Rattle.mufom_meaning.specs.Location.{IsLocation}
 use Rattle.mufom_locating.specs.Refusals.{IsMetBy, list_fact}
-use Rattle.mufom_locating.specs.declared.refusal.PlannedRefusal.{PlannedRefusal}
-use Rattle.mufom_locating.specs.declared.refusal.PlannedRefusal.TheVariants as planned
-use Rattle.mufom_image.specs.declared.refusal.LocateRefusal.{LocateRefusal}
-use Rattle.mufom_image.specs.declared.refusal.LocateRefusal.TheVariants as locate
+use Rattle.mufom_refusals.specs.declared.planned.PlannedRefusal.{PlannedRefusal}
+use Rattle.mufom_refusals.specs.declared.planned.PlannedRefusal.TheVariants as planned
+use Rattle.mufom_refusals.specs.declared.locate.LocateRefusal.{LocateRefusal}
+use Rattle.mufom_refusals.specs.declared.locate.LocateRefusal.TheVariants as locate
 use Rattle.mufom_image.specs.Refusals.{IsMet}
-use Rattle.mufom_link.specs.declared.refusal.LinkRefusal.{LinkRefusal}
-use Rattle.mufom_link.specs.declared.refusal.LinkRefusal.TheVariants as link
+use Rattle.mufom_refusals.specs.declared.link.LinkRefusal.{LinkRefusal}
+use Rattle.mufom_refusals.specs.declared.link.LinkRefusal.TheVariants as link
 use Rattle.mufom_groups.specs.Groups.{StopsWork}
 use Rattle.mufom_groups.specs.Work.{Work, gives, stops, with_stops}
 use Rattle.mufom_outcome.specs.declared.outcome.Outcome.{Outcome}

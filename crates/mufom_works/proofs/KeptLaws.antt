@@ -15,8 +15,8 @@ use Rattle.mufom_meaning.specs.Staging.{AreValid}
 use Rattle.mufom_meaning.proofs.facts.Linkable.{no_link_answer_is_linkable}
 use Rattle.mufom_meaning.proofs.staging.Staging.{joined_stands_for}
 use Rattle.mufom_image.proofs.ReadyLaws.{linkable-alone}
-use Rattle.mufom_prune.specs.declared.refusal.PruneRefusal.{PruneRefusal}
-use Rattle.mufom_prune.specs.declared.refusal.PruneRefusal.TheVariants as prune
+use Rattle.mufom_refusals.specs.declared.prune.PruneRefusal.{PruneRefusal}
+use Rattle.mufom_refusals.specs.declared.prune.PruneRefusal.TheVariants as prune
 use Rattle.mufom_prune.specs.Pruned.{IsPrunedFor, Remains, new_public, positions_of, remaining, remains, without_others}
 use Rattle.mufom_prune.specs.Refusals.{IsRefusalFor}
 use Rattle.mufom_prune.proofs.PrunedValid.{pruned_valid}

@@ -36,13 +36,13 @@ use Rattle.mufom_groups.proofs.Works.{sure-single, stop_at-single, one_with-sing
 use Rattle.mufom_words.specs.Explain.{explained}
 use Rattle.mufom_outcome.specs.Stop.{Stop, words_refused, plan_refused, file_refused, past_limit, link_fact, keep_unknown, name_shared, locate_fact, bytes_refused}
 use Rattle.mufom_outcome.specs.Stop.{text_refused, listing_refused, too_many_modules}
-use Rattle.mufom_build.specs.declared.refusal.BuildRefusal.TheVariants as build
+use Rattle.mufom_refusals.specs.declared.build.BuildRefusal.TheVariants as build
 use Rattle.mufom_build.proofs.Excluded.{built_not_refused, defect_not_built, defect_not_refused, one_defect}
 use Rattle.mufom_build.proofs.OneModule.{one_listing}
 use Rattle.mufom_build.proofs.Shapes.{loose_lines}
 use Rattle.mufom_build.specs.Lines.{Build, listing_lines}
 use Rattle.mufom_build.specs.Refusals.{HasDefect, IsRefusedAt}
-use Rattle.mufom_build_text.specs.declared.refusal.BuildReason.{BuildReason}
+use Rattle.mufom_refusals.specs.declared.build.BuildReason.{BuildReason}
 use Rattle.mufom_module.specs.declared.module.Defect.{Defect}
 use Rattle.mufom_build.proofs.OneRefusal.{one_refusal}
 use Rattle.mufom_task.specs.Inputs.{HaveOneVerdict, Verdict, accepted, refused, past_limit as past, ComeTo, module_files, root_count}
@@ -52,7 +52,7 @@ use Rattle.mufom_addr.specs.AddressHit.{hit_at}
 use Rattle.mufom_write.specs.Raw.{raw_image}
 use Rattle.mufom_meaning.specs.AddressMap.{AreRunsOf}
 use Rattle.mufom_meaning.proofs.locations.CellRuns.{rows_are_single}
-use Rattle.mufom_titxt.specs.declared.refusal.TxtRefusal.{TxtRefusal}
+use Rattle.mufom_refusals.specs.declared.text.TxtRefusal.{TxtRefusal}
 use Rattle.mufom_titxt.specs.TextModules.{text_parts}
 use Rattle.mufom_titxt.specs.Texts.{txt_cells, txt_refusal}
 use Rattle.mufom_titxt.specs.Written.{txt_text}

@@ -4,7 +4,7 @@ use Rattle.mufom_host.specs.World.{NamedFile}
 use Rattle.mufom_meaning.specs.declared.located.Run.{Run}
 use Rattle.mufom_module.specs.declared.module.Parts.{Parts}
 use Rattle.mufom_module.specs.Written.{written}
-use Rattle.mufom_titxt.specs.declared.refusal.TxtRefusal.{TxtRefusal}
+use Rattle.mufom_refusals.specs.declared.text.TxtRefusal.{TxtRefusal}
 use Rattle.mufom_titxt.specs.Texts.{IsTxtOf, txt_refusal}
 use Rattle.mufom_groups.specs.Work.{Work, gives, stops}
 use Rattle.mufom_outcome.specs.declared.outcome.Outcome.{Outcome}

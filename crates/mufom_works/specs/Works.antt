@@ -53,8 +53,8 @@ use Rattle.mufom_origins.specs.Origins.{origins_left, origins_of}
 use Rattle.mufom_map.specs.Mapped.{Mapped, mapped_by, planned_layout}
 use Rattle.mufom_map.specs.MapText.{view_text}
 use Rattle.mufom_meaning.specs.declared.located.Run.{Run}
-use Rattle.mufom_titxt.specs.declared.refusal.TxtRefusal.{TxtRefusal}
-use Rattle.mufom_build.specs.declared.refusal.BuildRefusal.TheVariants as build
+use Rattle.mufom_refusals.specs.declared.text.TxtRefusal.{TxtRefusal}
+use Rattle.mufom_refusals.specs.declared.build.BuildRefusal.TheVariants as build
 use Rattle.mufom_build.specs.Lines.{Build}
 use Rattle.mufom_build.specs.Refusals.{IsRefusedAt, HasDefect}
 use Rattle.mufom_titxt.specs.TextModules.{text_parts}

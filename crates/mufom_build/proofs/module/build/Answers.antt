@@ -1,6 +1,6 @@
 use Rattle.std.proofs.Common.{◌≡◌, List, [], Some, Err, sym, ap, subst, ◌∙◌}
 use Rattle.std.specs.Prelude.{is_some}
-use Rattle.mufom_build.specs.declared.refusal.BuildRefusal.TheVariants as refusals
+use Rattle.mufom_refusals.specs.declared.build.BuildRefusal.TheVariants as refusals
 use Rattle.mufom_build.specs.Begun.{Begun}
 use Rattle.mufom_build.specs.Drafts.{draft_rows, state_of}
 use Rattle.mufom_build.specs.Rows.{Row}

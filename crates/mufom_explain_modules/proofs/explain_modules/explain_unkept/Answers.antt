@@ -5,7 +5,7 @@ use Rattle.mufom_works.specs.Works.{kept_of}
 use Rattle.mufom_explain.specs.Flat.{flat_of}
 use Rattle.mufom_origins.specs.Origins.{modules_of}
 use Rattle.mufom_outcome.specs.Outcomes.{outcome_of_prune}
-use Rattle.mufom_prune.specs.declared.refusal.PruneRefusal.{PruneRefusal}
+use Rattle.mufom_refusals.specs.declared.prune.PruneRefusal.{PruneRefusal}
 use Rattle.mufom_explain_modules.proofs.explain_modules.explain_unkept.Goals as goal
 
 pub returns-in-Unknown : goal.returns-in-Unknown

@@ -1,5 +1,5 @@
 use Rattle.std.proofs.Common.{sym, subst}
-use Rattle.mufom_image.specs.Placements.{IsSoundPlan}
+use Rattle.mufom_plan.specs.SoundPlans.{IsSoundPlan}
 use Rattle.mufom_make.proofs.LinkLaws.{link-distinct}
 use Rattle.mufom_make.proofs.PlanLaws.{location-of-all, refusal-of-all, sound-plan}
 use Rattle.mufom_make.proofs.making.locate_generated.Goals as goal

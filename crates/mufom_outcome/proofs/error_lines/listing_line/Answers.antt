@@ -1,6 +1,6 @@
 use Rattle.std.proofs.Common.{◌≡◌, ◌++◌, ◌∷◌, [], codes, ap, sym, ◌∙◌, append_assoc}
 use Rattle.std.specs.Fmt.{decimal}
-use Rattle.mufom_build.specs.declared.refusal.BuildRefusal.{BuildRefusal}
+use Rattle.mufom_refusals.specs.declared.build.BuildRefusal.{BuildRefusal}
 use Rattle.mufom_text.specs.Words.{Text, line}
 use Rattle.mufom_outcome.specs.Complaint.{build_reason_text, build_text}
 use Rattle.mufom_outcome.proofs.error_lines.listing_line.Goals as goal

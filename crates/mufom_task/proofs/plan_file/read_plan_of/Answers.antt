@@ -1,5 +1,5 @@
 use Rattle.std.proofs.Common.{sym, subst}
-use Rattle.mufom_locating.specs.Plans.{IsReadPlan}
+use Rattle.mufom_planned.specs.ReadPlans.{IsReadPlan}
 use Rattle.mufom_task.proofs.PlanLaws.{no-regions-sound}
 use Rattle.mufom_task.proofs.plan_file.read_plan_of.Goals as goal
 

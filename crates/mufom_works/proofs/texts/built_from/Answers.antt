@@ -1,5 +1,5 @@
 use Rattle.std.proofs.Common.{Err, ap, inr, refl}
-use Rattle.mufom_build.specs.declared.refusal.BuildRefusal.TheVariants as build
+use Rattle.mufom_refusals.specs.declared.build.BuildRefusal.TheVariants as build
 use Rattle.mufom_outcome.specs.Stop.{listing_refused}
 use Rattle.mufom_works.proofs.texts.built_from.Goals as goal
 

@@ -1,5 +1,5 @@
 use Rattle.std.proofs.Common.{◌≡◌, ◌<◌, ℕ, Option, refl, sym, ap, subst, ◌∙◌}
-use Rattle.mufom_build_text.specs.declared.refusal.BuildReason.TheVariants.{TooGreat}
+use Rattle.mufom_refusals.specs.declared.build.BuildReason.TheVariants.{TooGreat}
 use Rattle.mufom_build_text.specs.Errors.{error_at, first_error, limited}
 use Rattle.mufom_build_text.proofs.Noted.{limited_small, limited_great}
 use Rattle.mufom_build_text.proofs.Loosely.{figure_read}

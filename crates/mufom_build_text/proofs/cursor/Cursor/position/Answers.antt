@@ -1,5 +1,5 @@
 use Rattle.std.proofs.Common.{ℕ, ◌<◌, ap, subst, ◌∙◌}
-use Rattle.mufom_build_text.specs.declared.refusal.BuildReason.TheVariants.{Position}
+use Rattle.mufom_refusals.specs.declared.build.BuildReason.TheVariants.{Position}
 use Rattle.mufom_build_text.specs.Pieces.{MOST_POSITION}
 use Rattle.mufom_build_text.specs.Errors.{judged}
 use Rattle.mufom_build_text.proofs.Loosely.{position_read}

@@ -53,7 +53,7 @@ pub enum LocateRefusal {
 
 impl From<NoMemory> for LocateRefusal {
     ghost use Rattle.std.specs.Prelude.{◌≡◌};
-    ghost use Rattle.mufom_image.specs.declared.refusal.LocateRefusal.TheVariants.{NoMemory};
+    ghost use Rattle.mufom_refusals.specs.declared.locate.LocateRefusal.TheVariants.{NoMemory};
 
     ghost from_gives = { λ _ refusal. refusal ≡ NoMemory };
 

@@ -1,4 +1,4 @@
-//! The error of `link` and `link_owned`.
+//! Why a list of modules cannot be linked.
 
 use mufom_meaning::Descriptor;
 use mufom_numbers::{Bytes, NoMemory};
@@ -23,7 +23,7 @@ pub enum LinkRefusal {
 
 impl From<NoMemory> for LinkRefusal {
     ghost use Rattle.std.specs.Prelude.{◌≡◌};
-    ghost use Rattle.mufom_link.specs.declared.refusal.LinkRefusal.TheVariants.{NoMemory};
+    ghost use Rattle.mufom_refusals.specs.declared.link.LinkRefusal.TheVariants.{NoMemory};
 
     ghost from_gives = { λ _ refusal. refusal ≡ NoMemory };
 

@@ -1,7 +1,7 @@
 -- What is known about plans.
 use Rattle.mufom_plan.specs.declared.plan.Plan.{Plan}
 use Rattle.mufom_plan.specs.Loads.{AreLoads}
-use Rattle.mufom_image.specs.Placements.{IsSoundPlan}
+use Rattle.mufom_plan.specs.SoundPlans.{IsSoundPlan}
 use Rattle.mufom_planned.specs.PlanLaws.{HasSoundSymbols}
 
 -- What every plan meets once it is read: it can place sections, its symbols have different names, and each region is loaded where it is,

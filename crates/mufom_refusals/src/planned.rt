@@ -1,6 +1,6 @@
 //! Why a module is not located by a plan.
 
-use mufom_image::LocateRefusal;
+use crate::locate::LocateRefusal;
 use mufom_numbers::{Bytes, NoMemory};
 use thiserror::Error;
 
@@ -17,7 +17,7 @@ pub enum PlannedRefusal {
 
 impl From<LocateRefusal> for PlannedRefusal {
     ghost use Rattle.std.specs.Prelude.{◌≡◌};
-    ghost use Rattle.mufom_locating.specs.declared.refusal.PlannedRefusal.TheVariants.{Locate};
+    ghost use Rattle.mufom_refusals.specs.declared.planned.PlannedRefusal.TheVariants.{Locate};
 
     ghost from_gives = { λ refusal result. result ≡ Locate refusal };
 
@@ -28,8 +28,8 @@ impl From<LocateRefusal> for PlannedRefusal {
 
 impl From<NoMemory> for PlannedRefusal {
     ghost use Rattle.std.specs.Prelude.{◌≡◌};
-    ghost use Rattle.mufom_image.specs.declared.refusal.LocateRefusal.TheVariants.{NoMemory as no_memory};
-    ghost use Rattle.mufom_locating.specs.declared.refusal.PlannedRefusal.TheVariants.{Locate};
+    ghost use Rattle.mufom_refusals.specs.declared.locate.LocateRefusal.TheVariants.{NoMemory as no_memory};
+    ghost use Rattle.mufom_refusals.specs.declared.planned.PlannedRefusal.TheVariants.{Locate};
 
     ghost from_gives = { λ _ refusal. refusal ≡ Locate no_memory };
 

@@ -16,7 +16,7 @@ pub enum PruneRefusal {
 
 impl From<NoMemory> for PruneRefusal {
     ghost use Rattle.std.specs.Prelude.{◌≡◌};
-    ghost use Rattle.mufom_prune.specs.declared.refusal.PruneRefusal.TheVariants.{NoMemory};
+    ghost use Rattle.mufom_refusals.specs.declared.prune.PruneRefusal.TheVariants.{NoMemory};
 
     ghost from_gives = { λ _ refusal. refusal ≡ NoMemory };
 
