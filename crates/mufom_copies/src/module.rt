@@ -92,9 +92,9 @@ fn copy_parts(alloc: Global, parts: &Parts) -> Result<Parts, NoMemory>
 }
 
 /// A copy of a module.
-pub fn copy_module(alloc: Global, entry: &Module) -> Result<Module, NoMemory>
-    ensures { IfOk result (λ copy. copy ≡ entry.now) }
+pub fn copy_module(alloc: Global, module: &Module) -> Result<Module, NoMemory>
+    ensures { IfOk result (λ copy. copy ≡ «module».now) }
 {
-    let parts = copy_parts(alloc, entry.parts())?;
+    let parts = copy_parts(alloc, module.parts())?;
     Ok(Module::sound(parts))
 }

@@ -28,31 +28,31 @@ use std::alloc::Global;
 use std::vec::IntoIter;
 
 // The name of a module.
-fn name_of(entry: &Module) -> &[u8]
-    ensures name { result.now ≡ entry.now.name }
-    ensures valid { IsValid entry.now }
+fn name_of(module: &Module) -> &[u8]
+    ensures name { result.now ≡ «module».now.name }
+    ensures valid { IsValid «module».now }
 {
-    entry.parts().name.as_slice()
+    module.parts().name.as_slice()
 }
 
 // Adds a module to those that have been linked so far.
-fn add(linked: &mut Vec<Module>, entry: Module) -> Result<(), LinkRefusal>
-    ensures ok { OnOk result (linked.new.items ≡ linked.old.items ++ entry ∷ []) }
+fn add(linked: &mut Vec<Module>, module: Module) -> Result<(), LinkRefusal>
+    ensures ok { OnOk result (linked.new.items ≡ linked.old.items ++ «module» ∷ []) }
     ensures err { IfErr result (λ e. e ≡ LinkRefusal.NoMemory) }
 {
-    match linked.push(entry) {
+    match linked.push(module) {
         Ok(()) => Ok(()),
         Err(_) => Err(LinkRefusal::NoMemory),
     }
 }
 
 // Adds a module, if there is one.
-fn add_optional(linked: &mut Vec<Module>, entry: Option<Module>) -> Result<(), LinkRefusal>
-    ensures ok { OnOk result (linked.new.items ≡ linked.old.items ++ member_at entry) }
+fn add_optional(linked: &mut Vec<Module>, module: Option<Module>) -> Result<(), LinkRefusal>
+    ensures ok { OnOk result (linked.new.items ≡ linked.old.items ++ member_at «module») }
     ensures err { IfErr result (λ e. e ≡ LinkRefusal.NoMemory) }
 {
-    match entry {
-        Some(entry) => add(linked, entry),
+    match module {
+        Some(module) => add(linked, module),
         None => Ok(()),
     }
 }
@@ -70,7 +70,7 @@ fn next_module(rest: &mut IntoIter<Module>) -> Module
     ensures { into_iter_items rest.old ≡ result ∷ into_iter_items rest.new }
 {
     match rest.next() {
-        Some(entry) => entry,
+        Some(module) => module,
         None => unreachable!(),
     }
 }

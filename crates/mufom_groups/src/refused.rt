@@ -94,7 +94,7 @@ fn link_of(alloc: Global, list: &[Module]) -> Result<Option<Module>, NoMemory>
 {
     let name = list[0].parts().name.as_slice();
     match link(alloc, list, name) {
-        Ok(object) => Ok(Some(object)),
+        Ok(module) => Ok(Some(module)),
         Err(LinkRefusal::NoMemory) => Err(NoMemory),
         Err(_) => Ok(None),
     }
@@ -192,7 +192,7 @@ fn selected_for(
     ensures refused { IfOk result (λ found. IsNone found → IsSome (link_answer tree.now)) }
 {
     match link_of(alloc, tree)? {
-        Some(object) => Ok(Some(select(alloc, &object, members)?)),
+        Some(module) => Ok(Some(select(alloc, &module, members)?)),
         None => Ok(None),
     }
 }

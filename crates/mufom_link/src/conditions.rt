@@ -18,8 +18,8 @@ fn is_light(list: &[Module], name: &[u8]) -> bool
     ensures { IsTrue result ↔ (total_weight list.now + length name.now < 2 ^ 32) }
 {
     let mut total = name.len() as u64;
-    for entry in list {
-        total += entry.weight();
+    for module in list {
+        total += module.weight();
         if total >= WEIGHT_LIMIT {
             return false;
         }

@@ -19,11 +19,11 @@ use std::alloc::Global;
 pub(crate) const FEW_NAMES: usize = 16;
 
 // The descriptor of a module.
-fn descriptor_of(entry: &Module) -> Descriptor
-    ensures maus { result.maus ≡ entry.now.maus }
-    ensures order { result.order ≡ entry.now.order }
+fn descriptor_of(module: &Module) -> Descriptor
+    ensures maus { result.maus ≡ «module».now.maus }
+    ensures order { result.order ≡ «module».now.order }
 {
-    let parts = entry.parts();
+    let parts = module.parts();
     Descriptor {
         maus: parts.maus,
         order: parts.order,
@@ -53,11 +53,11 @@ pub(crate) fn first_mismatch(list: &[Module]) -> Option<(Descriptor, Descriptor)
 }
 
 // 1 if the module has a start, and 0 if it has none.
-fn own_starts(entry: &Module) -> usize
-    ensures value { result ≡ length (option_to_list entry.now.start) }
+fn own_starts(module: &Module) -> usize
+    ensures value { result ≡ length (option_to_list «module».now.start) }
     ensures few { result ≤ 1 }
 {
-    match entry.parts().start {
+    match module.parts().start {
         Some(_) => 1,
         None => 0,
     }
@@ -68,8 +68,8 @@ pub(crate) fn start_count(list: &[Module]) -> usize
     ensures { result ≡ length (flat_starts list.now) }
 {
     let mut count = 0;
-    for entry in list {
-        count += own_starts(entry);
+    for module in list {
+        count += own_starts(module);
     }
     count
 }

@@ -45,8 +45,8 @@ fn count_entries(list: &[Module]) -> Counts {
         loads: 0,
         debug: 0,
     };
-    for entry in list {
-        let parts = entry.parts();
+    for module in list {
+        let parts = module.parts();
         all.sections = all.sections.saturating_add(parts.sections.len());
         all.publics = all.publics.saturating_add(parts.names.publics.len());
         all.loads = all.loads.saturating_add(parts.loads.len());
@@ -83,13 +83,13 @@ impl Joined {
     pub(crate) fn append(
         &mut self,
         alloc: Global,
-        entry: Module,
+        module: Module,
         targets: &[(Letter, u32)],
     ) -> Result<(), NoMemory>
         requires sections { length self.old.sections.items < 2 ^ 32 }
         requires publics { length self.old.publics.items < 2 ^ 32 }
-        requires names { names_after_all self.old.debug_names (marks_of entry.debug) < 2 ^ 32 }
-        ensures { OnOk result (IsAppended targets.now entry self.old self.new) }
+        requires names { names_after_all self.old.debug_names (marks_of «module».debug) < 2 ^ 32 }
+        ensures { OnOk result (IsAppended targets.now «module» self.old self.new) }
     {
         let Parts {
             sections,
@@ -98,7 +98,7 @@ impl Joined {
             loads,
             start,
             ..
-        } = entry.into_parts();
+        } = module.into_parts();
         let site = Renumbering {
             first_section: self.sections.len() as u32,
             first_public: self.publics.len() as u32,

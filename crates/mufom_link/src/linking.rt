@@ -50,9 +50,9 @@ fn join_lists(
 {
     let mut joined = Joined::with_room(alloc, &list)?;
     let mut rest = targets;
-    for entry in list {
-        let (own, after) = rest.split_at(entry.parts().names.references.len());
-        joined.append(alloc, entry, own)?;
+    for module in list {
+        let (own, after) = rest.split_at(module.parts().names.references.len());
+        joined.append(alloc, module, own)?;
         rest = after;
     }
     Ok(joined)
@@ -142,8 +142,8 @@ fn copy_modules(alloc: Global, list: &[Module]) -> Result<Vec<Module>, NoMemory>
     ensures { IfOk result (λ copies. copies.items ≡ list.now) }
 {
     let mut copies = Vec::with_capacity(alloc, list.len())?;
-    for entry in list {
-        copies.push(copy_module(alloc, entry)?)?;
+    for module in list {
+        copies.push(copy_module(alloc, module)?)?;
     }
     Ok(copies)
 }

@@ -18,8 +18,8 @@ use std::alloc::Global;
 /// How many references the modules have, or `usize::MAX` if there are more.
 pub(crate) fn reference_count(list: &[Module]) -> usize {
     let mut count: usize = 0;
-    for entry in list {
-        count = count.saturating_add(entry.parts().names.references.len());
+    for module in list {
+        count = count.saturating_add(module.parts().names.references.len());
     }
     count
 }
@@ -30,8 +30,8 @@ fn seed_of(list: &[Module]) -> HashSeed {
     if reference_count(list) <= FEW_NAMES {
         return seed;
     }
-    for entry in list {
-        seed.add_references(entry.parts().names.references.as_slice());
+    for module in list {
+        seed.add_references(module.parts().names.references.as_slice());
     }
     seed
 }

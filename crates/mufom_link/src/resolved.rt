@@ -38,8 +38,8 @@ fn resolved_by(
 {
     let mut references = References::new(alloc);
     let mut targets = List::with_capacity(alloc, reference_count(list))?;
-    for entry in list {
-        let own = entry.parts().names.references.as_slice();
+    for module in list {
+        let own = module.parts().names.references.as_slice();
         references.resolve(alloc, list, publics, own, &mut targets)?;
     }
     Ok(Resolved {

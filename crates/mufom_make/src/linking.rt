@@ -18,11 +18,11 @@ use mufom_numbers::{Bytes, NoMemory};
 use std::alloc::Global;
 
 // The name of a module.
-fn name_of(entry: &Module) -> &[u8]
-    ensures name { result.now ≡ entry.now.name }
-    ensures valid { IsValid entry.now }
+fn name_of(module: &Module) -> &[u8]
+    ensures name { result.now ≡ «module».now.name }
+    ensures valid { IsValid «module».now }
 {
-    entry.parts().name.as_slice()
+    module.parts().name.as_slice()
 }
 
 // The modules with the numbers from `first` up to, but not including, `end`, out of `count`.

@@ -132,10 +132,10 @@ fn place_of(ends: &[usize], number: u32) -> Option<Place>
 // ---- modules
 
 // The origin of the module that was read at this place.
-fn origin_of(alloc: Global, place: u32, entry: &Module) -> Result<Origin, NoMemory>
-    ensures { IfOk result (λ origin. origin ≡ origin_of (place, entry.now)) }
+fn origin_of(alloc: Global, place: u32, module: &Module) -> Result<Origin, NoMemory>
+    ensures { IfOk result (λ origin. origin ≡ origin_of (place, «module».now)) }
 {
-    let parts = entry.parts();
+    let parts = module.parts();
     let name = Bytes::from_slice(alloc, parts.name.as_slice())?;
     Ok(Origin {
         place,

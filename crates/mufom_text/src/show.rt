@@ -61,18 +61,18 @@ pub fn print_text<H: Host>(
     alloc: Global,
     host: &mut H,
     form: TextForm,
-    object: &Module,
+    module: &Module,
 ) -> Result<(), PrintStop>
-    ensures done { OnOk result (GrowsBy (H.meaning host.old).out (H.meaning host.new).out (text_of form object.now)) }
+    ensures done { OnOk result (GrowsBy (H.meaning host.old).out (H.meaning host.new).out (text_of form «module».now)) }
     ensures fault { result ≡ Err PrintStop.Fault
-        → GrowsByPrefix (H.meaning host.old).out (H.meaning host.new).out (text_of form object.now)
+        → GrowsByPrefix (H.meaning host.old).out (H.meaning host.new).out (text_of form «module».now)
         × Rose (H.faults host.old).writes (H.faults host.new).writes }
     ensures unmade { result ≡ Err PrintStop.NoMemory → (H.meaning host.new).out ≡ (H.meaning host.old).out }
     ensures only { OnlyPrints (H.meaning host.old) (H.meaning host.new) (H.faults host.old) (H.faults host.new) }
 {
     let lines = ModuleText {
         form,
-        parts: object.parts(),
+        parts: module.parts(),
     };
     print_lines(alloc, host, &lines)
 }
@@ -81,23 +81,23 @@ pub fn print_text<H: Host>(
 ///
 /// `NoMemory` is returned before anything is printed. `Fault` is returned only if a print failed
 /// and the host's count of failed writes rose; a prefix of the text may then be printed.
-pub fn print_module<H: Host>(alloc: Global, host: &mut H, object: &Module) -> Result<(), PrintStop>
-    ensures done { OnOk result (GrowsBy (H.meaning host.old).out (H.meaning host.new).out (module_text object.now)) }
+pub fn print_module<H: Host>(alloc: Global, host: &mut H, module: &Module) -> Result<(), PrintStop>
+    ensures done { OnOk result (GrowsBy (H.meaning host.old).out (H.meaning host.new).out (module_text «module».now)) }
     ensures fault { result ≡ Err PrintStop.Fault
-        → GrowsByPrefix (H.meaning host.old).out (H.meaning host.new).out (module_text object.now)
+        → GrowsByPrefix (H.meaning host.old).out (H.meaning host.new).out (module_text «module».now)
         × Rose (H.faults host.old).writes (H.faults host.new).writes }
     ensures unmade { result ≡ Err PrintStop.NoMemory → (H.meaning host.new).out ≡ (H.meaning host.old).out }
     ensures only { OnlyPrints (H.meaning host.old) (H.meaning host.new) (H.faults host.old) (H.faults host.new) }
 {
-    print_text(alloc, host, TextForm::Summary, object)
+    print_text(alloc, host, TextForm::Summary, module)
 }
 
 /// Returns a text of the module as bytes in memory. Time and memory are in proportion to the length of the
 /// text.
-pub fn text_bytes(alloc: Global, form: TextForm, object: &Module) -> Result<Bytes, NoMemory>
-    ensures { IfOk result (λ text. text ≡ text_of form object.now) }
+pub fn text_bytes(alloc: Global, form: TextForm, module: &Module) -> Result<Bytes, NoMemory>
+    ensures { IfOk result (λ text. text ≡ text_of form «module».now) }
 {
     let mut out = Gathered::new(alloc);
-    module_text(&mut out, form, object.parts());
+    module_text(&mut out, form, module.parts());
     out.into_bytes()
 }

@@ -12,8 +12,8 @@ pub returns-in_ok-select-in-Some-clause-selected : goal.returns-in_ok-select-in-
 returns-in_ok-select-in-Some-clause-selected c =
     let tree = c.args.tree.now in
     let (joined, fine) = subst (λ (o : Option Parts). IfSome o (λ M. IsJoined M tree (first_name tree) × (link_answer tree ≡ None))) c.in-Some.is
-    c.in_ok-object.ensures.linked in (
-      selected-there c.in-Some.object tree c.args.members.now _ (a_link c.in-Some.object tree (first_name tree) joined fine)
+    c.in_ok-module.ensures.linked in (
+      selected-there c.in-Some.module tree c.args.members.now _ (a_link c.in-Some.module tree (first_name tree) joined fine)
           c.in_ok-select-in-Some.ensures,
       fine,
     )

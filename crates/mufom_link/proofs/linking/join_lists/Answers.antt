@@ -19,10 +19,10 @@ later-targets f (x ∷ xs) ys = later-targets f xs ys
 pub append-requires : goal.append-requires
 append-requires c =
     let ms = c.args.list.items in
-    let m = c.in-Some.entry in
+    let m = c.in-Some.module in
     let rest = into_iter_items c.next.new.self in
-    let all = c.loop-entry.joined in
-    let underway = subst (λ xs. IsUnderway ms xs all) c.in-Some.ensures.steps.0 c.loop-entry.invariant.underway in
+    let all = c.loop-module.joined in
+    let underway = subst (λ xs. IsUnderway ms xs all) c.in-Some.ensures.steps.0 c.loop-module.invariant.underway in
     let sections = sections-fit ms c.requires.light m rest all underway in
     let publics = publics-fit ms c.requires.light m rest all underway in
     record {
@@ -31,17 +31,17 @@ append-requires c =
       names = declared-fit ms c.requires.light m rest all underway;
     }
 
-pub loop-entry-preserved : goal.loop-entry-preserved
-loop-entry-preserved c =
+pub loop-module-preserved : goal.loop-module-preserved
+loop-module-preserved c =
     let ms = c.args.list.items in
-    let m = c.in-Some.entry in
+    let m = c.in-Some.module in
     let rest = into_iter_items c.next.new.self in
-    let all = c.loop-entry.joined in
+    let all = c.loop-module.joined in
     let steps = c.in-Some.ensures.steps in
-    let underway = subst (λ xs. IsUnderway ms xs all) steps.0 c.loop-entry.invariant.underway in
+    let underway = subst (λ xs. IsUnderway ms xs all) steps.0 c.loop-module.invariant.underway in
     let target = target_in (public_names ms) (kept_references ms) in
-    let left : c.loop-entry.rest.now ≡ map target (m.names.references ++ flat_references rest) =
-    c.loop-entry.invariant.variables ∙ ap (λ xs. map target (flat_references xs)) steps.0 in
+    let left : c.loop-module.rest.now ≡ map target (m.names.references ++ flat_references rest) =
+    c.loop-module.invariant.variables ∙ ap (λ xs. map target (flat_references xs)) steps.0 in
     let many : c.len.result ≡ length m.names.references = c.len.ensures ∙ ap (λ (q : Parts). length q.names.references) c.parts.ensures.same in
     let own : c.split_at.result.0.now ≡ map target m.names.references =
     c.split_at.ensures.front ∙ (λ i. take (many i) (left i)) ∙ own-targets target m.names.references (flat_references rest) in
@@ -49,7 +49,7 @@ loop-entry-preserved c =
     c.split_at.ensures.back ∙ (λ i. drop (many i) (left i)) ∙ later-targets target m.names.references (flat_references rest) in
     let short = ap length steps.0 in
     let gone = steps.1 in
-    let counted = c.loop-entry.invariant.counted in
+    let counted = c.loop-module.invariant.counted in
     record {
       underway = joined ms c.requires.light m rest all underway c.parts.ensures.valid c.requires.starts c.split_at.result.0.now c.append.new.self own
           c.in_ok-append.ensures;

@@ -6,9 +6,9 @@ use Rattle.mufom_link.specs.References.{target_in}
 use Rattle.mufom_link.proofs.JoiningLaws.{IsUnderway}
 use Rattle.mufom_link.proofs.linking.join_lists.Given as goal
 
-abbrev pub invariant-loop-entry : goal.invariant-loop-entry
-invariant-loop-entry l = record {
-  underway : IsUnderway l.fn.list.items (into_iter_items l.entry-iterator) l.joined;
-  variables : l.rest ≡ map (target_in (public_names l.fn.list.items) (kept_references l.fn.list.items)) (flat_references (into_iter_items l.entry-iterator));
-  counted : into_iter_len l.entry-iterator ≡ length (into_iter_items l.entry-iterator);
+abbrev pub invariant-loop-module : goal.invariant-loop-module
+invariant-loop-module l = record {
+  underway : IsUnderway l.fn.list.items (into_iter_items l.module-iterator) l.joined;
+  variables : l.rest ≡ map (target_in (public_names l.fn.list.items) (kept_references l.fn.list.items)) (flat_references (into_iter_items l.module-iterator));
+  counted : into_iter_len l.module-iterator ≡ length (into_iter_items l.module-iterator);
 }
