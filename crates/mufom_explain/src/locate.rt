@@ -316,8 +316,8 @@ fn about_field<'a>(
     requires acyclic { circular context.now.object.now ≡ None }
     ensures { IfOk result (λ kind. locate_lines (explained_of context.now) kind ≡ field_details (explained_of context.now) section address) }
 {
-    let (object, own, plan) = (context.object, context.own, context.plan);
-    let found = find_field(alloc, object, own, resolutions, plan, section, address)?;
+    let (module, own, plan) = (context.object, context.own, context.plan);
+    let found = find_field(alloc, module, own, resolutions, plan, section, address)?;
     match found {
         Some(value) => {
             let value = field_value(alloc, own, value)?;

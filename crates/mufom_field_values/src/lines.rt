@@ -157,16 +157,16 @@ fn all_variables(alloc: Global, value: &Postfix) -> Result<Vec<(Letter, u32)>, N
 /// it, once, the name of the section, public or reference that it stands for. The only error is out of memory.
 pub fn field_value<'a>(
     alloc: Global,
-    object: &'a Module,
+    module: &'a Module,
     value: &Postfix,
 ) -> Result<FieldValue<'a>, NoMemory>
-    ensures { IfOk result (λ told. value_text told ≡ value_lines object.now value.now) }
+    ensures { IfOk result (λ told. value_text told ≡ value_lines «module».now value.now) }
 {
     let expr = value.to_expr(alloc)?;
     let infix = infix(alloc, &expr)?;
     let variables = all_variables(alloc, value)?;
     Ok(FieldValue {
-        parts: object.parts(),
+        parts: module.parts(),
         infix,
         variables,
     })

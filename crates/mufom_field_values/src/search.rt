@@ -347,7 +347,7 @@ fn search_loads<'a>(search: &Search<'_>, loads: &'a [Load], own: &'a [Load]) -> 
 
 /// Returns the expression of the first field that a module loads into a section at an address, if there is one.
 ///
-/// `object` is the module that is located, and the expression is that of the same load of `own`: `object` itself,
+/// `module` is the module that is located, and the expression is that of the same load of `own`: `module` itself,
 /// or the module before the symbols of a plan are linked with it, whose loads differ in their expressions alone.
 ///
 /// The plan places the sections of the module and its commons, no two of its publics have the same name, and
@@ -355,22 +355,22 @@ fn search_loads<'a>(search: &Search<'_>, loads: &'a [Load], own: &'a [Load]) -> 
 /// of the publics and of one walk over the loads. The only error is out of memory.
 pub fn find_field<'a>(
     alloc: Global,
-    object: &'a Module,
+    module: &'a Module,
     own: &'a Module,
     resolutions: &[Resolution],
     plan: &Plan,
     section: u32,
     address: u64,
 ) -> Result<Option<&'a Postfix>, NoMemory>
-    requires names { AreDistinct (names_of object.now.names.publics) }
+    requires names { AreDistinct (names_of «module».now.names.publics) }
     requires plan { IsSoundPlan plan.now }
-    requires met { resolutions.now ≡ resolutions_of object.now }
-    requires placed { placing_refusal object.now plan.now ≡ None }
-    requires acyclic { circular object.now ≡ None }
-    ensures { IfOk result (λ value. option_map (λ v. v.now) value ≡ field_of object.now own.now plan.now section address) }
+    requires met { resolutions.now ≡ resolutions_of «module».now }
+    requires placed { placing_refusal «module».now plan.now ≡ None }
+    requires acyclic { circular «module».now ≡ None }
+    ensures { IfOk result (λ value. option_map (λ v. v.now) value ≡ field_of «module».now own.now plan.now section address) }
 {
-    let bases = planned_bases(alloc, object, resolutions, plan)?;
-    let placed = placed_module(object, resolutions, bases.as_slice());
+    let bases = planned_bases(alloc, module, resolutions, plan)?;
+    let placed = placed_module(module, resolutions, bases.as_slice());
     let components = components_of(alloc, &placed.graph)?;
     let values = placed.public_values(alloc, &components)?;
     let search = Search {
@@ -379,6 +379,6 @@ pub fn find_field<'a>(
         section,
         address,
     };
-    let loads = object.parts().loads.as_slice();
+    let loads = module.parts().loads.as_slice();
     Ok(search_loads(&search, loads, own.parts().loads.as_slice()))
 }

@@ -92,20 +92,20 @@ fn regions_of(
 pub(crate) fn entries_of<'a>(
     alloc: Global,
     origins: &'a Origins,
-    object: &Module,
+    module: &Module,
     plan: &Plan,
     copies: &[RegionCopy],
     located: &'a Located,
 ) -> Result<Entries<'a>, NoMemory>
     requires names { AreDistinctNames (listed_names plan.now.regions) }
     requires regions { length plan.now.regions < 2 ^ 32 }
-    requires planned { IsPlanned (object.now ∷ []) plan.now located.now }
-    requires copies { copies.now ≡ (planned_layout (object.now ∷ []) plan.now).copied }
-    ensures { IfOk result (AreEntriesOf origins.now (planned_layout (object.now ∷ []) plan.now) located.now) }
+    requires planned { IsPlanned («module».now ∷ []) plan.now located.now }
+    requires copies { copies.now ≡ (planned_layout («module».now ∷ []) plan.now).copied }
+    ensures { IfOk result (AreEntriesOf origins.now (planned_layout («module».now ∷ []) plan.now) located.now) }
 {
     let parts = located.parts();
     let sections = parts.sections.as_slice();
-    let section_regions = regions_of(alloc, object.parts(), plan, copies, parts)?;
+    let section_regions = regions_of(alloc, module.parts(), plan, copies, parts)?;
     Ok(Entries {
         maus: parts.maus,
         origins,
@@ -121,20 +121,20 @@ pub(crate) fn entries_of<'a>(
 pub(crate) fn map_of<'a>(
     alloc: Global,
     origins: &'a Origins,
-    object: &Module,
+    module: &Module,
     plan: &'a Plan,
     copies: &[RegionCopy],
     located: &'a Located,
 ) -> Result<Map<'a>, NoMemory>
     requires names { AreDistinctNames (listed_names plan.now.regions) }
     requires regions { length plan.now.regions < 2 ^ 32 }
-    requires planned { IsPlanned (object.now ∷ []) plan.now located.now }
-    requires copies { copies.now ≡ (planned_layout (object.now ∷ []) plan.now).copied }
-    ensures { IfOk result (λ map. shown map ≡ mapped_by origins.now (planned_layout (object.now ∷ []) plan.now) located.now) }
+    requires planned { IsPlanned («module».now ∷ []) plan.now located.now }
+    requires copies { copies.now ≡ (planned_layout («module».now ∷ []) plan.now).copied }
+    ensures { IfOk result (λ map. shown map ≡ mapped_by origins.now (planned_layout («module».now ∷ []) plan.now) located.now) }
 {
-    let entries = entries_of(alloc, origins, object, plan, copies, located)?;
+    let entries = entries_of(alloc, origins, module, plan, copies, located)?;
     let parts = located.parts();
-    let own = object.parts();
+    let own = module.parts();
     let room = Room::of(alloc, entries.sections)?;
     let placed = placed_names(alloc, own.sections.as_slice())?;
     let section_order = sections_in_order(alloc, entries.sections)?;

@@ -123,24 +123,24 @@ pub fn print_map<H: Host>(
     host: &mut H,
     names: &ModuleFiles,
     origins: &Origins,
-    object: &Module,
+    module: &Module,
     plan: &Plan,
     copies: &[RegionCopy],
     located: &Located,
 ) -> Result<(), PrintStop>
     requires distinct { AreDistinctNames (listed_names plan.now.regions) }
     requires regions { length plan.now.regions < 2 ^ 32 }
-    requires planned { IsPlanned (object.now ∷ []) plan.now located.now }
-    requires copies { copies.now ≡ (planned_layout (object.now ∷ []) plan.now).copied }
+    requires planned { IsPlanned («module».now ∷ []) plan.now located.now }
+    requires copies { copies.now ≡ (planned_layout («module».now ∷ []) plan.now).copied }
     ensures done { OnOk result (GrowsBy (H.meaning host.old).out (H.meaning host.new).out (map_text (all_files names.now)
-        (mapped_by origins.now (planned_layout (object.now ∷ []) plan.now) located.now))) }
+        (mapped_by origins.now (planned_layout («module».now ∷ []) plan.now) located.now))) }
     ensures fault { result ≡ Err PrintStop.Fault → GrowsByPrefix (H.meaning host.old).out (H.meaning host.new).out (map_text (all_files names.now)
-        (mapped_by origins.now (planned_layout (object.now ∷ []) plan.now) located.now))
+        (mapped_by origins.now (planned_layout («module».now ∷ []) plan.now) located.now))
         × Rose (H.faults host.old).writes (H.faults host.new).writes }
     ensures unmade { result ≡ Err PrintStop.NoMemory → (H.meaning host.new).out ≡ (H.meaning host.old).out }
     ensures only { OnlyPrints (H.meaning host.old) (H.meaning host.new) (H.faults host.old) (H.faults host.new) }
 {
-    let Ok(map) = map_of(alloc, origins, object, plan, copies, located) else {
+    let Ok(map) = map_of(alloc, origins, module, plan, copies, located) else {
         return Err(PrintStop::NoMemory);
     };
     print_lines(alloc, host, &WholeMap { names, map })

@@ -92,20 +92,20 @@ fn loads_in_place(plan: &Plan) -> bool
 }
 
 // The error of a module that is not located by a plan.
-fn refusal(rt: &impl Abort, alloc: Global, object: &Module, plan: &Plan) -> LocateRefusal
+fn refusal(rt: &impl Abort, alloc: Global, module: &Module, plan: &Plan) -> LocateRefusal
     requires { IsSoundPlan plan.now }
-    ensures names { AreDistinct (names_of «object».now.names.publics) }
-    ensures met { IsMet (copied_answer («object».now ∷ []) plan.now) result }
+    ensures names { AreDistinct (names_of «module».now.names.publics) }
+    ensures met { IsMet (copied_answer («module».now ∷ []) plan.now) result }
 {
     if !loads_in_place(plan) {
         panic!(rt; "a region is loaded elsewhere");
     }
-    let names = &object.parts().names;
+    let names = &module.parts().names;
     assert!(rt; names.publics.len() < 1 << 32);
     let None = names.duplicate() else {
         panic!(rt; "a name occurs twice");
     };
-    match locate(alloc, object, plan) {
+    match locate(alloc, module, plan) {
         Ok(_) => panic!(rt; "it is located"),
         Err(refusal) => refusal,
     }
@@ -116,7 +116,7 @@ fn explains(
     rt: &impl Abort,
     alloc: Global,
     modules: &[Module],
-    object: &Module,
+    module: &Module,
     plan: &[u8],
     lines: &str,
 ) {
@@ -125,21 +125,21 @@ fn explains(
     let origins = Origins::of(alloc, modules).expect(rt, "memory");
     let mut flat = Vec::new(alloc);
     for position in 0..modules.len() {
-        let module = FlatModule {
+        let flat_module = FlatModule {
             place: position as u32,
             parts: modules[position].parts(),
         };
-        flat.push(module).expect(rt, "memory");
+        flat.push(flat_module).expect(rt, "memory");
     }
     let names = files(rt, alloc);
-    let refusal = refusal(rt, alloc, object, &plan);
+    let refusal = refusal(rt, alloc, module, &plan);
     assert!(rt; flat.len() < 1 << 32);
     let context = LocateContext {
         names: &names,
         flat: &flat,
         origins: &origins,
-        object,
-        own: object,
+        object: module,
+        own: module,
         plan: &plan,
     };
     let details = explain_locate(alloc, context, &refusal).expect(rt, "memory");
@@ -155,8 +155,8 @@ fn a_common_does_not_fit(rt: HostRuntime) {
     let alloc = rt.alloc();
     let modules = two(&rt, alloc, &[(b"c", Some(4))], &[(b"c", Some(6))]);
     let all: References = &[(b"c", Some(4)), (b"c", Some(6))];
-    let object = module(&rt, alloc, b"a", 2, all);
-    explains(&rt, alloc, &modules, &object, PLAN, MISFIT);
+    let module = module(&rt, alloc, b"a", 2, all);
+    explains(&rt, alloc, &modules, &module, PLAN, MISFIT);
 }
 
 #[test]
@@ -165,6 +165,6 @@ fn names_are_undefined(rt: HostRuntime) {
     let first: References = &[(b"y", Some(0)), (b"z", None)];
     let modules = two(&rt, alloc, first, &[(b"z", None), (b"y", None)]);
     let all: References = &[(b"y", Some(0)), (b"z", None), (b"y", None)];
-    let object = module(&rt, alloc, b"a", 2, all);
-    explains(&rt, alloc, &modules, &object, PLAN, UNDEFINED);
+    let module = module(&rt, alloc, b"a", 2, all);
+    explains(&rt, alloc, &modules, &module, PLAN, UNDEFINED);
 }

@@ -83,9 +83,12 @@ fn absolute_file<'a>(alloc: Global, out: &'a Text, located: Located) -> Result<R
     ensures err { IfErr result (λ stop. stop ≡ Outcome.NoMemory) }
 {
     match absolute(alloc, &located) {
-        Ok(object) => {
-            a_module_is_valid(&object);
-            Ok(Ready::File { out, object })
+        Ok(module) => {
+            a_module_is_valid(&module);
+            Ok(Ready::File {
+                out,
+                object: module,
+            })
         }
         Err(_) => Err(Outcome::NoMemory),
     }

@@ -97,9 +97,12 @@ pub fn link_file<'a>(
     ensures refused { IfErr result (λ e. StopsWork (linked_module (tree_of inputs.now.marks) name.now modules) e) }
 {
     match link_modules(alloc, inputs.marks.as_slice(), name, modules) {
-        Ok(object) => {
-            a_module_is_valid(&object);
-            Ok(Ready::File { out, object })
+        Ok(module) => {
+            a_module_is_valid(&module);
+            Ok(Ready::File {
+                out,
+                object: module,
+            })
         }
         Err(refusal) => Err(refusal),
     }
@@ -182,9 +185,12 @@ fn prepare_text<'a, H: Host>(
         Err(stop) => return Err(stop),
     };
     match module_of(alloc, text.as_slice(), maus) {
-        Ok(object) => {
-            a_module_is_valid(&object);
-            Ok(Ready::File { out, object })
+        Ok(module) => {
+            a_module_is_valid(&module);
+            Ok(Ready::File {
+                out,
+                object: module,
+            })
         }
         Err(stop) => Err(stop),
     }
@@ -207,9 +213,12 @@ fn prepare_listing<'a, H: Host>(
         Err(stop) => return Err(stop),
     };
     match built_from(alloc, text.as_slice()) {
-        Ok(object) => {
-            a_module_is_valid(&object);
-            Ok(Ready::File { out, object })
+        Ok(module) => {
+            a_module_is_valid(&module);
+            Ok(Ready::File {
+                out,
+                object: module,
+            })
         }
         Err(stop) => Err(stop),
     }

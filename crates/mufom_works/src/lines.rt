@@ -37,22 +37,22 @@ fn items_total(items: &[DebugItem]) -> u64
 }
 
 // The number of debug items of a module at all depths.
-fn debug_total(object: &Module) -> u64
-    ensures { result ≡ item_count (marks_of object.now.debug) }
+fn debug_total(module: &Module) -> u64
+    ensures { result ≡ item_count (marks_of «module».now.debug) }
 {
-    items_total(object.parts().debug.as_slice())
+    items_total(module.parts().debug.as_slice())
 }
 
 // The part of a line after the name.
-fn counts_text(alloc: Global, object: &Module) -> Result<String, NoMemory>
-    ensures { IfOk result (λ text. string_bytes text ≡ line (counts_text object.now)) }
+fn counts_text(alloc: Global, module: &Module) -> Result<String, NoMemory>
+    ensures { IfOk result (λ text. string_bytes text ≡ line (counts_text «module».now)) }
 {
-    let parts = object.parts();
+    let parts = module.parts();
     let sections = parts.sections.len();
     let publics = parts.names.publics.len();
     let references = parts.names.references.len();
     let loads = parts.loads.len();
-    let debug = debug_total(object);
+    let debug = debug_total(module);
     Ok(format!(in alloc;
         ": sections {sections} publics {publics} references {references} loads {loads} debug {debug}\n"
     )?)
@@ -63,14 +63,14 @@ fn push_line(
     alloc: Global,
     text: &mut Vec<u8>,
     number: usize,
-    object: &Module,
+    module: &Module,
 ) -> Result<(), NoMemory>
-    ensures { OnOk result (text.new.items ≡ text.old.items ++ check_line number object.now) }
+    ensures { OnOk result (text.new.items ≡ text.old.items ++ check_line number «module».now) }
 {
     let prefix = format!(in alloc; "file {number} ")?;
     text.extend_from_slice(prefix.as_bytes())?;
-    text.extend_from_slice(quoted_name(alloc, object.parts().name.as_slice())?.as_slice())?;
-    text.extend_from_slice(counts_text(alloc, object)?.as_bytes())?;
+    text.extend_from_slice(quoted_name(alloc, module.parts().name.as_slice())?.as_slice())?;
+    text.extend_from_slice(counts_text(alloc, module)?.as_bytes())?;
     Ok(())
 }
 

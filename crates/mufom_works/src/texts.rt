@@ -44,7 +44,7 @@ pub fn module_of(alloc: Global, text: &[u8], maus: u8) -> Result<Module, Outcome
         Err(stop) => return Err(stop),
     };
     match text_module(alloc, runs.as_slice(), maus) {
-        Ok(object) => Ok(object),
+        Ok(module) => Ok(module),
         Err(NoMemory) => Err(Outcome::NoMemory),
     }
 }
@@ -56,7 +56,7 @@ pub fn built_from(alloc: Global, text: &[u8]) -> Result<Module, Outcome>
     ensures stops { IfErr result (EndsAt (parts_of_listing text.now)) }
 {
     match mufom_build::build(alloc, text) {
-        Ok(object) => Ok(object),
+        Ok(module) => Ok(module),
         Err(BuildRefusal::NoMemory) => Err(Outcome::NoMemory),
         Err(BuildRefusal::Module(defect)) => Err(Outcome::Refused(Refusal::Build(
             BuildRefusal::Module(defect),

@@ -13,7 +13,7 @@ use Rattle.mufom_field_values.proofs.search.find_field.Goals as goal
 
 pub placed_module-placed-requires : goal.placed_module-placed-requires
 placed_module-placed-requires c =
-    let m = c.args.object.now in let plan = c.args.plan.now in
+    let m = c.args.module.now in let plan = c.args.plan.now in
     let there : ArePlaced m plan (extended_sections (m ∷ []) plan) c.as_slice.result.now
     = record { none = c.requires.placed; sections = refl; bases = c.as_slice.ensures ∙ c.in_ok-bases.ensures } in
     placed-count m plan (extended_sections (m ∷ []) plan) c.as_slice.result.now there
@@ -29,7 +29,7 @@ search_loads-requires-clause-placed c = found-placed _ _ _ _ c.placed_module-pla
 
 pub returns : goal.returns
 returns c =
-    let m = c.args.object.now in let plan = c.args.plan.now in
+    let m = c.args.module.now in let plan = c.args.plan.now in
     let there : ArePlaced m plan (extended_sections (m ∷ []) plan) c.as_slice.result.now
     = record { none = c.requires.placed; sections = refl; bases = c.as_slice.ensures ∙ c.in_ok-bases.ensures } in
     let loads : c.as_slice-loads.result.now ≡ m.loads = c.as_slice-loads.ensures ∙ ap (λ (x : Parts). x.loads) c.parts.ensures.same in

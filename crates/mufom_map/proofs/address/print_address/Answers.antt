@@ -11,7 +11,7 @@ pub returns-clause-done : goal.returns-clause-done
 returns-clause-done g c =
     let h = c.in-Ok.ensures in
     let text : spot_text c.in-Ok.entries.maus c.args.address (sections_of c.in-Ok.entries) (publics_of c.in-Ok.entries)
-    ≡ address_text c.args.address (mapped_by c.args.origins.now (planned_layout (c.args.object.now ∷ []) c.args.plan.now) c.args.located.now)
+    ≡ address_text c.args.address (mapped_by c.args.origins.now (planned_layout (c.args.module.now ∷ []) c.args.plan.now) c.args.located.now)
     = λ i. spot_text (h.maus i) c.args.address (h.sections i) (h.publics i) in
     subst (λ (t : Text). OnOk c.print_lines.result
     (GrowsBy (g.H.World.meaning c.args.host.now).out (g.H.World.meaning c.print_lines.new.host).out t)) text c.print_lines.ensures.done
@@ -20,7 +20,7 @@ pub returns-clause-fault : goal.returns-clause-fault
 returns-clause-fault g c = λ failed.
     let h = c.in-Ok.ensures in
     let text : spot_text c.in-Ok.entries.maus c.args.address (sections_of c.in-Ok.entries) (publics_of c.in-Ok.entries)
-    ≡ address_text c.args.address (mapped_by c.args.origins.now (planned_layout (c.args.object.now ∷ []) c.args.plan.now) c.args.located.now)
+    ≡ address_text c.args.address (mapped_by c.args.origins.now (planned_layout (c.args.module.now ∷ []) c.args.plan.now) c.args.located.now)
     = λ i. spot_text (h.maus i) c.args.address (h.sections i) (h.publics i) in
     let prefix = c.print_lines.ensures.fault failed in (
       subst (λ (t : Text). GrowsByPrefix (g.H.World.meaning c.args.host.now).out (g.H.World.meaning c.print_lines.new.host).out t) text prefix.0,

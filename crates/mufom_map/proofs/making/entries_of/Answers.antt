@@ -18,7 +18,7 @@ regions_of-requires-clause-copies c =
 
 pub overflow_sub-result : goal.overflow_sub-result
 overflow_sub-result c =
-    let parts = count c.args.object.now c.args.plan.now c.args.located.now c.requires.planned in
+    let parts = count c.args.module.now c.args.plan.now c.args.located.now c.requires.planned in
     let copies = ap length c.requires.copies in
     let all = ap length (c.as_slice-sections.ensures ∙ ap (λ (r : LocatedParts). r.sections) c.parts-parts.ensures.same) in
     omega (arith, parts, copies, all)
@@ -35,7 +35,7 @@ invariant_of-result c =
 
 pub returns : goal.returns
 returns c =
-    let plan = c.args.plan.now in let ms = c.args.object.now ∷ [] in
+    let plan = c.args.plan.now in let ms = c.args.module.now ∷ [] in
     let l = planned_layout ms plan in
     let origins = c.args.origins.now in let regions = c.in_ok-section_regions.section_regions.items in
     let same = c.parts-parts.ensures.same in
@@ -43,8 +43,8 @@ returns c =
     map (λ s. (site_by (layout_placings own) s).region) (numbered (whole_list own))) c.parts.ensures.same in
     let located = c.as_slice-sections.ensures ∙ ap (λ (r : LocatedParts). r.sections) same in
     let publics = c.as_slice.ensures ∙ ap (λ (r : LocatedParts). r.publics) same in
-    let parts = count c.args.object.now plan c.args.located.now c.requires.planned in
-    let copies = ap length c.requires.copies in let all = ap length located in let own = ap length (own-is c.args.object.now plan) in
+    let parts = count c.args.module.now plan c.args.located.now c.requires.planned in
+    let copies = ap length c.requires.copies in let all = ap length located in let own = ap length (own-is c.args.module.now plan) in
     let first : length c.as_slice-sections.result.now - length c.args.copies.now ≡ first_copy l = omega (arith, parts, copies, all, own) in
     record {
       maus = ap (λ (r : LocatedParts). r.maus) same;

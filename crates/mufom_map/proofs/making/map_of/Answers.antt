@@ -15,13 +15,13 @@ use Rattle.mufom_map.proofs.making.map_of.Goals as goal
 pub returns : goal.returns
 returns c =
     let plan = c.args.plan.now in
-    let own = (planned_layout (c.args.object.now ∷ []) plan).sections in
+    let own = (planned_layout (c.args.module.now ∷ []) plan).sections in
     let h = c.in_ok-entries.ensures in
     let same = c.parts-parts.ensures.same in
     let placed = c.in_ok-placed.placed in
     let names : (entry : List ℕ) → has_name placed entry ≡ list_any (waits_as entry) own
     = λ entry. c.in_ok-placed.ensures entry ∙ ap (list_any (waits_as entry)) (c.as_slice.ensures
-    ∙ ap (λ (m : Parts). m.sections) c.parts-own.ensures.same ∙ sym (own-is c.args.object.now plan)) in
+    ∙ ap (λ (m : Parts). m.sections) c.parts-own.ensures.same ∙ sym (own-is c.args.module.now plan)) in
     let unused = ap (map (missing_entries placed)) c.as_slice-2.ensures ∙ missing-unused (listed_names plan.regions) placed own names plan.regions in
     let runs = c.as_slice-3.ensures ∙ ap (λ (r : LocatedParts). r.runs) same in
     λ i. record {

@@ -15,4 +15,4 @@ returns-clause-names g c = subst (λ (parts : Parts). AreDistinct (names_of part
 pub returns-clause-met : goal.returns-clause-met
 returns-clause-met g c =
     let loads = c.loads_in_place.ensures c.if-not-loads_in_place.false in
-    subst (λ (o : Option LocateFact). IsMet o c.in-Err.refusal) (sym (plain_answer (c.args.object.now ∷ []) c.args.plan.now loads)) c.in-Err.ensures.refused
+    subst (λ (o : Option LocateFact). IsMet o c.in-Err.refusal) (sym (plain_answer (c.args.module.now ∷ []) c.args.plan.now loads)) c.in-Err.ensures.refused

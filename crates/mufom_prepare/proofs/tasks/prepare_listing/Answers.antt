@@ -19,7 +19,7 @@ returns-in-Err-clause-err g c =
 
 pub returns-in-Ok-built_from-clause-ok : goal.returns-in-Ok-built_from-clause-ok
 returns-in-Ok-built_from-clause-ok g c =
-    let read = c.in-Ok.ensures in let inputs = c.args.inputs.now in let out = c.args.out.now in let object = c.in-Ok-built_from.object in
+    let read = c.in-Ok.ensures in let inputs = c.args.inputs.now in let out = c.args.out.now in let object = c.in-Ok-built_from.module in
     let bytes : List ℕ = c.in-Ok.text.items in
     let old = g.H.World.meaning c.args.host.now in let mid = g.H.World.meaning c.read_text.new.host in
     let before = g.H.World.faults c.args.host.now in let between = g.H.World.faults c.read_text.new.host in

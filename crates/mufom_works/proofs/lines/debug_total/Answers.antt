@@ -8,7 +8,7 @@ use Rattle.mufom_works.proofs.lines.debug_total.Goals as goal
 
 pub returns : goal.returns
 returns c =
-    let few = few_items c.args.object.now c.parts.ensures.valid in
+    let few = few_items c.args.module.now c.parts.ensures.valid in
     let items = c.as_slice.ensures ∙ ap (λ (m : Parts). m.debug) c.parts.ensures.same in
     let same = ap (λ (list : List DebugItem). item_count (marks_of list)) items in
     omega (arith, few, same, c.items_total.ensures)
