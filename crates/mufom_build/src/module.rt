@@ -13,9 +13,9 @@ ghost use Rattle.mufom_build.specs.Refusals.{IsRefusedAt, HasDefect};
 use crate::draft::Draft;
 use crate::read_row::read_row;
 use crate::refusal::refusal_of;
-use mufom_build_text::{BuildReason, Cursor, PieceStop};
+use mufom_build_text::{Cursor, PieceStop};
 use mufom_module::{Module, assemble};
-use mufom_refusals::BuildRefusal;
+use mufom_refusals::{BuildReason, BuildRefusal};
 use std::alloc::Global;
 
 // Ends the line of a row. `may_come` says whether the row may come here.
