@@ -234,26 +234,26 @@ fn explain_shared_name<H: Host>(
     }
 }
 
-// Explains that what is kept cannot be located; `object` is the module that is located, with the plan's symbols.
+// Explains that what is kept cannot be located; `module` is what is located, with the plan's symbols.
 fn explain_fact<H: Host>(
     alloc: Global,
     words: &[String],
     names: &ModuleFiles,
     flat: &[FlatModule<'_>],
     part: &TracedModule,
-    object: &Module,
+    module: &Module,
     plan: &Plan,
     refusal: &LocateRefusal,
     host: &mut H,
 ) -> Outcome
     requires few { length flat.now < 2 ^ 32 }
-    requires names { AreDistinct (names_of object.now.names.publics) }
+    requires names { AreDistinct (names_of «module».now.names.publics) }
     requires plan { IsReadPlan plan.now }
-    requires met { IsMet (copied_answer (object.now ∷ []) plan.now) refusal.now }
+    requires met { IsMet (copied_answer («module».now ∷ []) plan.now) refusal.now }
     requires memory { refusal.now ≢ LocateRefusal.NoMemory }
     ensures { (files : option (list NamedFile)) (inputs : Reads) (ms : list Parts) (keep : list (list ℕ)) (made : Made)
         → AreUnlocated files inputs (all_files names.now) keep plan.now ms (flat_of flat.now) part.now.object part.now.origins
-        → IsLocatedAs part.now.object plan.now object.now
+        → IsLocatedAs part.now.object plan.now «module».now
         → IsMetBy (planned_answer (part.now.object ∷ []) plan.now) (PlannedRefusal.Locate refusal.now)
         → Tells (map (λ word. string_bytes word) words.now) (task_variants.Locate inputs keep made) files
         (call_of H.meaning H.faults host.old host.new) result }
@@ -262,11 +262,11 @@ fn explain_fact<H: Host>(
         names,
         flat,
         origins: &part.origins,
-        object,
+        object: module,
         own: &part.object,
         plan,
     };
-    let maus = object.parts().maus;
+    let maus = module.parts().maus;
     match explain_locate(alloc, context, refusal) {
         Ok(details) => print_explanation(
             alloc,
@@ -303,8 +303,8 @@ fn explain_with_symbols<H: Host>(
         (call_of H.meaning H.faults host.old host.new) result }
 {
     match with_plan_symbols(alloc, &part.object, plan) {
-        Ok(object) => explain_fact(
-            alloc, words, names, flat, part, &object, plan, refusal, host,
+        Ok(module) => explain_fact(
+            alloc, words, names, flat, part, &module, plan, refusal, host,
         ),
         Err(NoMemory) => Outcome::NoMemory,
     }
@@ -333,8 +333,8 @@ fn explain_planned<H: Host>(
         (call_of H.meaning H.faults host.old host.new) result }
 {
     if plan.symbols.is_empty() {
-        let object = &part.object;
-        return explain_fact(alloc, words, names, flat, part, object, plan, refusal, host);
+        let module = &part.object;
+        return explain_fact(alloc, words, names, flat, part, module, plan, refusal, host);
     }
     explain_with_symbols(alloc, words, names, flat, part, plan, refusal, host)
 }

@@ -79,11 +79,11 @@ fn print_whole_map<H: Host>(
 {
     let Location {
         origins,
-        object,
+        object: module,
         plan,
         located,
     } = location;
-    let Ok(copies) = planned_copies(alloc, object, plan) else {
+    let Ok(copies) = planned_copies(alloc, module, plan) else {
         return Outcome::NoMemory;
     };
     match print_map(
@@ -91,7 +91,7 @@ fn print_whole_map<H: Host>(
         host,
         names,
         origins,
-        object,
+        module,
         plan,
         copies.as_slice(),
         located,
@@ -110,18 +110,18 @@ fn print_spot<H: Host>(alloc: Global, address: u64, location: &Location, host: &
 {
     let Location {
         origins,
-        object,
+        object: module,
         plan,
         located,
     } = location;
-    let Ok(copies) = planned_copies(alloc, object, plan) else {
+    let Ok(copies) = planned_copies(alloc, module, plan) else {
         return Outcome::NoMemory;
     };
     match print_address(
         alloc,
         host,
         origins,
-        object,
+        module,
         plan,
         copies.as_slice(),
         located,
@@ -191,7 +191,10 @@ pub fn put_out<H: Host>(alloc: Global, ready: &Ready<'_>, host: &mut H) -> Outco
         Ready::Lines(text) => print_bytes(text, host),
         Ready::Help(text) => print_bytes(text.as_str().as_bytes(), host),
         Ready::Listing { modules, form } => print_one(alloc, *form, modules.as_slice(), host),
-        Ready::File { out, object } => make_file(out.as_str(), object, host),
+        Ready::File {
+            out,
+            object: module,
+        } => make_file(out.as_str(), module, host),
         Ready::Raw { out, fill, located } => make_raw(out.as_str(), *fill, located, host),
         Ready::Range {
             out,

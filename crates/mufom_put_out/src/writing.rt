@@ -21,13 +21,13 @@ use mufom_titxt::{write_end, write_run};
 use mufom_write::{write_module, write_range, write_raw};
 
 /// Writes the module to a file with this name. Returns the outcome, whose error line is not printed yet.
-pub(crate) fn make_file<H: Host>(name: &str, object: &Module, host: &mut H) -> Outcome
-    ensures { IsMadeAlone name.now (written object.now) (call_of H.meaning H.faults host.old host.new) result }
+pub(crate) fn make_file<H: Host>(name: &str, module: &Module, host: &mut H) -> Outcome
+    ensures { IsMadeAlone name.now (written «module».now) (call_of H.meaning H.faults host.old host.new) result }
 {
     let Ok(()) = host.create(name) else {
         return Outcome::WriteFault;
     };
-    let Ok(()) = write_module(object, host) else {
+    let Ok(()) = write_module(module, host) else {
         return Outcome::WriteFault;
     };
     match host.finish() {

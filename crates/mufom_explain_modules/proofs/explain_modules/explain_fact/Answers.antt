@@ -19,7 +19,7 @@ returns-in-Ok g c = λ files inputs ms keep made is is_object met.
     let words : List (List ℕ) = map (λ word. string_bytes word) c.args.words.now in
     let old = g.H.World.meaning c.args.host.now in let new = g.H.World.meaning c.print_explanation.new.host in
     let before = g.H.World.faults c.args.host.now in let now = g.H.World.faults c.print_explanation.new.host in
-    let names = all_files c.args.names.now in let plan = c.args.plan.now in let object = c.args.object.now in
+    let names = all_files c.args.names.now in let plan = c.args.plan.now in let object = c.args.module.now in
     let part = c.args.part.now.object in let origins = c.args.part.now.origins in
     let refused = c.args.refusal.now in let flat = flat_of c.args.flat.now in let text : List ℕ = locate_text c.in-Ok.details in
     let units : c.parts.result.now.maus ≡ object.maus = ap (λ (m : Parts). m.maus) c.parts.ensures.same in

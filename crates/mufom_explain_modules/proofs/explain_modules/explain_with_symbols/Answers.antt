@@ -9,9 +9,9 @@ with_plan_symbols-requires-clause-unshared g c =
 
 pub explain_fact-requires-clause-met : goal.explain_fact-requires-clause-met
 explain_fact-requires-clause-met g c =
-    met-linked c.args.part.now.object c.in-Ok.object c.args.plan.now c.in-Ok.ensures.answers c.args.refusal.now c.requires.memory c.requires.met
+    met-linked c.args.part.now.object c.in-Ok.module c.args.plan.now c.in-Ok.ensures.answers c.args.refusal.now c.requires.memory c.requires.met
 
 pub returns-in-Ok : goal.returns-in-Ok
 returns-in-Ok g c = λ files inputs ms keep made is.
     c.explain_fact.ensures files inputs ms keep made is
-    (located-linked c.args.part.now.object c.in-Ok.object c.args.plan.now c.requires.some c.in-Ok.ensures.joined c.in-Ok.ensures.means) c.requires.met
+    (located-linked c.args.part.now.object c.in-Ok.module c.args.plan.now c.requires.some c.in-Ok.ensures.joined c.in-Ok.ensures.means) c.requires.met
