@@ -279,38 +279,8 @@ fn explain_fact<H: Host>(
     }
 }
 
-// Explains that what is kept cannot be located by a plan with symbols, which are added to it.
-fn explain_with_symbols<H: Host>(
-    alloc: Global,
-    words: &[String],
-    names: &ModuleFiles,
-    flat: &[FlatModule<'_>],
-    part: &TracedModule,
-    plan: &Plan,
-    refusal: &LocateRefusal,
-    host: &mut H,
-) -> Outcome
-    requires few { length flat.now < 2 ^ 32 }
-    requires names { AreDistinct (names_of part.now.object.names.publics) }
-    requires light { weight part.now.object < weight_limit }
-    requires plan { IsReadPlan plan.now }
-    requires some { plan.now.symbols ≢ [] }
-    requires met { IsMetBy (planned_answer (part.now.object ∷ []) plan.now) (PlannedRefusal.Locate refusal.now) }
-    requires memory { refusal.now ≢ LocateRefusal.NoMemory }
-    ensures { (files : option (list NamedFile)) (inputs : Reads) (ms : list Parts) (keep : list (list ℕ)) (made : Made)
-        → AreUnlocated files inputs (all_files names.now) keep plan.now ms (flat_of flat.now) part.now.object part.now.origins
-        → Tells (map (λ word. string_bytes word) words.now) (task_variants.Locate inputs keep made) files
-        (call_of H.meaning H.faults host.old host.new) result }
-{
-    match with_plan_symbols(alloc, &part.object, plan) {
-        Ok(module) => explain_fact(
-            alloc, words, names, flat, part, &module, plan, refusal, host,
-        ),
-        Err(NoMemory) => Outcome::NoMemory,
-    }
-}
-
-// Explains an error of locating that is not out of memory.
+// Explains an error of locating that is not out of memory. If the plan has symbols, what is kept is linked with
+// them first.
 fn explain_planned<H: Host>(
     alloc: Global,
     words: &[String],
@@ -336,7 +306,12 @@ fn explain_planned<H: Host>(
         let module = &part.object;
         return explain_fact(alloc, words, names, flat, part, module, plan, refusal, host);
     }
-    explain_with_symbols(alloc, words, names, flat, part, plan, refusal, host)
+    match with_plan_symbols(alloc, &part.object, plan) {
+        Ok(module) => explain_fact(
+            alloc, words, names, flat, part, &module, plan, refusal, host,
+        ),
+        Err(NoMemory) => Outcome::NoMemory,
+    }
 }
 
 // Explains why what is kept is not located: it cannot be, or memory ran out.
