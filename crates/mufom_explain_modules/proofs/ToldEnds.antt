@@ -210,6 +210,16 @@ pub met-linked : (part object : Parts) (plan : Plan) → copied_answer (object �
 met-linked part object plan same r other met =
     subst (λ (o : Option LocateFact). IsMet o r) (sym same) (met-listed (part ∷ []) plan r other met).1
 
+-- ---- a location of which nothing is made
+
+-- this is not a write fault
+pub unmade-unwritten : (p : Product) (names : ModuleFiles) (m : Location) (answer : Outcome)
+    → EndsAt (product_of p names (shown_of m) m.located) answer → answer ≢ outcome.WriteFault
+unmade-unwritten p names m answer (inl lacks) = λ same. let both : outcome.NoMemory ≡ outcome.WriteFault = sym lacks ∙ same in cc
+unmade-unwritten p names m answer (inr (s, of_modules, shown, ends)) =
+    let (refused, is) = product-stops p names (shown_of m) m.located s ends in
+    λ same. let both : outcome.Refused (refusal.Bin refused) ≡ outcome.WriteFault = sym (shown ∙ ap stop_outcome is) ∙ same in cc
+
 -- ---- a name that no public has
 
 module _ (files : Option (List NamedFile)) (c : Inputs) (names : ModuleFiles) (keep : List (List ℕ)) (p : Product) (plan : Plan) (ms : List Parts) where

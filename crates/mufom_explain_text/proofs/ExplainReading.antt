@@ -217,6 +217,20 @@ module _ {A : Type 0} (t : Task) (reading : List NamedFile → Work Stop A) (end
       reading-ends (outcome.Usage f) why opens named memory details keeps is = absurd why
       reading-ends outcome.WriteFault why opens named memory details keeps is = absurd why
 
+-- ---- the end is not a write fault
+
+-- an outcome is not a write fault if something is true of it that is not true of a write fault
+pub never-written : (P : Outcome → Type 0) → (P outcome.WriteFault → ⊥) → (answer : Outcome) → P answer → answer ≢ outcome.WriteFault
+never-written P never answer is = λ same. never (subst P same is)
+
+pub words-unwritten : (s : WordsStop) (answer : Outcome) → answer ≡ stop_answer s → answer ≢ outcome.WriteFault
+words-unwritten (words_stop.Usage f) answer is = λ same. let both : outcome.Usage f ≡ outcome.WriteFault = sym is ∙ same in cc
+words-unwritten (words_stop.TooManyFiles n) answer is =
+    λ same. let both : outcome.Refused (refusal.TooManyFiles n) ≡ outcome.WriteFault = sym is ∙ same in cc
+words-unwritten (words_stop.TooDeep n) answer is =
+    λ same. let both : outcome.Refused (refusal.TooDeep n) ≡ outcome.WriteFault = sym is ∙ same in cc
+words-unwritten words_stop.NoMemory answer is = λ same. let both : outcome.NoMemory ≡ outcome.WriteFault = sym is ∙ same in cc
+
 -- ---- the end is told, unless memory ran out
 
 module _ (words : List (List ℕ)) (old mid : Meaning) (before between : Faults) (only : OnlyOpens old mid before between) (new : Meaning)
@@ -234,12 +248,12 @@ module _ (words : List (List ℕ)) (old mid : Meaning) (before between : Faults)
 
   pub printed-explains : (details : List ℕ) → (answer ≢ outcome.NoMemory → EndsBy words (answer_of words) (call_between old new before now) answer details)
       → (result : Outcome) → IsPrinted (explain_text words answer details) (call_between mid new between now) result
-      → (result ≢ outcome.NoMemory → (answer ≢ outcome.WriteFault) × (answer ≢ outcome.NoMemory))
+      → (result ≢ outcome.NoMemory → answer ≢ outcome.NoMemory)
       → Explains words (call_between old new before now) result
   printed-explains details ends outcome.Done is told =
-      told-explains words old mid before between only new now prints answer details (ends (told (λ same. cc)).1) opens outcome.Done is
+      told-explains words old mid before between only new now prints answer details (ends (told (λ same. cc))) opens outcome.Done is
   printed-explains details ends outcome.WriteFault is told =
-      told-explains words old mid before between only new now prints answer details (ends (told (λ same. cc)).1) opens outcome.WriteFault is
+      told-explains words old mid before between only new now prints answer details (ends (told (λ same. cc))) opens outcome.WriteFault is
   printed-explains details ends outcome.NoMemory is told = untold-explains is
   printed-explains details ends (outcome.Refused r) is told = absurd is
   printed-explains details ends (outcome.Usage f) is told = absurd is
@@ -263,7 +277,7 @@ module _ (words : List (List ℕ)) (t : Task) (asks : AskFor words (request.Run 
   pub task-explains : (answer : Outcome) → OpensInputs (inputs_of t) (call_between old mid before between) answer → (details : List ℕ)
       → (answer ≢ outcome.NoMemory → EndsFor t (call_between old new before now) answer details) → (result : Outcome)
       → IsPrinted (explain_text words answer details) (call_between mid new between now) result
-      → (result ≢ outcome.NoMemory → (answer ≢ outcome.WriteFault) × (answer ≢ outcome.NoMemory))
+      → (result ≢ outcome.NoMemory → answer ≢ outcome.NoMemory)
       → Explains words (call_between old new before now) result
   task-explains answer opens details ends result is told =
       printed-explains words old mid before between only new now prints answer (task-opens answer opens) details
@@ -274,7 +288,7 @@ module _ (words : List (List ℕ)) (t : Task) (asks : AskFor words (request.Run 
       → (result : Outcome) → IsPrinted (explain_text words outcome.Done (untried_lines (out_of t))) (call_between mid new between now) result
       → Explains words (call_between old new before now) result
   done-explains opens output is result put =
-      task-explains outcome.Done opens (untried_lines (out_of t)) (λ memory. ((output, is), refl)) result put (λ memory. ((λ same. cc), (λ same. cc)))
+      task-explains outcome.Done opens (untried_lines (out_of t)) (λ memory. ((output, is), refl)) result put (λ memory. λ same. cc)
 
   -- The inputs were not all read.
   pub unread-explains : {A : Type 0} (reading : List NamedFile → Work Stop A)
@@ -284,7 +298,7 @@ module _ (words : List (List ℕ)) (t : Task) (asks : AskFor words (request.Run 
       → OpensInputs (inputs_of t) (call_between old mid before between) stop → NamesPlan (inputs_of t).plan stop → (host_tells : Cause) (text details : List ℕ)
       → KeepsPlan (inputs_of t).plan old.files text stop → IsUnreadDetail (inputs_of t) host_tells text stop details
       → (result : Outcome) → IsPrinted (explain_text words stop details) (call_between mid new between now) result
-      → (result ≢ outcome.NoMemory → (stop ≢ outcome.WriteFault) × (stop ≢ outcome.NoMemory))
+      → (result ≢ outcome.NoMemory → stop ≢ outcome.NoMemory)
       → Explains words (call_between old new before now) result
   unread-explains reading ends begins of_files some stop why opens named host_tells text details keeps is result printed told =
       task-explains stop opens details
@@ -303,7 +317,7 @@ module _ (words : List (List ℕ)) (old : Meaning) (before : Faults) where
 
   module _ (new : Meaning) (now : Faults) (prints : OnlyPrints old new before now) (answer result : Outcome) (details : List ℕ)
       (put : IsPrinted (explain_text words answer details) (call_between old new before now) result)
-      (told : result ≢ outcome.NoMemory → (answer ≢ outcome.WriteFault) × (answer ≢ outcome.NoMemory)) where
+      (told : result ≢ outcome.NoMemory → answer ≢ outcome.NoMemory) where
     wrong-words : (stop : WordsStop) → answer ≡ stop_answer stop → answer_of words ≡ Err stop → details ≡ usage_lines words stop → Explains words (call_between old new before now) result
     wrong-words stop is refused are =
         printed-explains words old old before before no_input new now prints answer

@@ -45,13 +45,13 @@ module _ (words : List (List ℕ)) (t : Task) where
 
     -- there was no memory for this end
     told-lacking : answer ≡ outcome.NoMemory
-        → (result ≢ outcome.NoMemory → (answer ≢ outcome.WriteFault) × (answer ≢ outcome.NoMemory))
+        → (result ≢ outcome.NoMemory → answer ≢ outcome.NoMemory)
         → Tells words t files (call_between old new before now) result
-    told-lacking lacks told = record { told = inl (is-lacking result (λ other. (told other).1 lacks)); nothing = nothing-printed; only = only }
+    told-lacking lacks told = record { told = inl (is-lacking result (λ other. told other lacks)); nothing = nothing-printed; only = only }
 
     -- either of these
     pub told-either : (answer ≡ outcome.NoMemory) ⊎ EndsOver files t answer details
-        → (result ≢ outcome.NoMemory → (answer ≢ outcome.WriteFault) × (answer ≢ outcome.NoMemory))
+        → (result ≢ outcome.NoMemory → answer ≢ outcome.NoMemory)
         → Tells words t files (call_between old new before now) result
     told-either (inl lacks) told = told-lacking lacks told
     told-either (inr ends) told = told-printed ends

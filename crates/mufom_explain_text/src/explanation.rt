@@ -160,22 +160,25 @@ impl<'a> Lines for Explanation<'a> {
 
 // The error line of an outcome, or `done` if it has none.
 fn outcome_line(alloc: Global, answer: &Outcome) -> Result<Vec<u8>, NoMemory>
+    requires { answer.now ≢ Outcome.WriteFault }
     ensures line { IfOk result (λ text. text.items ≡ line_of answer.now) }
-    ensures told { IfOk result (λ text. (answer.now ≢ Outcome.WriteFault) × (answer.now ≢ Outcome.NoMemory)) }
+    ensures told { IfOk result (λ text. answer.now ≢ Outcome.NoMemory) }
 {
     match answer {
         Outcome::Done => Ok(Vec::from_slice(alloc, b"done\n")?),
         Outcome::Refused(refusal) => refusal_line(alloc, refusal),
         Outcome::Usage(fault) => Ok(Vec::from_slice(alloc, usage_line(*fault).as_bytes())?),
         Outcome::ReadFault(input) => Ok(fault_line(alloc, *input)?.into_bytes()),
-        Outcome::WriteFault | Outcome::NoMemory => Err(NoMemory),
+        Outcome::WriteFault => unreachable!(),
+        Outcome::NoMemory => Err(NoMemory),
     }
 }
 
 // The first line of an explanation.
 fn first_line(alloc: Global, cause: &Cause<'_>) -> Result<Vec<u8>, NoMemory>
+    requires { cause_outcome cause.now ≢ Outcome.WriteFault }
     ensures line { IfOk result (λ text. text.items ≡ line_of (cause_outcome cause.now)) }
-    ensures told { IfOk result (λ text. (cause_outcome cause.now ≢ Outcome.WriteFault) × (cause_outcome cause.now ≢ Outcome.NoMemory)) }
+    ensures told { IfOk result (λ text. cause_outcome cause.now ≢ Outcome.NoMemory) }
 {
     match cause {
         Cause::Outcome(outcome) => outcome_line(alloc, outcome),
@@ -187,6 +190,8 @@ fn first_line(alloc: Global, cause: &Cause<'_>) -> Result<Vec<u8>, NoMemory>
 }
 
 /// Prints how a run with these arguments ends: the error line, what that names, and the help text on it.
+/// The run is explained before it writes anything, so it does not end with a write fault.
+///
 /// Returns the outcome of the explanation, whose error line is not printed yet. It is out of memory if memory
 /// runs out here or ran out in that run; then nothing is printed.
 pub fn print_explanation<H: Host>(
@@ -196,9 +201,10 @@ pub fn print_explanation<H: Host>(
     details: &Details<'_>,
     host: &mut H,
 ) -> Outcome
+    requires { cause_outcome cause.now ≢ Outcome.WriteFault }
     ensures answer { IsPrinted (explain_text (map (λ word. string_bytes word) words.now) (cause_outcome cause.now) (told_text details.now))
         (call_of H.meaning H.faults host.old host.new) result }
-    ensures told { result ≢ Outcome.NoMemory → (cause_outcome cause.now ≢ Outcome.WriteFault) × (cause_outcome cause.now ≢ Outcome.NoMemory) }
+    ensures told { result ≢ Outcome.NoMemory → cause_outcome cause.now ≢ Outcome.NoMemory }
     ensures only { OnlyPrints (H.meaning host.old) (H.meaning host.new) (H.faults host.old) (H.faults host.new) }
 {
     let Ok(line) = first_line(alloc, cause) else {

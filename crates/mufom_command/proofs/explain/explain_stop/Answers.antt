@@ -1,8 +1,11 @@
 use Rattle.std.proofs.Common.{List, map, ℕ}
 use Rattle.std.specs.String.{string_bytes}
-use Rattle.mufom_explain_text.proofs.ExplainReading.{lacking-all, words-explain}
+use Rattle.mufom_explain_text.proofs.ExplainReading.{lacking-all, words-explain, words-unwritten}
 use Rattle.mufom_explain_text.specs.Told.{told_text}
 use Rattle.mufom_command.proofs.explain.explain_stop.Goals as goal
+
+pub print_explanation-requires : goal.print_explanation-requires
+print_explanation-requires g c = words-unwritten c.args.stop c.outcome_of_stop-answer.result c.outcome_of_stop-answer.ensures
 
 pub returns : goal.returns
 returns g c =

@@ -1,12 +1,13 @@
 use Rattle.std.proofs.Common.{List, arith, map, refl, ℕ}
 use Rattle.std.specs.String.{string_bytes}
 use Rattle.mufom_host.specs.World.{OnlyPrints}
-use Rattle.mufom_explain_text.proofs.ExplainReading.{inputs-end, task-opens, unread-explains, untold-explains}
+use Rattle.mufom_explain_text.proofs.ExplainReading.{inputs-end, never-written, task-opens, unread-explains, untold-explains}
 use Rattle.mufom_explain_text.proofs.ToldLaws.{told-all}
 use Rattle.mufom_prepare.proofs.WorkLaws.{linking-begins, read-from}
 use Rattle.mufom_explain_text.specs.Told.{told_text}
 use Rattle.mufom_works.specs.Works.{linked_file}
-use Rattle.mufom_task.specs.InputsRead.{inputs_in}
+use Rattle.mufom_task.specs.InputsRead.{InputsStop, inputs_in}
+use Rattle.mufom_task.specs.Calls.{call_of}
 use Rattle.mufom_task.specs.declared.task.Task.TheVariants as task
 use Rattle.mufom_origins.specs.Words.{all_files}
 use Rattle.mufom_explain_modules.proofs.explain_modules.explain_link.Goals as goal
@@ -21,6 +22,11 @@ returns-in-Ok g c =
     told-all words (task.Link inputs name out) c.requires.asks old mid new before between now read.only read.all c.explain_linked.result
     (c.explain_linked.ensures old.files
     (read-from old.files inputs (all_files c.in-Ok.loaded.files) c.in-Ok.loaded.plan c.in-Ok.loaded.modules read.read read.files))
+
+pub print_explanation-requires : goal.print_explanation-requires
+print_explanation-requires g c =
+    never-written (InputsStop c.args.inputs.now (call_of g.H.World.meaning g.H.World.faults c.args.host.now c.read_or_unread.new.host)) (λ never. never)
+    c.in-Err.unread.outcome c.in-Err.ensures.stops
 
 pub returns-in-Ok-unread_details : goal.returns-in-Ok-unread_details
 returns-in-Ok-unread_details g c =

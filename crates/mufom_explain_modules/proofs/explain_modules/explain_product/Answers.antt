@@ -1,6 +1,6 @@
 use Rattle.std.proofs.Common.{List, [], Option, map, subst, ℕ}
 use Rattle.std.specs.String.{string_bytes}
-use Rattle.mufom_explain_modules.proofs.ToldEnds.{product-over, unmade-over}
+use Rattle.mufom_explain_modules.proofs.ToldEnds.{product-over, unmade-over, unmade-unwritten}
 use Rattle.mufom_explain_text.proofs.ToldLaws.{told-either, told-printed}
 use Rattle.mufom_works.specs.ExplainText.{explain_text}
 use Rattle.mufom_works.specs.InputLines.{untried_lines}
@@ -24,6 +24,10 @@ returns-in-Ok g c = λ files inputs keep plan ms read are.
     (subst (λ (o : Option (List ℕ)). IsPrinted (explain_text words outcome.Done (untried_lines o)) (call_between old new before now) c.print_done.result)
     c.file_of-out.ensures c.print_done.ensures.answer)
     (product-over files inputs names keep made plan ms read c.args.location are c.in-Ok.field-0 c.in-Ok.ensures.ok)
+
+pub print_explanation-requires : goal.print_explanation-requires
+print_explanation-requires g c =
+    unmade-unwritten c.args.product.now (all_files c.args.names) c.args.location c.in-Err.answer c.in-Err.ensures.stops
 
 pub returns : goal.returns
 returns g c = λ files inputs keep plan ms read are.
