@@ -13,7 +13,7 @@ use Rattle.mufom_task.proofs.InputLaws.{call_between}
 use Rattle.mufom_works.specs.Making.{IsMade, IsPrinted}
 use Rattle.mufom_prepare.specs.declared.ready.Ready.{Ready}
 use Rattle.mufom_prepare.specs.Ready.{IsHelp}
-use Rattle.mufom_put_out.specs.PutOut.{IsPutOut}
+use Rattle.mufom_command.specs.PutOut.{IsPutOut}
 use Rattle.mufom_works.specs.Run.{AnswersFor, BeginsFile, IsOutput, MakesFile, PutsOutNothing}
 use Rattle.mufom_command.specs.RunParts.{Does}
 use Rattle.mufom_prepare.specs.Prepared.{IsHelpTask, IsUnprepared, PrintsHelpText}

@@ -16,7 +16,7 @@ use Rattle.mufom_outcome.specs.declared.outcome.Outcome.TheVariants as outcome
 use Rattle.mufom_task.specs.Ends.{OverFiles}
 use Rattle.mufom_task.specs.Tasks.{request_by, request_of}
 use Rattle.mufom_command.specs.RunParts.{AsksForHelp, IsPrintedAs, MayLackMemory}
-use Rattle.mufom_put_out.specs.PutOut.{NeedsNoMemory}
+use Rattle.mufom_command.specs.PutOut.{NeedsNoMemory}
 
 -- what holds of all lists of files
 pub over-all : (reads : Bool) (P : List NamedFile → Type 0) (files : Option (List NamedFile)) → ((fs : List NamedFile) → P fs) → OverFiles reads files P

@@ -1,3 +1,5 @@
+pub mod MakingLaws
+pub mod WritingLaws
 pub mod HelpLaws
 pub mod DoesLaws
 pub mod AnswerLaws

@@ -1,2 +1,4 @@
+pub mod TextLines
+pub mod PutOut
 pub mod RunParts
 pub mod Contract

@@ -8,15 +8,15 @@ ghost use Rattle.mufom_task.specs.Sound.{IsSoundRequest, IsSoundTask};
 ghost use Rattle.mufom_command.specs.Contract.{IsRun};
 ghost use Rattle.mufom_command.specs.RunParts.{AsksForHelp, Does, DoesWith, DoesWords};
 ghost use Rattle.mufom_prepare.specs.Prepared.{IsHelpTask};
-ghost use Rattle.mufom_put_out.specs.PutOut.{NeedsNoMemory};
+ghost use Rattle.mufom_command.specs.PutOut.{NeedsNoMemory};
 
 use crate::error_output::print_error_line;
 use crate::explain::explain;
+use crate::output::put_out;
 use mufom_host::Host;
 use mufom_numbers::NoMemory;
 use mufom_outcome::{Outcome, outcome_of_stop};
 use mufom_prepare::prepare;
-use mufom_put_out::put_out;
 use mufom_task::{Request, Task, request_of};
 use mufom_words::read_words;
 use std::alloc::Global;

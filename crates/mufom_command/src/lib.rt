@@ -10,8 +10,7 @@
 //! outcome, and what its error line names.
 //!
 //! A task is done in two steps: `prepare` of `mufom_prepare` reads its inputs and completes its output, and
-//! `put_out` of `mufom_put_out` prints or writes that. `explain` takes the first step alone, and prints how the
-//! task ends.
+//! `put_out` prints or writes that. `explain` takes the first step alone, and prints how the task ends.
 //!
 //! The main clause is the contract of [`run`]: each outcome has its cause in the arguments, the files or the
 //! counts of I/O errors, and it states exactly what is output, printed as errors, and opened.
@@ -20,6 +19,8 @@
 mod command;
 mod error_output;
 mod explain;
+mod output;
+mod writing;
 
 pub use command::run;
 pub use mufom_outcome::{Input, Outcome, Refusal};

@@ -1,6 +1,6 @@
-use Rattle.mufom_put_out.proofs.MakingLaws.{cut-made}
+use Rattle.mufom_command.proofs.MakingLaws.{cut-made}
 use Rattle.mufom_module.specs.Written.{written}
-use Rattle.mufom_put_out.proofs.writing.make_file.Goals as goal
+use Rattle.mufom_command.proofs.writing.make_file.Goals as goal
 
 pub returns-in-Err : goal.returns-in-Err
 returns-in-Err g c =

@@ -1,9 +1,9 @@
 use Rattle.std.proofs.Common.{flat_map}
 use Rattle.mufom_host.proofs.Composing.{MakingGrowsByPrefix-more}
 use Rattle.mufom_titxt.specs.Written.{end_text}
-use Rattle.mufom_put_out.specs.TextLines.{run_lines}
-use Rattle.mufom_put_out.proofs.WritingLaws.{end-written}
-use Rattle.mufom_put_out.proofs.writing.write_txt.Goals as goal
+use Rattle.mufom_command.specs.TextLines.{run_lines}
+use Rattle.mufom_command.proofs.WritingLaws.{end-written}
+use Rattle.mufom_command.proofs.writing.write_txt.Goals as goal
 
 pub returns-in-Err-clause-prefix : goal.returns-in-Err-clause-prefix
 returns-in-Err-clause-prefix g c =

@@ -1,9 +1,9 @@
 use Rattle.std.proofs.Common.{◌+◌, ℕ, List, drop, flat_map, subst, take}
 use Rattle.mufom_host.specs.World.{MakingGrowsByPrefix}
 use Rattle.mufom_titxt.specs.Written.{run_text}
-use Rattle.mufom_put_out.specs.TextLines.{run_lines}
-use Rattle.mufom_put_out.proofs.WritingLaws.{cut-at, written-part}
-use Rattle.mufom_put_out.proofs.writing.write_runs.Goals as goal
+use Rattle.mufom_command.specs.TextLines.{run_lines}
+use Rattle.mufom_command.proofs.WritingLaws.{cut-at, written-part}
+use Rattle.mufom_command.proofs.writing.write_runs.Goals as goal
 
 pub returns-in-Err : goal.returns-in-Err
 returns-in-Err g c =

@@ -2,8 +2,8 @@ use Rattle.std.proofs.Common.{List, ap, subst, sym, ◌∙◌}
 use Rattle.mufom_meaning.specs.AddressMap.{AreApart}
 use Rattle.mufom_meaning.specs.declared.located.LocatedParts.{LocatedParts}
 use Rattle.mufom_meaning.specs.declared.located.Run.{Run}
-use Rattle.mufom_put_out.proofs.WritingLaws.{located-apart}
-use Rattle.mufom_put_out.proofs.output.make_range.Goals as goal
+use Rattle.mufom_command.proofs.WritingLaws.{located-apart}
+use Rattle.mufom_command.proofs.output.make_range.Goals as goal
 
 pub make_range_file-requires : goal.make_range_file-requires
 make_range_file-requires g c =

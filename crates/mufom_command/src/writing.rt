@@ -4,7 +4,7 @@ ghost use Rattle.std.specs.Prelude.{flat_map, All, OnErr, OnOk};
 ghost use Rattle.mufom_host.specs.World.{MakingGrowsBy, MakingGrowsByPrefix, OnlyWrites, Rose};
 ghost use Rattle.mufom_module.specs.Written.{written};
 ghost use Rattle.mufom_task.specs.Calls.{call_of};
-ghost use Rattle.mufom_put_out.specs.TextLines.{HasByte, run_lines};
+ghost use Rattle.mufom_command.specs.TextLines.{HasByte, run_lines};
 ghost use Rattle.mufom_works.specs.Making.{IsMadeAlone};
 ghost use Rattle.mufom_text.specs.Fitting.{FitsIn};
 ghost use Rattle.mufom_titxt.specs.Written.{txt_text};

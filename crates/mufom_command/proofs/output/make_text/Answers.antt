@@ -1,12 +1,12 @@
 use Rattle.std.proofs.Common.{List, ap, subst, sym, ◌∙◌}
-use Rattle.mufom_put_out.proofs.WritingLaws.{located-bytes}
-use Rattle.mufom_put_out.specs.TextLines.{HasByte}
+use Rattle.mufom_command.proofs.WritingLaws.{located-bytes}
+use Rattle.mufom_command.specs.TextLines.{HasByte}
 use Rattle.mufom_meaning.specs.declared.located.LocatedParts.{LocatedParts}
 use Rattle.mufom_meaning.specs.declared.located.Run.{Run}
 use Rattle.mufom_text.proofs.FitLaws.{located-fits}
 use Rattle.mufom_text.specs.Fitting.{FitsIn}
 use Rattle.std.specs.Prelude.{All}
-use Rattle.mufom_put_out.proofs.output.make_text.Goals as goal
+use Rattle.mufom_command.proofs.output.make_text.Goals as goal
 
 pub make_text_file-requires-clause-some : goal.make_text_file-requires-clause-some
 make_text_file-requires-clause-some g c =

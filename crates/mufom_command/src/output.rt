@@ -13,8 +13,7 @@ ghost use Rattle.mufom_task.specs.Calls.{call_of};
 ghost use Rattle.mufom_prepare.specs.Locations.{shown_of, AreLocated};
 ghost use Rattle.mufom_works.specs.Making.{IsMadeAlone, IsPrinted};
 ghost use Rattle.mufom_prepare.specs.Ready.{ready_output, IsHelp, IsReady};
-ghost use Rattle.mufom_put_out.specs.PutOut.{IsPutOut};
-ghost use Rattle.mufom_put_out.specs.PutOut.{NeedsNoMemory};
+ghost use Rattle.mufom_command.specs.PutOut.{IsPutOut, NeedsNoMemory};
 
 use crate::writing::{make_file, make_range_file, make_raw_file, make_text_file};
 use mufom_host::{Failed, Host};
@@ -182,7 +181,7 @@ fn make_range<H: Host>(
 
 /// Prints or writes an output. Returns the outcome, whose error line is not printed yet: `Done`, or a write
 /// fault; or out of memory if there is none for the page of a text, and then nothing is printed.
-pub fn put_out<H: Host>(alloc: Global, ready: &Ready<'_>, host: &mut H) -> Outcome
+pub(crate) fn put_out<H: Host>(alloc: Global, ready: &Ready<'_>, host: &mut H) -> Outcome
     requires { IsReady ready.now }
     ensures puts { IsPutOut (ready_output ready.now) (call_of H.meaning H.faults host.old host.new) result }
     ensures memory { IsHelp ready.now → NeedsNoMemory result }

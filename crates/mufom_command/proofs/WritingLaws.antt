@@ -15,7 +15,7 @@ use Rattle.mufom_meaning.specs.AddressMap.{AreApart}
 use Rattle.mufom_meaning.proofs.Members.{All-In, In}
 use Rattle.mufom_located.specs.Located.{IsLocated}
 use Rattle.mufom_write.specs.Writing.{Writes}
-use Rattle.mufom_put_out.specs.TextLines.{HasByte}
+use Rattle.mufom_command.specs.TextLines.{HasByte}
 
 -- ---- runs that can be written
 

@@ -1,7 +1,7 @@
 use Rattle.std.proofs.Common.{flat_map, take}
 use Rattle.mufom_host.specs.Spans.{AfterWrites}
-use Rattle.mufom_put_out.specs.TextLines.{run_lines}
-use Rattle.mufom_put_out.proofs.writing.write_runs.Given as goal
+use Rattle.mufom_command.specs.TextLines.{run_lines}
+use Rattle.mufom_command.proofs.writing.write_runs.Given as goal
 
 abbrev pub invariant-loop-run : goal.invariant-loop-run
 invariant-loop-run g l =

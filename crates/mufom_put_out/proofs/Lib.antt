@@ -1,2 +1,0 @@
-pub mod MakingLaws
-pub mod WritingLaws

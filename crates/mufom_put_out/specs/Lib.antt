@@ -1,2 +1,0 @@
-pub mod TextLines
-pub mod PutOut
