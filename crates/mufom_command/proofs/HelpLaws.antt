@@ -3,7 +3,6 @@ use Rattle.std.proofs.Common.{◌≡◌, ◌≢◌, Bool, true, false, ◌||◌,
 use Rattle.std.proofs.Common.{subst, ◌∙◌, inl, inr}
 use Rattle.std.specs.Result.{result_unwrap_or}
 use Rattle.std.specs.Str.{bytes_eq}
-use Rattle.mufom_host.specs.World.{NamedFile}
 use Rattle.mufom_words.specs.declared.command.Command.{Command}
 use Rattle.mufom_words.specs.declared.command.Verb.{Verb}
 use Rattle.mufom_words.specs.declared.command.Verb.TheVariants as verb
@@ -13,16 +12,9 @@ use Rattle.mufom_words.specs.Help.{own_command, own_text, own_verb, printing}
 use Rattle.mufom_words.specs.Options.{Text, prints_help}
 use Rattle.mufom_outcome.specs.declared.outcome.Outcome.{Outcome}
 use Rattle.mufom_outcome.specs.declared.outcome.Outcome.TheVariants as outcome
-use Rattle.mufom_task.specs.Ends.{OverFiles}
 use Rattle.mufom_task.specs.Tasks.{request_by, request_of}
 use Rattle.mufom_command.specs.RunParts.{AsksForHelp, IsPrintedAs, MayLackMemory}
 use Rattle.mufom_command.specs.PutOut.{NeedsNoMemory}
-
--- what holds of all lists of files
-pub over-all : (reads : Bool) (P : List NamedFile → Type 0) (files : Option (List NamedFile)) → ((fs : List NamedFile) → P fs) → OverFiles reads files P
-over-all false P files all = all
-over-all true P None all = tt
-over-all true P (Some fs) all = all fs
 
 -- it prints a text of the program
 abbrev IsOwn : Verb → Type 0
