@@ -93,7 +93,8 @@ module _ (t : Task) (old mid : Meaning) (before between : Faults) (only : OnlyOp
         printed-answers (outcome.Usage f) is = absurd is
         printed-answers (outcome.ReadFault i) is = absurd is
 
-        printed-count : (result : Outcome) → IsPrinted text (call_between mid new between now) result → IsOpenedCount (inputs_of t) result (length (input_names (inputs_of t)))
+        printed-count : (result : Outcome) → IsPrinted text (call_between mid new between now) result
+            → IsOpenedCount (inputs_of t) result (length (input_names (inputs_of t)))
         printed-count outcome.Done is = refl
         printed-count outcome.WriteFault is = refl
         printed-count outcome.NoMemory is = tt
@@ -162,7 +163,8 @@ module _ (t : Task) (old mid : Meaning) (before between : Faults) (only : OnlyOp
         made-answers (outcome.Usage f) is = absurd is
         made-answers (outcome.ReadFault i) is = absurd is
 
-        made-count : (result : Outcome) → IsMade name bytes (call_between mid new between now) result → IsOpenedCount (inputs_of t) result (length (input_names (inputs_of t)))
+        made-count : (result : Outcome) → IsMade name bytes (call_between mid new between now) result
+            → IsOpenedCount (inputs_of t) result (length (input_names (inputs_of t)))
         made-count outcome.Done is = refl
         made-count outcome.WriteFault is = refl
         made-count outcome.NoMemory is = tt

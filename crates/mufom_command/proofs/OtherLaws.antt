@@ -147,7 +147,8 @@ keeps-none plan none files (outcome.ReadFault at) = tt
 keeps-none plan none files outcome.WriteFault = tt
 keeps-none plan none files outcome.NoMemory = tt
 
-unread-none : (c : Inputs) (host_tells : Cause) → c.plan ≡ None → (stop : Outcome) (details : List ℕ) → IsInputDetail c host_tells stop details → IsUnreadDetail c host_tells [] stop details
+unread-none : (c : Inputs) (host_tells : Cause) → c.plan ≡ None → (stop : Outcome) (details : List ℕ) → IsInputDetail c host_tells stop details
+    → IsUnreadDetail c host_tells [] stop details
 unread-none c host_tells none (outcome.Refused (refusal.Plan r)) details is = λ name named. absurd (let both : Some name ≡ None = sym named ∙ none in cc)
 unread-none c host_tells none (outcome.Refused (refusal.Read n r)) details is = is
 unread-none c host_tells none (outcome.Refused (refusal.Bin count)) details is = is
@@ -194,8 +195,8 @@ module _ (t : Task) (sound : IsSoundTask t) (other : NamesInputs t) (old mid new
   pub other-explained : EndsFor t (call_between old new before now) stop details
   other-explained = by (reads_files t) refl where
     by : (b : Bool) → reads_files t ≡ b → EndsFor t (call_between old new before now) stop details
-    by true reads = reading-ends t (λ fs. work_of t fs) (other-ends t sound other) (some-file t sound reads) [] old mid before between host_tells (λ fs s ends. ends) reads
-        new now prints stop (reads-stop reads stop is.why) is.opens is.named memory details
+    by true reads = reading-ends t (λ fs. work_of t fs) (other-ends t sound other) (some-file t sound reads) [] old mid before between host_tells
+        (λ fs s ends. ends) reads new now prints stop (reads-stop reads stop is.why) is.opens is.named memory details
         (keeps-none (inputs_of t).plan (no-plan t sound other) old.files stop)
         (unread-none (inputs_of t) host_tells (no-plan t sound other) stop details
         (subst (λ (b : Bool). IsTaskDetail (cond b (Some (inputs_of t)) None) host_tells stop details) reads told))

@@ -64,7 +64,8 @@ module _ (a b c : Meaning) (f g h : Faults) (passed part : List ℕ) (so_far : A
       → HasCause {T = Unit {0}} g.writes h.writes (Err e) → KeepsAllButWrites g h → Writes a c f h all (Err e)
   written-part rest all whole e prefix stays cause counts = record {
     added = subst (λ (l : List ℕ). MakingGrowsByPrefix a.making c.making l) whole
-        (MakingGrowsByPrefix-trans a.making b.making c.making passed (part ++ rest) so_far.added (MakingGrowsByPrefix-more b.making c.making part rest prefix));
+        (MakingGrowsByPrefix-trans a.making b.making c.making passed (part ++ rest) so_far.added
+        (MakingGrowsByPrefix-more b.making c.making part rest prefix));
     stays = KeepsAllButMaking-trans a b c so_far.stays stays;
     cause = record { later = omega (arith, so_far.later, cause.later); failed = later-Rose f.writes g.writes h.writes so_far.later cause.failed };
     counts = KeepsAllButWrites-trans f g h so_far.counts counts;

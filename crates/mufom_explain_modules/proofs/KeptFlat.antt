@@ -141,7 +141,8 @@ rest-some : (roots : Roots) (M : Parts) (o : Option (List ℕ)) (own : Kept) →
 rest-some roots M (Some name) own never = absurd never
 rest-some roots M None own (marks, is_kept, same) = (remains M marks, ap (λ (k : Kept). k.rest) same)
 
-alike-rest : (own kept : Kept) (c : Remains) (object : Parts) → own.rest ≡ Some c → own.modules ≡ object ∷ [] → AreAlike own kept → IsObjectBy kept.rest kept.modules object
+alike-rest : (own kept : Kept) (c : Remains) (object : Parts) → own.rest ≡ Some c → own.modules ≡ object ∷ [] → AreAlike own kept
+    → IsObjectBy kept.rest kept.modules object
 alike-rest own kept c object rest modules (inl same) =
     subst (λ (k : Kept). IsObjectBy k.rest k.modules object) same (subst (λ (r : Option Remains). IsObjectBy r own.modules object) (sym rest) modules)
 alike-rest own kept c object rest modules (inr (none, no_rest, alike)) =

@@ -36,8 +36,8 @@ use Rattle.mufom_outcome.specs.declared.outcome.Outcome.{Outcome}
 use Rattle.mufom_outcome.specs.declared.outcome.Outcome.TheVariants as outcome
 use Rattle.mufom_outcome.specs.declared.outcome.Refusal.TheVariants as refusal
 use Rattle.mufom_outcome.specs.LocateRefusals.{locate_refusal}
-use Rattle.mufom_outcome.specs.Stop.{Stop, words_refused, plan_refused, file_refused, past_limit, link_fact, keep_unknown, name_shared, locate_fact, bytes_refused}
-use Rattle.mufom_outcome.specs.Stop.{text_refused, listing_refused, too_many_modules}
+use Rattle.mufom_outcome.specs.Stop.{Stop, words_refused, plan_refused, file_refused, past_limit, link_fact, keep_unknown, name_shared, locate_fact}
+use Rattle.mufom_outcome.specs.Stop.{bytes_refused, text_refused, listing_refused, too_many_modules}
 use Rattle.mufom_task.specs.declared.task.Inputs.{Inputs}
 use Rattle.mufom_task.specs.declared.task.Product.{Product}
 use Rattle.mufom_task.specs.declared.task.Task.{Task}
@@ -266,7 +266,8 @@ module _ (files : Option (List NamedFile)) (c : Inputs) (names : ModuleFiles) (k
       by (past_limit n) of_modules same ends = absurd of_modules
       by (too_many_modules n) of_modules same ends = absurd of_modules
 
-      both : EndsAt (kept_of (roots_by keep plan) (modules_of flat)) (outcome.Refused (refusal.Keep name)) → EndsOver files t (outcome.Refused (refusal.Keep name)) details
+      both : EndsAt (kept_of (roots_by keep plan) (modules_of flat)) (outcome.Refused (refusal.Keep name))
+          → EndsOver files t (outcome.Refused (refusal.Keep name)) details
       both (inl same) = absurd cc
       both (inr (s, of_modules, same, ends)) = by s of_modules same ends
 
@@ -335,8 +336,8 @@ module _ (files : Option (List NamedFile)) (c : Inputs) (names : ModuleFiles) (k
               → locate_details (own_explained object) r
               ≡ locate_details (record (own_explained object) { modules = shown_list is.kept.modules plan }) r
           explained-with [] empty same r =
-              subst (λ (o : Parts). locate_details (own_explained o) r ≡ locate_details (record (own_explained o) { modules = shown_list is.kept.modules plan })
-              r) (sym same)
+              subst (λ (o : Parts). locate_details (own_explained o) r
+              ≡ locate_details (record (own_explained o) { modules = shown_list is.kept.modules plan }) r) (sym same)
               (explained-alike (own_explained part) (part ∷ []) (shown_list is.kept.modules plan)
               (subst (λ (l : List Parts). MeansTheSame (part ∷ []) l) (sym (without-symbols is.kept.modules plan empty)) is.keeps.same.means) r)
           explained-with (symbol ∷ more) some (joined, means) r =
@@ -420,8 +421,8 @@ module _ (files : Option (List NamedFile)) (c : Inputs) (names : ModuleFiles) (k
             locate-over object (overflow section address kind size value)
             (listed (planned_answer (part ∷ []) plan) (overflow section address kind size value) met) is_object (λ same. cc) details are
         obstacle-over object is_object (locate.LoadOutside section address) memory met details are =
-            locate-over object (load_outside section address) (listed (planned_answer (part ∷ []) plan) (load_outside section address) met) is_object (λ same. cc)
-            details are
+            locate-over object (load_outside section address) (listed (planned_answer (part ∷ []) plan) (load_outside section address) met) is_object
+            (λ same. cc) details are
         obstacle-over object is_object (locate.LoadedTwice address) memory met details are =
             locate-over object (loaded_twice address) (listed (planned_answer (part ∷ []) plan) (loaded_twice address) met) is_object (λ same. cc) details are
         obstacle-over object is_object (locate.ImageLimit count) memory met details are =

@@ -69,7 +69,8 @@ module _ (words : List (List ℕ)) (old mid : Meaning) (before between : Faults)
         count = is.count;
         exact = is.exact;
         within = is.within;
-        opened = subst (λ (o : Option (List (List ℕ))). OnSome o (GrowsBy old.opened o (take is.count (input_names (inputs_of t))))) (sym opened-same) is.opened;
+        opened =
+            subst (λ (o : Option (List (List ℕ))). OnSome o (GrowsBy old.opened o (take is.count (input_names (inputs_of t))))) (sym opened-same) is.opened;
       }
       of-request request.Explain is = opened-same ∙ is
     opens-later (Err s) answer is = opened-same ∙ is

@@ -1,7 +1,7 @@
 -- Explaining a task that was stopped while its inputs were read: the line of the input that its outcome names. And the end of what was
 -- explained is told, unless memory ran out.
-use Rattle.std.proofs.Common.{◌≡◌, ◌≢◌, ◌⊎◌, ℕ, ◌+◌, ◌<◌, ◌≤◌, Bool, true, false, List, [], ◌∷◌, length, nat_lt, Option, Some, None, Result, Ok, Err, IfSome, IsSome}
-use Rattle.std.proofs.Common.{option_to_list, refl, sym, ap, subst, ◌∙◌, inl, inr, arith}
+use Rattle.std.proofs.Common.{◌≡◌, ◌≢◌, ◌⊎◌, ℕ, ◌+◌, ◌<◌, ◌≤◌, Bool, true, false, List, [], ◌∷◌, length, nat_lt, Option, Some, None, Result, Ok, Err}
+use Rattle.std.proofs.Common.{IfSome, IsSome, option_to_list, refl, sym, ap, subst, ◌∙◌, inl, inr, arith}
 use Rattle.std.proofs.lemmas.List.{length-append}
 use Rattle.mufom_numbers.specs.declared.limits.TheConstants.{MOST_FILE_BYTES}
 use Rattle.mufom_host.specs.World.{Faults, Meaning, NamedFile, OnlyOpens, OnlyPrints, Rose}
@@ -22,8 +22,8 @@ use Rattle.mufom_outcome.specs.declared.outcome.Outcome.{Outcome}
 use Rattle.mufom_outcome.specs.declared.outcome.Outcome.TheVariants as outcome
 use Rattle.mufom_outcome.specs.declared.outcome.Refusal.TheVariants as refusal
 use Rattle.mufom_outcome.specs.Outcomes.{stop_answer}
-use Rattle.mufom_outcome.specs.Stop.{Stop, words_refused, plan_refused, file_refused, past_limit, link_fact, keep_unknown, name_shared, locate_fact, bytes_refused}
-use Rattle.mufom_outcome.specs.Stop.{text_refused, listing_refused, too_many_modules}
+use Rattle.mufom_outcome.specs.Stop.{Stop, words_refused, plan_refused, file_refused, past_limit, link_fact, keep_unknown, name_shared, locate_fact}
+use Rattle.mufom_outcome.specs.Stop.{bytes_refused, text_refused, listing_refused, too_many_modules}
 use Rattle.mufom_task.specs.declared.task.Inputs.{Inputs}
 use Rattle.mufom_task.specs.declared.task.Request.{Request}
 use Rattle.mufom_task.specs.declared.task.Request.TheVariants as request
@@ -302,7 +302,8 @@ module _ (words : List (List ℕ)) (t : Task) (asks : AskFor words (request.Run 
       → Explains words (call_between old new before now) result
   unread-explains reading ends begins of_files some stop why opens named host_tells text details keeps is result printed told =
       task-explains stop opens details
-      (λ memory. reading-ends t reading ends some text old mid before between host_tells begins of_files new now prints stop why opens named memory details keeps is)
+      (λ memory. reading-ends t reading ends some text old mid before between host_tells begins of_files new now prints stop why opens named memory details
+      keeps is)
       result printed told
 
 -- ---- arguments that ask for none
@@ -318,7 +319,8 @@ module _ (words : List (List ℕ)) (old : Meaning) (before : Faults) where
   module _ (new : Meaning) (now : Faults) (prints : OnlyPrints old new before now) (answer result : Outcome) (details : List ℕ)
       (put : IsPrinted (explain_text words answer details) (call_between old new before now) result)
       (told : result ≢ outcome.NoMemory → answer ≢ outcome.NoMemory) where
-    wrong-words : (stop : WordsStop) → answer ≡ stop_answer stop → answer_of words ≡ Err stop → details ≡ usage_lines words stop → Explains words (call_between old new before now) result
+    wrong-words : (stop : WordsStop) → answer ≡ stop_answer stop → answer_of words ≡ Err stop → details ≡ usage_lines words stop
+        → Explains words (call_between old new before now) result
     wrong-words stop is refused are =
         printed-explains words old old before before no_input new now prints answer
         (subst (λ (r : Result Command WordsStop). OpensBy r (call_between old old before before) answer) (sym refused) refl) details
@@ -329,14 +331,16 @@ module _ (words : List (List ℕ)) (old : Meaning) (before : Faults) where
         → details ≡ usage_lines words stop → Explains words (call_between old new before now) result
     words-explain words_stop.NoMemory is refused are =
         printed-explains words old old before before no_input new now prints answer
-        (subst (λ (o : Outcome). OpensBy (answer_of words) (call_between old old before before) o) (sym is) (opens-nothing (answer_of words) old before)) details
+        (subst (λ (o : Outcome). OpensBy (answer_of words) (call_between old old before before) o) (sym is) (opens-nothing (answer_of words) old before))
+        details
         (λ memory. absurd (memory is)) result put told
     words-explain (words_stop.Usage f) is refused are = wrong-words (words_stop.Usage f) is (refused (λ same. cc)) are
     words-explain (words_stop.TooManyFiles n) is refused are = wrong-words (words_stop.TooManyFiles n) is (refused (λ same. cc)) are
     words-explain (words_stop.TooDeep n) is refused are = wrong-words (words_stop.TooDeep n) is (refused (λ same. cc)) are
 
     -- they ask for an explanation
-    pub again-explains : AskFor words request.Explain → answer ≡ stop_answer not_explained → details ≡ [] → Explains words (call_between old new before now) result
+    pub again-explains : AskFor words request.Explain → answer ≡ stop_answer not_explained → details ≡ []
+        → Explains words (call_between old new before now) result
     again-explains asks is none =
         printed-explains words old old before before no_input new now prints answer
         (subst (λ (r : Result Command WordsStop). OpensBy r (call_between old old before before) answer) (sym asks.given)

@@ -4,7 +4,8 @@ use Rattle.mufom_command.proofs.writing.make_range_file.Goals as goal
 
 pub returns-in-Err : goal.returns-in-Err
 returns-in-Err g c =
-    cut-made c.args.name.now (range_image c.args.fill c.args.from c.args.count c.args.runs.now) (g.H.World.meaning c.args.host.now) (g.H.World.meaning c.create.new.self)
+    cut-made c.args.name.now (range_image c.args.fill c.args.from c.args.count c.args.runs.now) (g.H.World.meaning c.args.host.now)
+    (g.H.World.meaning c.create.new.self)
     (g.H.World.meaning c.write_range.new.sink) (g.H.World.meaning c.finish-finished.new.self)
     (g.H.World.faults c.args.host.now) (g.H.World.faults c.create.new.self) (g.H.World.faults c.write_range.new.sink)
     (g.H.World.faults c.finish-finished.new.self)

@@ -20,8 +20,8 @@ returns-in-Ok-link_file g c = λ files read.
     let before = g.H.World.faults c.args.host.now in let now = g.H.World.faults c.print_done.new.host in
     let inputs = c.args.inputs.now in let name = c.args.name.now in let out = c.args.out.now in let loaded = c.args.loaded.now in
     let tree = tree_of inputs.marks in
-    told-printed words (task.Link inputs name out) files old new before now c.print_done.ensures.only outcome.Done (untried_lines (Some out)) c.print_done.result
-    c.print_done.ensures.answer
+    told-printed words (task.Link inputs name out) files old new before now c.print_done.ensures.only outcome.Done (untried_lines (Some out))
+    c.print_done.result c.print_done.ensures.answer
     (link-over files inputs name out (all_files loaded.files) loaded.plan loaded.modules read c.in-Ok-link_file.field-0
     (subst (λ (l : List Parts). MakesLink tree name out l c.in-Ok-link_file.field-0) (c.in-Ok.ensures ∙ c.as_slice-modules.ensures)
     c.in-Ok-link_file.ensures.ok))

@@ -38,8 +38,8 @@ returns-in-Ok-unread_details g c =
     unread-explains words (task.Locate inputs keep p) c.requires.asks old mid before between read.only new now put.only (λ fs. inputs_in fs inputs)
     (inputs-end inputs)
     (locating-begins keep p inputs) refl (omega (arith, some, within)) c.in-Err.unread.outcome
-    read.stops read.opened read.named c.cause-told.result c.in-Err.unread.plan.items (told_text c.in-Ok-unread_details.details) read.text c.in-Ok-unread_details.ensures
-    c.print_explanation.result put.answer put.told
+    read.stops read.opened read.named c.cause-told.result c.in-Err.unread.plan.items (told_text c.in-Ok-unread_details.details) read.text
+    c.in-Ok-unread_details.ensures c.print_explanation.result put.answer put.told
 
 pub returns-in_default : goal.returns-in_default
 returns-in_default g c =
@@ -49,4 +49,5 @@ returns-in_default g c =
     let read = c.in-Err.ensures in let inputs = c.args.inputs.now in let keep = c.args.keep.now in let p = c.args.product.now in
     let nothing : OnlyPrints mid mid between between = (refl, refl, omega arith) in
     untold-explains words old mid before between read.only mid between nothing c.in-Err.unread.outcome
-    (task-opens words (task.Locate inputs keep p) c.requires.asks old mid before between read.only mid between nothing c.in-Err.unread.outcome read.opened) refl
+    (task-opens words (task.Locate inputs keep p) c.requires.asks old mid before between read.only mid between nothing c.in-Err.unread.outcome read.opened)
+    refl

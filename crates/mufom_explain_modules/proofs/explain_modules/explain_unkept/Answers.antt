@@ -12,5 +12,7 @@ pub returns-in-Unknown : goal.returns-in-Unknown
 returns-in-Unknown g c = λ files inputs plan ms keep made is.
     c.explain_unknown.ensures files inputs plan ms keep made (record {
       linked = is.linked;
-      ends = subst (λ (r : PruneRefusal). EndsAt (kept_of (roots_by keep plan) (modules_of (flat_of c.args.flat.now))) (outcome_of_prune r)) c.in-Unknown.is is.ends;
+      ends =
+          subst (λ (r : PruneRefusal). EndsAt (kept_of (roots_by keep plan) (modules_of (flat_of c.args.flat.now))) (outcome_of_prune r)) c.in-Unknown.is
+          is.ends;
     })
