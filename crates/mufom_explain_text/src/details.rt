@@ -1,9 +1,10 @@
 //! The lines about what an outcome names of the arguments, the inputs and the output of a run.
 
-ghost use Rattle.std.specs.Prelude.{◌≡◌, ◌<◌, ◌^◌, ℕ, List as list, Some, length, map, option_map, IfOk};
+ghost use Rattle.std.specs.Prelude.{◌≡◌, ◌<◌, ◌^◌, ℕ, List as list, Some, length, map, option_map, IfOk, IsSome};
 ghost use Rattle.std.specs.String.{string_bytes};
 ghost use Rattle.mufom_explain.specs.Lines.{file_line, plan_line};
-ghost use Rattle.mufom_task.specs.Tasks.{file_of as file_named, out_of as out_named};
+ghost use Rattle.mufom_task.specs.InputsRead.{NamesPlan};
+ghost use Rattle.mufom_task.specs.Tasks.{file_of as file_named, inputs_of as inputs_named, out_of as out_named};
 ghost use Rattle.mufom_works.specs.HasDetails.{inputs_read, IsInputDetail, IsTaskDetail, IsUnreadDetail};
 ghost use Rattle.mufom_works.specs.InputLines.{argument_lines, unread_file, unread_plan, usage_lines};
 ghost use Rattle.mufom_explain_text.specs.Told.{told_text};
@@ -17,13 +18,14 @@ use mufom_task::{Inputs, Product, Task, Unread};
 use mufom_words::{FaultyArgument, WordsStop, faulty_argument};
 use std::alloc::Global;
 
-// The line of the plan, if one is named and could not be read.
+// The line of the plan, which could not be read.
 fn unread_plan_details(inputs: &Inputs, cause: FaultCause) -> Details<'_>
+    requires { IsSome inputs.now.plan }
     ensures { (name : list ℕ) → inputs.now.plan ≡ Some name → told_text result ≡ unread_plan name cause }
 {
     match &inputs.plan {
         Some(name) => Details::UnreadPlan { name, cause },
-        None => Details::Nothing,
+        None => unreachable!(),
     }
 }
 
@@ -38,13 +40,14 @@ fn unread_file_details(inputs: &Inputs, number: u32, cause: FaultCause) -> Detai
     }
 }
 
-// The line of the plan, if one is named.
+// The line of the plan. There must be one.
 fn plan_details(inputs: &Inputs) -> Details<'_>
+    requires { IsSome inputs.now.plan }
     ensures { (name : list ℕ) → inputs.now.plan ≡ Some name → told_text result ≡ plan_line name }
 {
     match &inputs.plan {
         Some(name) => Details::Plan(name),
-        None => Details::Nothing,
+        None => unreachable!(),
     }
 }
 
@@ -61,6 +64,7 @@ fn file_details(inputs: &Inputs, number: u32) -> Details<'_>
 // The line about the input that an outcome names; nothing if it names none. `cause` is what the host tells of
 // its last failed call; it is for an input that could not be read.
 fn input_details<'a>(inputs: &'a Inputs, cause: FaultCause, answer: &Outcome) -> Details<'a>
+    requires { NamesPlan inputs.now.plan answer.now }
     ensures { IsInputDetail inputs.now cause answer.now (told_text result) }
 {
     match answer {
@@ -76,13 +80,14 @@ fn input_details<'a>(inputs: &'a Inputs, cause: FaultCause, answer: &Outcome) ->
 }
 
 /// Returns the lines about the input for which not all inputs were read; the host told this cause of its last
-/// failed call. The only error is out of memory.
+/// failed call. If that input is the plan, one is named. The only error is out of memory.
 pub fn unread_details<'a>(
     alloc: Global,
     inputs: &'a Inputs,
     cause: FaultCause,
     unread: &Unread,
 ) -> Result<Details<'a>, NoMemory>
+    requires { NamesPlan inputs.now.plan unread.now.outcome }
     ensures { IfOk result (λ details. IsUnreadDetail inputs.now cause unread.now.plan.items unread.now.outcome (told_text details)) }
 {
     match &unread.outcome {
@@ -109,9 +114,11 @@ fn inputs_of(task: &Task) -> Option<&Inputs>
     }
 }
 
-/// Returns the line about the input of a task that an outcome names; nothing if it names none. `cause` is what the host tells
-/// of its last failed call; it is for an input that could not be read.
+/// Returns the line about the input of a task that an outcome names; nothing if it names none. An outcome names
+/// the plan only if the task has one. `cause` is what the host tells of its last failed call; it is for an input
+/// that could not be read.
 pub fn task_details<'a>(task: &'a Task, cause: FaultCause, answer: &Outcome) -> Details<'a>
+    requires { NamesPlan (inputs_named task.now).plan answer.now }
     ensures { IsTaskDetail (inputs_read task.now) cause answer.now (told_text result) }
 {
     match inputs_of(task) {

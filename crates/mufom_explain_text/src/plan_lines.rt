@@ -1,6 +1,6 @@
 //! The lines about a plan that is refused.
 
-ghost use Rattle.std.specs.Prelude.{◌≡◌, ◌++◌, ℕ, List as list, Some, IfOk};
+ghost use Rattle.std.specs.Prelude.{◌≡◌, ◌++◌, ℕ, List as list, Some, IfOk, IsSome};
 ghost use Rattle.mufom_explain.specs.Lines.{plan_line};
 ghost use Rattle.mufom_works.specs.PlanLines.{ArePlanLines, is_extra, is_syntax, key_of, key_part, plan_line_at};
 ghost use Rattle.mufom_explain_text.specs.Told.{told_text};
@@ -97,18 +97,20 @@ fn named_plan_details<'a>(
     Ok(Details::PlanKey { name, key })
 }
 
-/// Returns the lines about the plan of some inputs, whose text is refused. The only error is out of memory.
+/// Returns the lines about the plan of some inputs, whose text is refused. The inputs must name a plan. The only
+/// error is out of memory.
 pub(crate) fn refused_plan_details<'a>(
     alloc: Global,
     inputs: &'a Inputs,
     text: &[u8],
     refusal: PlanRefusal,
 ) -> Result<Details<'a>, NoMemory>
+    requires { IsSome inputs.now.plan }
     ensures { IfOk result
         (λ details. (name : list ℕ) → inputs.now.plan ≡ Some name → ArePlanLines name text.now refusal (told_text details)) }
 {
     match &inputs.plan {
         Some(name) => named_plan_details(alloc, name, text, refusal),
-        None => Ok(Details::Nothing),
+        None => unreachable!(),
     }
 }
