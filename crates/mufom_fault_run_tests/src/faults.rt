@@ -1,6 +1,6 @@
 //! Runs in which a call of the host fails.
 
-use mufom_command::{Input, Outcome, Refusal};
+use mufom_outcome::{Input, Outcome, Refusal};
 use mufom_runs::{File, Held, memory_host, replay, run_line};
 use mufom_words::UsageFault;
 use std::alloc::Global;
