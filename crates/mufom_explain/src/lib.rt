@@ -1,7 +1,7 @@
 //! Explains error lines of linking and locating: gives the sections, modules and files to which the numbers
 //! of a line refer, and the modules that define a name or refer to it.
 //!
-//! It depends on `mufom_link` and `mufom_image` for the errors, on `mufom_place` for the regions, on
+//! It depends on `mufom_refusals` for the errors, on `mufom_place` for the regions, on
 //! `mufom_origins` for the modules from which sections come, on `mufom_field_values` for the expressions of
 //! fields, on `mufom_locating` for the copies of regions, and on `mufom_text` for numbers and names in text. Its
 //! main clauses are those of [`explain_link`], [`explain_locate`], [`explain_shared`] and [`explain_name`]: the

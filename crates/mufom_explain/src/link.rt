@@ -12,10 +12,10 @@ use crate::details::{LinkDetails, LinkKind};
 use crate::finding::find_mentions;
 use crate::modules::{FlatModule, module_line};
 use crate::naming::one_name;
-use mufom_link::LinkRefusal;
 use mufom_module::{Order, Parts};
 use mufom_numbers::NoMemory;
 use mufom_origins::ModuleFiles;
+use mufom_refusals::LinkRefusal;
 use mufom_text::{Lines, Output};
 use std::alloc::Global;
 

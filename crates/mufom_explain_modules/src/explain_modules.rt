@@ -46,8 +46,6 @@ use mufom_explain::{
 use mufom_explain_text::{Details, file_of, print_done, print_explanation, unread_details};
 use mufom_groups::{flat_places, refused_places};
 use mufom_host::Host;
-use mufom_image::LocateRefusal;
-use mufom_link::LinkRefusal;
 use mufom_locating::{PlannedRefusal, with_plan_symbols};
 use mufom_module::Module;
 use mufom_numbers::{Bytes, List, NoMemory, Text};
@@ -57,7 +55,7 @@ use mufom_plan::Plan;
 use mufom_prepare::{
     Location, Obstacle, Places, TracedModule, link_file, locate_modules, ready_of,
 };
-use mufom_prune::PruneRefusal;
+use mufom_refusals::{LinkRefusal, LocateRefusal, PruneRefusal};
 use mufom_task::{Inputs, Loaded, Product, read_or_unread};
 use std::alloc::Global;
 

@@ -16,7 +16,6 @@ ghost use Rattle.mufom_works.specs.Roots.{roots_by, roots_with};
 ghost use Rattle.mufom_works.specs.WorkEnds.{own_kept, EndsAt};
 
 use mufom_groups::link_with_members;
-use mufom_link::LinkRefusal;
 use mufom_located::Located;
 use mufom_locating::{PlannedRefusal, locate_by_plan};
 use mufom_module::{Module, a_module_is_valid};
@@ -25,6 +24,7 @@ use mufom_origins::Origins;
 use mufom_outcome::{Outcome, outcome_of_link, outcome_of_planned, outcome_of_prune};
 use mufom_plan::Plan;
 use mufom_prune::{PruneRefusal, Pruned, prune_for};
+use mufom_refusals::LinkRefusal;
 use mufom_task::Inputs;
 use std::alloc::Global;
 
