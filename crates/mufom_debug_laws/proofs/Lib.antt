@@ -1,0 +1,4 @@
+pub mod Valid
+pub mod Names
+pub mod Stated
+pub mod Skipped

@@ -1,0 +1,9 @@
+//! What changes if debug parts are skipped: the debug items are missing, and nothing else.
+//!
+//! The crate has definitions, over those of `mufom_judging` and `mufom_meaning`, and laws. Each law is the contract
+//! of a function that does nothing.
+#![tactic(auto)]
+
+mod laws;
+
+pub use laws::{debug_parts_may_be_skipped, modules_stay_valid};
