@@ -1,2 +1,3 @@
 pub mod Without
 pub mod DebugLaws
+pub mod LinkLaws

@@ -1,6 +1,7 @@
 //! Laws about modules without debug items.
 
 ghost use Rattle.mufom_debug_laws.specs.DebugLaws.{DebugPartsMayBeSkipped, ModulesStayValid};
+ghost use Rattle.mufom_debug_laws.specs.LinkLaws.{DebugChangesNoLinkFact, LinksLoseDebugAlone};
 
 /// A module without a defect has none without its debug items.
 pub fn modules_stay_valid()
@@ -11,4 +12,15 @@ pub fn modules_stay_valid()
 /// without its debug items, and of no other.
 pub fn debug_parts_may_be_skipped()
     ensures { DebugPartsMayBeSkipped }
+{}
+
+/// Without their debug items, modules have the same link facts: they can be linked if and only if they can be
+/// linked with them.
+pub fn debug_changes_no_link_fact()
+    ensures { DebugChangesNoLinkFact }
+{}
+
+/// The link of modules without their debug items is their link without its debug items.
+pub fn links_lose_debug_alone()
+    ensures { LinksLoseDebugAlone }
 {}

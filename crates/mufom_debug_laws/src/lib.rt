@@ -6,4 +6,7 @@
 
 mod laws;
 
-pub use laws::{debug_parts_may_be_skipped, modules_stay_valid};
+pub use laws::{
+    debug_changes_no_link_fact, debug_parts_may_be_skipped, links_lose_debug_alone,
+    modules_stay_valid,
+};
