@@ -4,3 +4,7 @@ pub mod Stated
 pub mod Skipped
 pub mod Sites
 pub mod Links
+pub mod Values
+pub mod Steps
+pub mod Plain
+pub mod Located

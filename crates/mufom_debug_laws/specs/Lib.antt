@@ -1,3 +1,4 @@
 pub mod Without
 pub mod DebugLaws
 pub mod LinkLaws
+pub mod LocationLaws

@@ -2,6 +2,7 @@
 
 ghost use Rattle.mufom_debug_laws.specs.DebugLaws.{DebugPartsMayBeSkipped, ModulesStayValid};
 ghost use Rattle.mufom_debug_laws.specs.LinkLaws.{DebugChangesNoLinkFact, LinksLoseDebugAlone};
+ghost use Rattle.mufom_debug_laws.specs.LocationLaws.{LocationsLoseDebugAlone, ReadingsLoseDebugAlone};
 
 /// A module without a defect has none without its debug items.
 pub fn modules_stay_valid()
@@ -23,4 +24,16 @@ pub fn debug_changes_no_link_fact()
 /// The link of modules without their debug items is their link without its debug items.
 pub fn links_lose_debug_alone()
     ensures { LinksLoseDebugAlone }
+{}
+
+/// Wherever their sections and commons are placed, modules mean the same without their debug items, except for
+/// what those mean.
+pub fn readings_lose_debug_alone()
+    ensures { ReadingsLoseDebugAlone }
+{}
+
+/// Without their debug items, modules that can be located by a plan have the same location, without its debug
+/// items. So their image is the same.
+pub fn locations_lose_debug_alone()
+    ensures { LocationsLoseDebugAlone }
 {}
