@@ -8,3 +8,4 @@ pub mod Values
 pub mod Steps
 pub mod Plain
 pub mod Located
+pub mod Files

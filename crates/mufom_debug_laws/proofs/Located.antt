@@ -18,7 +18,7 @@ use Rattle.mufom_meaning.specs.declared.located.Site.TheVariants as sites
 use Rattle.mufom_meaning.specs.AddressMap.{AreRunsOf, Cell, address_map}
 use Rattle.mufom_meaning.specs.Bases.{Bases}
 use Rattle.mufom_meaning.specs.Counts.{loaded_total}
-use Rattle.mufom_meaning.specs.Flat.{SitedPublic, sited, flat_sections, distinct, needs, public_names, width}
+use Rattle.mufom_meaning.specs.Flat.{SitedPublic, sited, flat_sections, distinct, public_names, width}
 use Rattle.mufom_meaning.specs.Values.{Setting, setting, value}
 use Rattle.mufom_meaning.specs.Steps.{steps, step_readings}
 use Rattle.mufom_meaning.specs.Placed.{base_named, common_section, common_sections, placed_commons, planned_bases, base_list}
@@ -26,7 +26,7 @@ use Rattle.mufom_meaning.specs.Readings.{Readings, mark_reading, public_reading,
 use Rattle.mufom_meaning.specs.Facts.{LocateFact, undefined, common_unplaced, cycle, image_limit, placement}
 use Rattle.mufom_meaning.specs.Cycles.{is_on_cycle}
 use Rattle.mufom_meaning.specs.Walk.{public_fact, steps_fact, start_fact, start_trees, debug_fact, debug_trees, walk_answer}
-use Rattle.mufom_meaning.specs.LocateAnswer.{first_undefined, first_unplaced_common, cycle_at, image_limit_at, locate_answer}
+use Rattle.mufom_meaning.specs.LocateAnswer.{after_placing, first_undefined, first_unplaced_common, cycle_at, image_limit_at, locate_answer}
 use Rattle.mufom_meaning.specs.Location.{IsLocation, first_header, located_mark, located_sections, placed_sections}
 use Rattle.mufom_meaning.proofs.Unfolding.{locate_answer-order}
 use Rattle.mufom_meaning.proofs.locations.Single.{location_is_single}
@@ -88,7 +88,7 @@ readings-lose-debug-alone ms bases = λ i. record {
 common-sections-bare : (ms : List Parts) → common_sections (all_without_debug ms) ≡ common_sections ms
 common-sections-bare ms = λ i. map (common_section (commons-bare ms i)) (distinct bytes_eq (common-names-bare ms i))
 
-placed-bare : (ms : List Parts) (plan : Plan) → placed_commons (all_without_debug ms) plan ≡ placed_commons ms plan
+pub placed-bare : (ms : List Parts) (plan : Plan) → placed_commons (all_without_debug ms) plan ≡ placed_commons ms plan
 placed-bare ms plan = λ i. cond (has_common plan.regions) (common-sections-bare ms i) []
 
 base-list-bare : (ms : List Parts) (plan : Plan) → base_list (all_without_debug ms) plan ≡ base_list ms plan
@@ -234,17 +234,21 @@ module _ (ms : List Parts) (plan : Plan) where
       or_else (option_map undefined (undefined-there i) or_else (option_map common_unplaced (unplaced-there i)
       or_else (cycles-there i or_else (image_limit_at (total-bare ms i) or_else walk-there i)))))
 
+  pub later-there : after_placing bare plan ≡ fact_without_debug (after_placing ms plan)
+  later-there = (λ i. option_map undefined (undefined-there i) or_else (option_map common_unplaced (unplaced-there i)
+      or_else (cycles-there i or_else (image_limit_at (total-bare ms i) or_else walk-there i)))) ∙ sym undefined-stays
+
   answer-there : locate_answer bare plan ≡ fact_without_debug (locate_answer ms plan)
   answer-there = all-there ∙ sym (ap fact_without_debug (locate_answer-order ms plan) ∙ all-stay)
 
 -- ---- locations
 
-first-header-bare : (ms : List Parts) → first_header (all_without_debug ms) ≡ first_header ms
+pub first-header-bare : (ms : List Parts) → first_header (all_without_debug ms) ≡ first_header ms
 first-header-bare [] = refl
 first-header-bare (m ∷ ms) = refl
 
 module _ (ms : List Parts) (plan : Plan) where
-  planned-readings : readings (all_without_debug ms) (planned_bases (all_without_debug ms) plan)
+  pub planned-readings : readings (all_without_debug ms) (planned_bases (all_without_debug ms) plan)
       ≡ readings_without_debug (readings ms (planned_bases ms plan))
   planned-readings = ap (readings (all_without_debug ms)) (planned-bare ms plan) ∙ readings-lose-debug-alone ms (planned_bases ms plan)
 
@@ -253,7 +257,7 @@ module _ (ms : List Parts) (plan : Plan) where
       ≡ address_map r.order (2 ^ width ms) (readings ms (planned_bases ms plan)).steps
   cells-bare r = λ i. address_map r.order (2 ^ width-bare ms i) (planned-readings i).steps
 
-  location-bare : (r : LocatedParts) → IsLocation ms plan r → IsLocation (all_without_debug ms) plan (located_without_debug r)
+  pub location-bare : (r : LocatedParts) → IsLocation ms plan r → IsLocation (all_without_debug ms) plan (located_without_debug r)
   location-bare r is = record {
     links = answer-bare ms ∙ is.links;
     locates = answer-there ms plan ∙ ap fact_without_debug is.locates;

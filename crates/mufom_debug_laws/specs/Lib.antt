@@ -2,3 +2,4 @@ pub mod Without
 pub mod DebugLaws
 pub mod LinkLaws
 pub mod LocationLaws
+pub mod FileLaws

@@ -1,6 +1,7 @@
 //! Laws about modules without debug items.
 
 ghost use Rattle.mufom_debug_laws.specs.DebugLaws.{DebugPartsMayBeSkipped, ModulesStayValid};
+ghost use Rattle.mufom_debug_laws.specs.FileLaws.{FilesLoseDebugAlone};
 ghost use Rattle.mufom_debug_laws.specs.LinkLaws.{DebugChangesNoLinkFact, LinksLoseDebugAlone};
 ghost use Rattle.mufom_debug_laws.specs.LocationLaws.{LocationsLoseDebugAlone, ReadingsLoseDebugAlone};
 
@@ -36,4 +37,10 @@ pub fn readings_lose_debug_alone()
 /// items. So their image is the same.
 pub fn locations_lose_debug_alone()
     ensures { LocationsLoseDebugAlone }
+{}
+
+/// So files that are read as modules have the same link and the same location if their debug parts are skipped,
+/// without debug items.
+pub fn files_lose_debug_alone()
+    ensures { FilesLoseDebugAlone }
 {}

@@ -7,6 +7,7 @@
 mod laws;
 
 pub use laws::{
-    debug_changes_no_link_fact, debug_parts_may_be_skipped, links_lose_debug_alone,
-    locations_lose_debug_alone, modules_stay_valid, readings_lose_debug_alone,
+    debug_changes_no_link_fact, debug_parts_may_be_skipped, files_lose_debug_alone,
+    links_lose_debug_alone, locations_lose_debug_alone, modules_stay_valid,
+    readings_lose_debug_alone,
 };
