@@ -9,3 +9,4 @@ pub mod Steps
 pub mod Plain
 pub mod Located
 pub mod Files
+pub mod Planned

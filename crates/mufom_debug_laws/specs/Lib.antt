@@ -3,3 +3,4 @@ pub mod DebugLaws
 pub mod LinkLaws
 pub mod LocationLaws
 pub mod FileLaws
+pub mod PlannedLaws

@@ -4,6 +4,7 @@ ghost use Rattle.mufom_debug_laws.specs.DebugLaws.{DebugPartsMayBeSkipped, Modul
 ghost use Rattle.mufom_debug_laws.specs.FileLaws.{FilesLoseDebugAlone};
 ghost use Rattle.mufom_debug_laws.specs.LinkLaws.{DebugChangesNoLinkFact, LinksLoseDebugAlone};
 ghost use Rattle.mufom_debug_laws.specs.LocationLaws.{LocationsLoseDebugAlone, ReadingsLoseDebugAlone};
+ghost use Rattle.mufom_debug_laws.specs.PlannedLaws.{PlansLoseDebugAlone};
 
 /// A module without a defect has none without its debug items.
 pub fn modules_stay_valid()
@@ -37,6 +38,12 @@ pub fn readings_lose_debug_alone()
 /// items. So their image is the same.
 pub fn locations_lose_debug_alone()
     ensures { LocationsLoseDebugAlone }
+{}
+
+/// The same is true of plans with symbols and with regions that are loaded into others: without their debug
+/// items, modules have the same location by such a plan.
+pub fn plans_lose_debug_alone()
+    ensures { PlansLoseDebugAlone }
 {}
 
 /// So files that are read as modules have the same link and the same location if their debug parts are skipped,
