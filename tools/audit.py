@@ -15,7 +15,7 @@ COMMAND = "mufom_command/src/"
 # The functions whose clauses a reader has to trust: the file below crates/, and the name (None: every function in the file).
 ROOTS = [("mufom_headline/src/laws.rt", None), ("mufom_headline/src/read_back.rt", None), (COMMAND + "command.rt", "run"),
          ("mufom_run_laws/src/laws.rt", None), ("mufom_judging/src/laws.rt", None), ("mufom_groups/src/laws.rt", None),
-         ("mufom_prune/src/laws.rt", None), ("mufom_make/src/laws.rt", None)]
+         ("mufom_prune/src/laws.rt", None), ("mufom_make/src/laws.rt", None), ("mufom_debug_laws/src/laws.rt", None)]
 # What an auditor reads in addition: the clauses of the outside world, the exit status, and how contracts see these types.
 BESIDE = ["mufom_host/src/world.rt", "mufom_outcome/src/outcome.rt", "mufom_numbers/src/text.rt", "mufom_numbers/src/bytes.rt",
           "mufom_numbers/src/list.rt", "mufom_expr/src/postfix.rt", "mufom_module/src/module.rt"]
@@ -316,7 +316,7 @@ def page_text():
     return "\n".join([
         "# What you have to trust", "",
         "This page lists all definitions that are reached from the laws of `mufom_headline`, the contract of `run`, and the public laws of `mufom_run_laws`,"
-        " `mufom_judging`, `mufom_groups`, `mufom_prune` and `mufom_make`. Anyone who reads them, and trusts the toolchain and"
+        " `mufom_judging`, `mufom_groups`, `mufom_prune`, `mufom_make` and `mufom_debug_laws`. Anyone who reads them, and trusts the toolchain and"
         " [the code without a contract](#the-code-without-a-contract), knows what is proved;"
         " [how to read a contract](ARCHITECTURE.md#how-to-read-a-contract) explains the notation. `python3 tools/audit.py` writes this page; with"
         " `--check` it says whether the page is up to date.", "",
