@@ -3,11 +3,13 @@ use Rattle.std.proofs.Common.{◌≡◌, ℕ, Bool, true, false, List, [], ◌�
 use Rattle.mufom_module.specs.declared.module.Parts.{Parts}
 use Rattle.mufom_meaning.specs.Joined.{IsJoined}
 use Rattle.mufom_meaning.specs.Location.{IsLocation}
+use Rattle.mufom_planned.specs.Planned.{IsPlanned}
 use Rattle.mufom_debug_laws.specs.Without.{without_debug, all_without_debug, located_without_debug}
 use Rattle.mufom_debug_laws.specs.FileLaws.{AreFiles, FilesLoseDebugAlone}
 use Rattle.mufom_debug_laws.proofs.Skipped.{debug-parts-may-be-skipped}
 use Rattle.mufom_debug_laws.proofs.Links.{link-bare}
 use Rattle.mufom_debug_laws.proofs.Located.{location-bare}
+use Rattle.mufom_debug_laws.proofs.Planned.{planned-bare}
 
 files-read : (gnu : Bool) (files : List (List ℕ)) (ms : List Parts) → AreFiles (record { debug = true; gnu = gnu }) files ms
     → AreFiles (record { debug = false; gnu = gnu }) files (all_without_debug ms)
@@ -36,4 +38,6 @@ files-lose-debug-alone gnu files ms are = record {
       (link-bare M ms name is);
   locations = λ others plan r also is. subst (λ (list : List Parts). IsLocation list plan (located_without_debug r))
       (sym (files-only gnu files ms others are also)) (location-bare ms plan r is);
+  plans = λ others plan r also is. subst (λ (list : List Parts). IsPlanned list plan (located_without_debug r))
+      (sym (files-only gnu files ms others are also)) (planned-bare ms plan r is);
 }

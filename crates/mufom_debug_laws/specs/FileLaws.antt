@@ -7,6 +7,7 @@ use Rattle.mufom_judging.specs.Judging.{IsModule}
 use Rattle.mufom_meaning.specs.declared.located.LocatedParts.{LocatedParts}
 use Rattle.mufom_meaning.specs.Joined.{IsJoined}
 use Rattle.mufom_meaning.specs.Location.{IsLocation}
+use Rattle.mufom_planned.specs.Planned.{IsPlanned}
 use Rattle.mufom_debug_laws.specs.Without.{without_debug, all_without_debug, located_without_debug}
 
 -- these are files of the modules, one for each, if they are read with these options
@@ -17,7 +18,8 @@ AreFiles options [] (m ∷ ms) = ⊥
 AreFiles options (bytes ∷ files) [] = ⊥
 
 -- What the files of these modules are if their debug parts are skipped: files of the modules without their debug items, and of no
--- others. The modules that are then read have the same link and the same location by each plan, without debug items.
+-- others. The modules that are then read have the same link and the same location by each plan, with or without
+-- symbols and copies, but for debug items.
 pub record AreFilesWithoutDebug (gnu : Bool) (files : List (List ℕ)) (ms : List Parts) : Type 0 where
   pub read : AreFiles (record { debug = false; gnu = gnu }) files (all_without_debug ms)
   pub only : (others : List Parts) → AreFiles (record { debug = false; gnu = gnu }) files others → others ≡ all_without_debug ms
@@ -25,6 +27,8 @@ pub record AreFilesWithoutDebug (gnu : Bool) (files : List (List ℕ)) (ms : Lis
       → IsJoined M ms name → IsJoined (without_debug M) others name
   pub locations : (others : List Parts) (plan : Plan) (r : LocatedParts) → AreFiles (record { debug = false; gnu = gnu }) files others
       → IsLocation ms plan r → IsLocation others plan (located_without_debug r)
+  pub plans : (others : List Parts) (plan : Plan) (r : LocatedParts) → AreFiles (record { debug = false; gnu = gnu }) files others
+      → IsPlanned ms plan r → IsPlanned others plan (located_without_debug r)
 
 -- This is true of all files that are read as modules with their debug parts.
 abbrev pub FilesLoseDebugAlone : Type 0
