@@ -2,6 +2,7 @@
 
 ghost use Rattle.std.specs.Prelude.{◌≡◌, ℕ};
 ghost use Rattle.mufom_module.specs.declared.module.Defect.{Defect};
+ghost use Rattle.mufom_refusals.specs.declared.build.BuildReason.{BuildReason};
 
 use mufom_build_text::PieceStop;
 use mufom_refusals::BuildRefusal;
