@@ -16,3 +16,11 @@ pub mod Light
 pub mod KeptExist
 pub mod Verdicts
 pub mod Leaves
+pub mod Then
+pub mod TextSizes
+pub mod TomlSizes
+pub mod PlanSizes
+pub mod PlanResults
+pub mod TextHeld
+pub mod TextResults
+pub mod Results

@@ -2,3 +2,4 @@ pub mod RunLaws
 pub mod MakeLaws
 pub mod Exist
 pub mod Leaves
+pub mod Results

@@ -5,6 +5,7 @@ ghost use Rattle.mufom_run_laws.specs.Exist.{FilesHaveAVerdict, FlatListsExist, 
 ghost use Rattle.mufom_run_laws.specs.Exist.{MarksExist, NoFactIsDecided, ReadingHasAResult, SelectionsExist, WhatIsKeptExists};
 ghost use Rattle.mufom_run_laws.specs.Leaves.{LinksMakeNoDifference, StagesCameByLinks};
 ghost use Rattle.mufom_run_laws.specs.MakeLaws.{MakeIsDone};
+ghost use Rattle.mufom_run_laws.specs.Results.{PlainRunsHaveResults};
 ghost use Rattle.mufom_run_laws.specs.RunLaws.{AbsoluteFilesStand, AnswersAreDetermined, LinkedFilesStand, LocatingIsDone};
 ghost use Rattle.mufom_run_laws.specs.RunLaws.{RunsAreSingle, RunsOfStages, StagesMakeNoDifference};
 
@@ -126,4 +127,11 @@ pub fn what_is_kept_exists()
 /// that `--keep` gives is that of a public symbol of the list, and whatever is kept of it can be located.
 pub fn no_fact_is_decided()
     ensures { NoFactIsDecided }
+{}
+
+/// A plain run has a result: one whose arguments have an error, and one of `show`, `check`, `make`, `help`,
+/// `version`, `fromtxt` or of a command that locates, except `locate`. This holds if the files exist, with that
+/// of the plan, and hold bytes.
+pub fn plain_runs_have_results()
+    ensures { PlainRunsHaveResults }
 {}

@@ -12,6 +12,6 @@ pub use laws::{
     absolute_files_stand, answers_are_determined, files_have_a_verdict, files_have_one_verdict,
     flat_lists_exist, inputs_are_accepted, kept_entries_exist, linked_files_stand, links_exist,
     links_make_no_difference, locating_is_done, make_is_done, marks_exist, no_fact_is_decided,
-    reading_has_a_result, runs_are_single, runs_of_stages, selections_exist, stages_came_by_links,
-    stages_make_no_difference, what_is_kept_exists,
+    plain_runs_have_results, reading_has_a_result, runs_are_single, runs_of_stages,
+    selections_exist, stages_came_by_links, stages_make_no_difference, what_is_kept_exists,
 };
