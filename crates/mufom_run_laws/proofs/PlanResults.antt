@@ -1,5 +1,5 @@
 -- Reading a plan has a result: each plan that a text states is one that the program can hold.
-use Rattle.std.proofs.Common.{◌≡◌, ℕ, ◌<◌, ◌≤◌, ◌^◌, Bool, true, false, not, nat_lt, List, length, Option, Some, None, Result, Ok, Err, IfSome, IsSome, refl}
+use Rattle.std.proofs.Common.{◌≡◌, ℕ, ◌≤◌, Bool, true, false, not, nat_lt, List, length, Option, Some, None, Result, Ok, Err, IfSome, IsSome, refl}
 use Rattle.std.proofs.Common.{sym, arith, true≢false}
 use Rattle.toml.specs.Data.{Members}
 use Rattle.mufom_host.specs.World.{NamedFile, file_named}

@@ -1,31 +1,30 @@
 -- The plan of a text has no more regions than the text has bytes, and the names of its symbols are no longer.
-use Rattle.std.proofs.Common.{◌≡◌, ℕ, zero, suc, ◌+◌, ◌<◌, ◌≤◌, ◌^◌, Bool, true, false, not, nat_lt, ◌||◌, List, [], ◌∷◌, ◌++◌, length, Option, Some, None}
-use Rattle.std.proofs.Common.{Result, Ok, Err, IfSome, refl, sym, ap, ◌∙◌, arith, ltb-false, cond, Ordering, Less, Equal, Greater}
-use Rattle.std.specs.Prelude.{◌==◌, if◌then◌else◌, option_map, option_and_then, codes, sum_by}
+use Rattle.std.proofs.Common.{◌≡◌, ℕ, suc, ◌+◌, ◌≤◌, Bool, true, false, not, nat_lt, ◌||◌, List, [], ◌∷◌, ◌++◌, length, Option, Some, None}
+use Rattle.std.proofs.Common.{Result, Ok, Err, IfSome, refl, ap, arith, ltb-false, Ordering, Less, Equal, Greater}
+use Rattle.std.specs.Prelude.{◌==◌, if◌then◌else◌, option_and_then, codes}
 use Rattle.std.specs.Ordering.{nat_cmp, match_ordering}
 use Rattle.std.specs.Cmp.Lexicographic.{slice_cmp}
 use Rattle.std.specs.Str.Lossy.{utf8_valid_len}
 use Rattle.std.proofs.lemmas.List.Sums.{sum_by-cons}
 use Rattle.toml.specs.Data.{Data, string, integer, float, boolean, datetime, array, table, Items, no_items, item, Members, no_members, member}
-use Rattle.toml.specs.Data.{as_array, as_str, as_table, get_member}
+use Rattle.toml.specs.Data.{as_table, get_member}
 use Rattle.toml.specs.Parse.{parse_document}
 use Rattle.mufom_plan.specs.declared.plan.Plan.{Plan}
 use Rattle.mufom_plan.specs.declared.plan.PlanSymbol.{PlanSymbol}
 use Rattle.mufom_plan.specs.declared.plan.Region.{Region}
-use Rattle.mufom_plan.specs.declared.plan.SymbolValue.{SymbolValue}
 use Rattle.mufom_plan.specs.declared.refusal.PlanField.{PlanField}
 use Rattle.mufom_plan.specs.declared.refusal.PlanField.TheVariants as field
 use Rattle.mufom_plan.specs.declared.refusal.PlanTable.TheVariants as at
 use Rattle.mufom_plan.specs.declared.refusal.PlanRefusal.{PlanRefusal}
 use Rattle.mufom_plan.specs.declared.refusal.PlanRefusal.TheVariants.{Shape, Syntax, TooLong}
 use Rattle.mufom_plan.specs.Commons.{has_common}
-use Rattle.mufom_plan.specs.Document.{document_of, has_only_keys, items_at, list_of, text_at}
+use Rattle.mufom_plan.specs.Document.{document_of, has_only_keys, list_of, text_at}
 use Rattle.mufom_plan.specs.Loads.{first_wrong_load}
 use Rattle.mufom_plan.specs.Names.{has_name, listed_names, region_names, symbol_names}
 use Rattle.mufom_plan.specs.PlanText.{◌>>=◌, after_symbols, are_tables, in_prefix, kept_names, kinds_in, new_name, of_symbol, or_refuse, plan_keys}
 use Rattle.mufom_plan.specs.PlanText.{plan_of_document, plan_of_text, region_of, regions_of, symbol_keys, symbol_of, symbols_of, tables_at}
 use Rattle.mufom_plan.specs.PlanText.{unless, value_of, with_loads}
-use Rattle.mufom_plan.specs.Symbols.{HaveShortNames, names_size}
+use Rattle.mufom_plan.specs.Symbols.{names_size}
 use Rattle.mufom_run_laws.proofs.TomlSizes.{counted, document-size, items_size, members_size, size}
 
 -- ---- steps

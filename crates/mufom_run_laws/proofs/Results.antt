@@ -1,5 +1,5 @@
 -- Plain runs have a result.
-use Rattle.std.proofs.Common.{◌≡◌, ◌≢◌, ℕ, ◌≤◌, Bool, true, false, List, [], ◌∷◌, ◌++◌, length, Option, Some, None, Result, Ok, Err, refl, sym, ap, subst, ◌∙◌}
+use Rattle.std.proofs.Common.{◌≡◌, ◌≢◌, ℕ, ◌≤◌, List, [], ◌∷◌, length, Option, Some, None, Result, Ok, Err, refl, sym, ap, subst}
 use Rattle.std.proofs.Common.{arith, inl, inr}
 use Rattle.std.specs.Prelude.{flat_map}
 use Rattle.mufom_host.specs.World.{HoldBytes, NamedFile}
@@ -29,7 +29,7 @@ use Rattle.mufom_make.proofs.NoFactLaws.{all-located}
 use Rattle.mufom_write.specs.Raw.{raw_image}
 use Rattle.mufom_groups.specs.Groups.{most_weight}
 use Rattle.mufom_groups.specs.Linked.{IsFlatList, linked, links, tree_links}
-use Rattle.mufom_groups.specs.Work.{Reached, gives, stops, Work, ◌>>=◌, one_with, with_stops}
+use Rattle.mufom_groups.specs.Work.{gives, stops, Work, ◌>>=◌, one_with, with_stops}
 use Rattle.mufom_groups.proofs.GroupsAlike.{linked-flat}
 use Rattle.mufom_groups.proofs.LinkWalk.{links-give, links-stop}
 use Rattle.mufom_map.specs.Mapped.{Mapped}
@@ -55,10 +55,10 @@ use Rattle.mufom_task.specs.Tasks.{inputs_of, request_of}
 use Rattle.mufom_task.proofs.PlanLaws.{plan-sound}
 use Rattle.mufom_task.proofs.RequestLaws.{sound-request}
 use Rattle.mufom_works.specs.FlatFiles.{AreFlatFiles, files_with}
-use Rattle.mufom_works.specs.Result.{run_by, run_of, work_with}
+use Rattle.mufom_works.specs.Result.{run_by, work_with}
 use Rattle.mufom_works.specs.Roots.{Roots, first_unknown, roots_by}
 use Rattle.mufom_works.specs.Text.{check_text, hit_text}
-use Rattle.mufom_works.specs.Works.{Kept, Output, all_of, bytes_unless, form_of, kept_of, kept_unless, length_fact, linking, listing, located, located_unless}
+use Rattle.mufom_works.specs.Works.{Kept, Output, all_of, bytes_unless, form_of, kept_of, kept_unless, length_fact, listing, located, located_unless}
 use Rattle.mufom_works.specs.Works.{locating_kept, made, making, mapped_kept, maus_of, printed, prints, producing, product_of}
 use Rattle.mufom_works.specs.Works.{product_with, region_fact, region_image}
 use Rattle.mufom_works.specs.Works.{region_named, stop_of, work_of}
@@ -66,7 +66,7 @@ use Rattle.mufom_works.proofs.EndLaws.{plain-located}
 use Rattle.mufom_works.proofs.KeptLaws.{kept-links, kept-some, kept-valid}
 use Rattle.mufom_run_laws.specs.Results.{AskPlainly, CanBeRead, HasResult, IsPlainRequest, IsPlainTask, PlainRunsHaveResults}
 use Rattle.mufom_run_laws.specs.RunLaws.{Accepts}
-use Rattle.mufom_run_laws.proofs.KeptExist.{inputs-accepted, kept-by}
+use Rattle.mufom_run_laws.proofs.KeptExist.{kept-by}
 use Rattle.mufom_run_laws.proofs.Leaves.{accepted-light}
 use Rattle.mufom_run_laws.proofs.Light.{all-count, flat-some, flat-valid}
 use Rattle.mufom_run_laws.proofs.Members.{files-valid}

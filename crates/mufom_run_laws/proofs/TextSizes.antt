@@ -1,6 +1,6 @@
 -- A text in a TOML document is no longer than the bytes that spell it.
 use Rattle.std.proofs.Common.{◌≡◌, ℕ, zero, suc, ◌+◌, ◌/◌, ◌%◌, ◌<◌, ◌≤◌, Bool, true, false, ◌&&◌, ◌||◌, not, List, [], ◌∷◌, ◌++◌, length, drop, take}
-use Rattle.std.proofs.Common.{Option, Some, None, IfSome, refl, sym, ap, ◌∙◌, arith, length-append, true≢false, unwrap_or, is_some, cond}
+use Rattle.std.proofs.Common.{Option, Some, None, IfSome, refl, ap, arith, length-append, unwrap_or, is_some, cond}
 use Rattle.std.proofs.lemmas.Bool.Decides.{nat_tests}
 use Rattle.std.specs.Prelude.{◌==◌, if◌then◌else◌, nat_lt, nat_le, encode_utf8, option_map, option_and_then, slice_index}
 use Rattle.std.specs.List.{prefix_len, list_all}
@@ -10,7 +10,7 @@ use lib.Utf8.{encode}
 use Rattle.toml_parser.specs.Lexical.{Read, dot, first, is_ws, is_bare, line_feed, backslash, skip_from, skip_turn, skip_ws, skip_blank}
 use Rattle.toml_parser.specs.Lexical.{skip_lines, split_while, starts_newline}
 use Rattle.toml_parser.specs.Numbers.{unquoted, word_len, word_value}
-use Rattle.toml_parser.specs.Strings.{Key, after_piece, at_delims, body, escape, escape_char, hex_escape, hex_len, is_plain, is_scalar, key}
+use Rattle.toml_parser.specs.Strings.{after_piece, at_delims, body, escape, escape_char, hex_escape, hex_len, is_plain, is_scalar, key}
 use Rattle.toml_parser.specs.Strings.{key_after, one_line, prepend, quoted, simple_escape, simple_key, special, starts_string, trim_newline}
 use Rattle.toml_parser.specs.declared.scalar.Scalar.{Scalar}
 

@@ -1,5 +1,5 @@
 -- The data of a TOML document are no larger than its text: the texts in it, and the tables in its arrays.
-use Rattle.std.proofs.Common.{◌≡◌, ℕ, zero, suc, ◌+◌, ◌<◌, ◌≤◌, Bool, true, false, ◌&&◌, ◌||◌, not, List, [], ◌∷◌, ◌++◌, length, drop, Option, Some}
+use Rattle.std.proofs.Common.{◌≡◌, ℕ, zero, suc, ◌+◌, ◌≤◌, Bool, true, false, ◌&&◌, List, [], ◌∷◌, ◌++◌, length, drop, Option, Some}
 use Rattle.std.proofs.Common.{None, IfSome, refl, sym, ap, ◌∙◌, arith, true≢false, Ordering, Less, Equal, Greater}
 use Rattle.std.specs.Prelude.{◌==◌, if◌then◌else◌, option_map, option_and_then, slice_index}
 use Rattle.std.specs.Ordering.{nat_cmp, match_ordering}
@@ -10,8 +10,8 @@ use Rattle.toml_parser.specs.Strings.{Key, key, quoted, recursion_limit, starts_
 use Rattle.toml_parser.specs.Numbers.{unquoted}
 use Rattle.toml_parser.specs.declared.scalar.Scalar.{Scalar}
 use Rattle.toml_parser.specs.declared.scalar.Scalar.TheVariants.{Boolean, Integer, Float, Datetime}
-use Rattle.toml.specs.Data.{Data, string, integer, float, boolean, datetime, array, table, Items, no_items, item, Members, no_members, member, push_item}
-use Rattle.toml.specs.Data.{get_member, same_key}
+use Rattle.toml.specs.Data.{Data, string, array, table, Items, no_items, item, Members, no_members, member, push_item}
+use Rattle.toml.specs.Data.{same_key}
 use Rattle.toml.specs.Parse.{after_byte as after, after_element, atom, ends_line, expression, header_key, items, key_equals, keyval, line, lines, members}
 use Rattle.toml.specs.Parse.{parse_document, read_map, scalar_data, skip_bom, val}
 use Rattle.toml.specs.Tables.{Definition, Document, Edit, Expression, Node, Nodes, Origin, along_dots, along_header, array_table, at_found, at_key, by_dot}
