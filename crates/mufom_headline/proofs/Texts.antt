@@ -45,10 +45,11 @@ use Rattle.mufom_run_laws.specs.RunLaws.{IsUndisturbed}
 use Rattle.mufom_run_laws.proofs.Calm.{done-comes}
 use Rattle.mufom_run_laws.proofs.Determined.{answers-determined}
 use Rattle.mufom_run_laws.proofs.Plain.{plain-answers, plain-run}
+use Rattle.mufom_run_laws.proofs.TextHeld.{text-held}
 use Rattle.mufom_headline.specs.Texts.{IsFileAlone, Makes, TextsComeBack}
 use Rattle.mufom_headline.proofs.Maps.{flat-files}
 use Rattle.mufom_headline.proofs.ReadBack.{read-back}
-use Rattle.mufom_headline.proofs.TextMade.{text-accepted, text-held, text-is-module}
+use Rattle.mufom_headline.proofs.TextMade.{text-accepted, text-is-module}
 
 -- a text in the only file is read, if it is not too long
 pub text-read : (files : List NamedFile) (c : Inputs) (name text : List ℕ) → length text ≤ MOST_FILE_BYTES → c.files ≡ name ∷ []
