@@ -8,7 +8,7 @@ use Rattle.mufom_outcome.specs.declared.outcome.Outcome.TheVariants as outcome
 use Rattle.mufom_task.specs.declared.task.Task.{Task}
 use Rattle.mufom_task.specs.declared.task.Task.TheVariants as task
 use Rattle.mufom_task.specs.Calls.{IsOpenedCount, NoneFalls}
-use Rattle.mufom_task.specs.Tasks.{input_names, inputs_of}
+use Rattle.mufom_task.specs.Tasks.{IsHelpTask, input_names, inputs_of}
 use Rattle.mufom_task.proofs.InputLaws.{call_between}
 use Rattle.mufom_works.specs.Making.{IsMade, IsPrinted}
 use Rattle.mufom_prepare.specs.declared.ready.Ready.{Ready}
@@ -16,7 +16,7 @@ use Rattle.mufom_prepare.specs.Ready.{IsHelp}
 use Rattle.mufom_command.specs.PutOut.{IsPutOut}
 use Rattle.mufom_works.specs.Run.{AnswersFor, BeginsFile, IsOutput, MakesFile, PutsOutNothing}
 use Rattle.mufom_command.specs.RunParts.{Does}
-use Rattle.mufom_prepare.specs.Prepared.{IsHelpTask, IsUnprepared, PrintsHelpText}
+use Rattle.mufom_prepare.specs.Prepared.{IsUnprepared, PrintsHelpText}
 use Rattle.mufom_works.specs.WorkEnds.{StopsFor}
 use Rattle.mufom_works.specs.Works.{Output, printed, made}
 use Rattle.mufom_works.proofs.OpenedLaws.{opens-read}

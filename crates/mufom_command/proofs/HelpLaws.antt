@@ -9,11 +9,11 @@ use Rattle.mufom_words.specs.declared.command.Verb.TheVariants as verb
 use Rattle.mufom_words.specs.declared.stop.WordsStop.{WordsStop}
 use Rattle.mufom_words.specs.Answer.{PrintsHelp, answer_by, answer_of}
 use Rattle.mufom_words.specs.Help.{own_command, own_text, own_verb, printing}
-use Rattle.mufom_words.specs.Options.{Text, prints_help}
+use Rattle.mufom_words.specs.Options.{Text}
 use Rattle.mufom_outcome.specs.declared.outcome.Outcome.{Outcome}
 use Rattle.mufom_outcome.specs.declared.outcome.Outcome.TheVariants as outcome
-use Rattle.mufom_task.specs.Tasks.{request_by, request_of}
-use Rattle.mufom_command.specs.RunParts.{AsksForHelp, IsPrintedAs, MayLackMemory}
+use Rattle.mufom_task.specs.Tasks.{AsksForHelp, request_by, request_of}
+use Rattle.mufom_command.specs.RunParts.{IsPrintedAs, MayLackMemory}
 use Rattle.mufom_command.specs.PutOut.{NeedsNoMemory}
 
 -- it prints a text of the program
@@ -61,26 +61,6 @@ help-asked (word ∷ words) c prints is = by (own_verb word) refl prints is wher
   by : (v : Option Verb) → own_verb word ≡ v → IsSome v → answer_by v word words ≡ Ok c → AsksForHelp (request_of c)
   by None named some is = absurd cc
   by (Some v) named some is = printing-helps v (own_text v words) c (own-helps word v named) is
-
--- and reading it needs no memory
-pub help-prints : (words : List Text) (c : Command) → PrintsHelp words → answer_of words ≡ Ok c → prints_help c.verb ≡ true
-help-prints words c prints is = by c.verb refl (help-asked words c prints is) where
-  by : (v : Verb) → c.verb ≡ v → AsksForHelp (request_by v c) → prints_help c.verb ≡ true
-  by verb.Help same helps = ap prints_help same
-  by verb.Version same helps = ap prints_help same
-  by verb.Show same never = absurd never
-  by verb.Check same never = absurd never
-  by verb.Link same never = absurd never
-  by verb.Locate same never = absurd never
-  by verb.Dump same never = absurd never
-  by verb.Map same never = absurd never
-  by verb.Make same never = absurd never
-  by verb.Addr same never = absurd never
-  by verb.Bin same never = absurd never
-  by verb.Txt same never = absurd never
-  by verb.FromTxt same never = absurd never
-  by verb.Build same never = absurd never
-  by verb.Explain same never = absurd never
 
 -- and their error line needs no memory
 pub never-lacks : (o result : Outcome) → IsPrintedAs o result → NeedsNoMemory o → result ≢ outcome.NoMemory

@@ -15,7 +15,6 @@ use Rattle.mufom_task.specs.declared.task.Task.TheVariants as task
 use Rattle.mufom_task.specs.Calls.{Call, NoneFalls, OpensInputs}
 use Rattle.mufom_task.specs.Tasks.{inputs_of, request_of}
 use Rattle.mufom_works.specs.Run.{AnswersFor}
-use Rattle.mufom_prepare.specs.Prepared.{IsHelpTask}
 use Rattle.mufom_explain_text.specs.Explains.{Explains}
 
 -- memory may run out for the error line of these outcomes
@@ -55,11 +54,6 @@ DoesWith words request.Explain call result = Explains (explained words) call res
 abbrev pub DoesBy : List (List ℕ) → Result Command WordsStop → Call → Outcome → Type 0
 DoesBy words (Ok c) call result = DoesWith words (request_of c) call result
 DoesBy words (Err s) call result = ((result ≡ stop_answer s) ⊎ (result ≡ outcome.NoMemory)) × (call.new ≡ call.old) × (call.now ≡ call.before)
-
--- a text of the program is asked for
-abbrev pub AsksForHelp : Request → Type 0
-AsksForHelp (request.Run t) = IsHelpTask t
-AsksForHelp request.Explain = ⊥
 
 -- The effect of the arguments, before the error line is printed. Arguments that are not a command have none.
 abbrev pub DoesWords : List (List ℕ) → Call → Outcome → Type 0

@@ -5,9 +5,9 @@ ghost use Rattle.std.specs.String.{string_bytes};
 ghost use Rattle.mufom_words.specs.Answer.{PrintsHelp};
 ghost use Rattle.mufom_task.specs.Calls.{call_of};
 ghost use Rattle.mufom_task.specs.Sound.{IsSoundRequest, IsSoundTask};
+ghost use Rattle.mufom_task.specs.Tasks.{AsksForHelp, IsHelpTask};
 ghost use Rattle.mufom_command.specs.Contract.{IsRun};
-ghost use Rattle.mufom_command.specs.RunParts.{AsksForHelp, Does, DoesWith, DoesWords};
-ghost use Rattle.mufom_prepare.specs.Prepared.{IsHelpTask};
+ghost use Rattle.mufom_command.specs.RunParts.{Does, DoesWith, DoesWords};
 ghost use Rattle.mufom_command.specs.PutOut.{NeedsNoMemory};
 
 use crate::error_output::print_error_line;

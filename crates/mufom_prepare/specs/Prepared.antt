@@ -45,11 +45,6 @@ pub record MakesLink (tree : Forest) (name : Option (List ℕ)) (out : List ℕ)
   pub output : ready_output ready ≡ made out (written object)
   pub is : IsReady ready
 
--- the task prints a text of the program
-abbrev pub IsHelpTask : Task → Type 0
-IsHelpTask (task.Help text) = Unit {0}
-IsHelpTask _ = ⊥
-
 -- a task that prints a text of the program has its output ready, without memory
 abbrev pub PrintsHelpText : Task → Result Ready Outcome → Type 0
 PrintsHelpText (task.Help text) (Ok ready) = IsHelp ready

@@ -1,37 +1,49 @@
 -- The task of a sound command is sound.
-use Rattle.std.proofs.Common.{◌≡◌, true, false, length, refl, ap, sym, subst, ◌∙◌, Result, Ok, Err, IfOk}
+use Rattle.std.proofs.Common.{◌≡◌, true, false, refl, ap, sym, subst, Some, Result, Ok, Err, IfOk}
 use Rattle.mufom_words.specs.declared.command.Command.{Command}
 use Rattle.mufom_words.specs.declared.command.Verb.{Verb}
 use Rattle.mufom_words.specs.declared.command.Verb.TheVariants as verb
-use Rattle.mufom_words.specs.Options.{makes_modules, prints_help, reads_files, reads_plan, takes_one_file}
+use Rattle.mufom_words.specs.declared.form.Operands.TheVariants as operands
+use Rattle.mufom_words.specs.declared.options.Setting.TheVariants as setting
+use Rattle.mufom_words.specs.Options.{are_files, has_option, operands_for}
 use Rattle.mufom_words.specs.Sound.{IsSound}
 use Rattle.mufom_task.specs.declared.task.Request.{Request}
 use Rattle.mufom_task.specs.Sound.{IsSoundFile, IsSoundFiles, IsSoundInputs, IsSoundRequest}
 use Rattle.mufom_task.specs.Tasks.{inputs_named, request_by, request_of}
 
 module _ (c : Command) (sound : IsSound c) where
-  sound-inputs : reads_files c.verb ≡ true → IsSoundInputs (inputs_named c)
+  sound-inputs : are_files (operands_for c.verb) ≡ true → IsSoundInputs (inputs_named c)
   sound-inputs reads = record { tree = sound.tree; some = sound.files.some reads; few = sound.files.few }
 
-  sound-files : reads_files c.verb ≡ true → reads_plan c.verb ≡ false → IsSoundFiles (inputs_named c)
+  sound-files : are_files (operands_for c.verb) ≡ true → has_option setting.Plan c.verb ≡ false → IsSoundFiles (inputs_named c)
   sound-files reads plain = record { sound = sound-inputs reads; no_plan = sound.options.no_plan plain }
 
-  sound-file : reads_files c.verb ≡ true → reads_plan c.verb ≡ false → takes_one_file c.verb ≡ true → IsSoundFile (inputs_named c)
-  sound-file reads plain one = record { sound = sound-files reads plain; one = sound.files.one one }
+  sound-file : operands_for c.verb ≡ Some operands.OneFile → has_option setting.Plan c.verb ≡ false → IsSoundFile (inputs_named c)
+  sound-file one plain = record { sound = sound-files (ap are_files one) plain; one = sound.files.one one }
+
+  -- what the table says of the command
+  files : {v : Verb} → c.verb ≡ v → are_files (operands_for c.verb) ≡ are_files (operands_for v)
+  files is = ap (λ (v : Verb). are_files (operands_for v)) is
+
+  plan : {v : Verb} → c.verb ≡ v → has_option setting.Plan c.verb ≡ has_option setting.Plan v
+  plan is = ap (has_option setting.Plan) is
+
+  own : {v : Verb} → c.verb ≡ v → operands_for c.verb ≡ operands_for v
+  own is = ap operands_for is
 
   sound-by : (v : Verb) → c.verb ≡ v → IsSoundRequest (request_by v c)
-  sound-by verb.Show is = sound-file (ap reads_files is) (ap reads_plan is) (ap takes_one_file is)
-  sound-by verb.Check is = sound-files (ap reads_files is) (ap reads_plan is)
-  sound-by verb.Link is = (sound-inputs (ap reads_files is), sound.options.short)
-  sound-by verb.Locate is = sound-inputs (ap reads_files is)
-  sound-by verb.Dump is = sound-inputs (ap reads_files is)
-  sound-by verb.Map is = sound-inputs (ap reads_files is)
-  sound-by verb.Addr is = sound-inputs (ap reads_files is)
-  sound-by verb.Bin is = sound-inputs (ap reads_files is)
-  sound-by verb.Txt is = sound-inputs (ap reads_files is)
-  sound-by verb.FromTxt is = (sound-file (ap reads_files is) (ap reads_plan is) (ap takes_one_file is), sound.options.maus.0, sound.options.maus.1)
-  sound-by verb.Build is = sound-file (ap reads_files is) (ap reads_plan is) (ap takes_one_file is)
-  sound-by verb.Make is = sound.options.count (ap makes_modules is)
+  sound-by verb.Show is = sound-file (own is) (plan is)
+  sound-by verb.Check is = sound-files (files is) (plan is)
+  sound-by verb.Link is = (sound-inputs (files is), sound.options.short)
+  sound-by verb.Locate is = sound-inputs (files is)
+  sound-by verb.Dump is = sound-inputs (files is)
+  sound-by verb.Map is = sound-inputs (files is)
+  sound-by verb.Addr is = sound-inputs (files is)
+  sound-by verb.Bin is = sound-inputs (files is)
+  sound-by verb.Txt is = sound-inputs (files is)
+  sound-by verb.FromTxt is = (sound-file (own is) (plan is), sound.options.maus.0, sound.options.maus.1)
+  sound-by verb.Build is = sound-file (own is) (plan is)
+  sound-by verb.Make is = sound.options.count (own is)
   sound-by verb.Help is = tt
   sound-by verb.Version is = tt
   sound-by verb.Explain is = tt
@@ -42,7 +54,3 @@ module _ (c : Command) (sound : IsSound c) where
   pub sound-asked : {E : Type 0} (r : Result Request E) → IfOk r (λ asked. asked ≡ request_of c) → IfOk r IsSoundRequest
   sound-asked (Ok asked) is = subst IsSoundRequest (sym is) sound-request
   sound-asked (Err e) is = tt
-
--- a command of this kind prints no text of the program
-pub helps-not : (c : Command) (v : Verb) → c.verb ≡ v → prints_help v ≡ false → prints_help c.verb ≡ true → ⊥
-helps-not c v is other helps = let same : true ≡ false = sym helps ∙ (ap prints_help is ∙ other) in absurd cc

@@ -73,6 +73,16 @@ reads_files (task.Make count) = false
 reads_files (task.Help text) = false
 reads_files _ = true
 
+-- the task prints a text of the program
+abbrev pub IsHelpTask : Task → Type 0
+IsHelpTask (task.Help text) = Unit {0}
+IsHelpTask _ = ⊥
+
+-- a text of the program is asked for
+abbrev pub AsksForHelp : Request → Type 0
+AsksForHelp (request.Run t) = IsHelpTask t
+AsksForHelp request.Explain = ⊥
+
 -- the name of the file that is written for a location, if one is
 abbrev pub file_of : Product → Option (List ℕ)
 file_of (product.Absolute out) = Some out

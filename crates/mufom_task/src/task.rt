@@ -1,10 +1,9 @@
 //! What the arguments of a run ask for.
 
-ghost use Rattle.std.specs.Prelude.{◌≡◌, [], true, unwrap_or, IfOk, OnErr};
-ghost use Rattle.mufom_words.specs.Options.{prints_help};
+ghost use Rattle.std.specs.Prelude.{◌≡◌, [], unwrap_or, IfOk, OnErr};
 ghost use Rattle.mufom_words.specs.Sound.{IsSound};
 ghost use Rattle.mufom_task.specs.Sound.{IsSoundRequest};
-ghost use Rattle.mufom_task.specs.Tasks.{bytes_product as bytes_of, inputs_named as inputs, locating, request_by, request_of as request};
+ghost use Rattle.mufom_task.specs.Tasks.{AsksForHelp, bytes_product as bytes_of, inputs_named as inputs, locating, request_by, request_of as request};
 
 use mufom_numbers::{Bytes, List, NoMemory, Text};
 use mufom_read::ReadOptions;
@@ -258,7 +257,7 @@ fn map(command: Command) -> Request
 // What a command asks for.
 fn request_named(alloc: Global, command: Command) -> Result<Request, NoMemory>
     ensures is { IfOk result (λ asked. asked ≡ request command) }
-    ensures memory { prints_help command.verb ≡ true → OnErr result ⊥ }
+    ensures memory { AsksForHelp (request command) → OnErr result ⊥ }
 {
     match command.verb {
         Verb::Show => Ok(show(command)),
@@ -290,7 +289,7 @@ pub fn request_of(alloc: Global, command: Command) -> Result<Request, NoMemory>
     requires sound { IsSound command }
     ensures is { IfOk result (λ asked. asked ≡ request command) }
     ensures sound { IfOk result IsSoundRequest }
-    ensures memory { prints_help command.verb ≡ true → OnErr result ⊥ }
+    ensures memory { AsksForHelp (request command) → OnErr result ⊥ }
 {
     request_named(alloc, command)
 }

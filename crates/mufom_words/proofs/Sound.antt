@@ -1,5 +1,5 @@
 -- Each command that words give is sound.
-use Rattle.std.proofs.Common.{◌≡◌, ◌≢◌, ◌≤◌, ℕ, Bool, cond, true, false, nat_lt, refl, ap, sym, ◌∙◌, arith, true≢false, codes, inl, inr, ◌⊎◌, ◌||◌}
+use Rattle.std.proofs.Common.{◌≡◌, ◌≢◌, ◌≤◌, ℕ, Bool, cond, true, false, nat_lt, refl, ap, sym, ◌∙◌, arith, codes, inl, inr, ◌⊎◌, ◌||◌}
 use Rattle.std.proofs.Common.{◌-◌, length, List, [], ◌∷◌, Option, Some, None, Ok, Err, subst, Result}
 use Rattle.std.specs.Prelude.{IfSome, IsSome, is_none, unwrap_or, not, nat_le, ◌==◌, ◌&&◌}
 use Rattle.std.specs.List.{list_all}
@@ -18,13 +18,14 @@ use Rattle.mufom_words.specs.declared.form.Operands.{Operands}
 use Rattle.mufom_words.specs.declared.form.Operands.TheVariants.{OneFile, SomeFiles, GroupedFiles, OneCount}
 use Rattle.mufom_words.specs.declared.operands.FileWord.{FileWord}
 use Rattle.mufom_words.specs.declared.operands.FileWord.TheVariants.{Opening, Closing, Plus, Name}
+use Rattle.mufom_words.specs.declared.options.Setting.{Setting}
 use Rattle.mufom_words.specs.declared.options.Setting.TheVariants as setting
 use Rattle.mufom_words.specs.declared.stop.UsageFault.{UsageFault}
 use Rattle.mufom_words.specs.declared.stop.UsageFault.TheVariants as fault
 use Rattle.mufom_words.specs.declared.stop.WordsStop.{WordsStop}
 use Rattle.mufom_words.specs.declared.stop.WordsStop.TheVariants as stop
-use Rattle.mufom_words.specs.Options.{Text, Usage, Given, usage_of, app_for, form_of, demands, takes, id_of, given_by, keeps_what_is_needed, makes_file}
-use Rattle.mufom_words.specs.Options.{makes_modules, names_module, prints_help, reads_files, reads_plan, takes_one_file}
+use Rattle.mufom_words.specs.Options.{Text, Usage, Given, usage_of, app_for, are_files, form_of, demands, form_for, takes, id_of, given_by, has_option}
+use Rattle.mufom_words.specs.Options.{operands_for, operands_in, settings_in}
 use Rattle.mufom_words.specs.Operands.{word_of, file_words, is_name, names_in, operands_fault, number_fault, count_fault, count_of, is_digit}
 use Rattle.mufom_words.specs.Operands.{decimal_number, number_of, files_of, marks_of, depth_of}
 use Rattle.mufom_numbers.specs.declared.limits.TheConstants.{MOST_MODULES, MOST_STRING_BYTES}
@@ -222,21 +223,25 @@ maus-within (Some (d ∷ e ∷ more)) = (omega arith, omega arith)
 
 -- ---- by the form
 
-takes-out : (f : Form) → takes (usage_of f).settings setting.Out ≡ makes_file (usage_of f).verb
-takes-out form.Show = refl
-takes-out form.Check = refl
-takes-out form.Link = refl
-takes-out form.Locate = refl
-takes-out form.Dump = refl
-takes-out form.Map = refl
-takes-out form.Make = refl
-takes-out form.Addr = refl
-takes-out form.Bin = refl
-takes-out form.Txt = refl
-takes-out form.FromTxt = refl
-takes-out form.Build = refl
+-- the row of its verb is the row itself
+row-of : (f : Form) → form_for (usage_of f).verb ≡ Some f
+row-of form.Show = refl
+row-of form.Check = refl
+row-of form.Link = refl
+row-of form.Locate = refl
+row-of form.Dump = refl
+row-of form.Map = refl
+row-of form.Make = refl
+row-of form.Addr = refl
+row-of form.Bin = refl
+row-of form.Txt = refl
+row-of form.FromTxt = refl
+row-of form.Build = refl
 
-demands-out : (f : Form) → demands (usage_of f).settings setting.Out ≡ makes_file (usage_of f).verb
+takes-own : (f : Form) (s : Setting) → takes (usage_of f).settings s ≡ has_option s (usage_of f).verb
+takes-own f s = ap (λ (row : Option Form). takes (settings_in row) s) (sym (row-of f))
+
+demands-out : (f : Form) → demands (usage_of f).settings setting.Out ≡ takes (usage_of f).settings setting.Out
 demands-out form.Show = refl
 demands-out form.Check = refl
 demands-out form.Link = refl
@@ -250,117 +255,33 @@ demands-out form.Txt = refl
 demands-out form.FromTxt = refl
 demands-out form.Build = refl
 
-takes-no-plan : (f : Form) → reads_plan (usage_of f).verb ≡ false → takes (usage_of f).settings setting.Plan ≡ false
-takes-no-plan form.Show e = refl
-takes-no-plan form.Check e = refl
-takes-no-plan form.Link e = refl
-takes-no-plan form.Locate e = absurd cc
-takes-no-plan form.Dump e = absurd cc
-takes-no-plan form.Map e = absurd cc
-takes-no-plan form.Make e = refl
-takes-no-plan form.Addr e = absurd cc
-takes-no-plan form.Bin e = absurd cc
-takes-no-plan form.Txt e = absurd cc
-takes-no-plan form.FromTxt e = refl
-takes-no-plan form.Build e = refl
+-- `clap` reads the arguments of the command
+has-row : (f : Form) (v : Verb) → form_for v ≡ None → (usage_of f).verb ≡ v → ⊥
+has-row f v none is = let same : None ≡ Some f = sym none ∙ sym (ap form_for is) ∙ row-of f in absurd cc
 
-takes-no-keep : (f : Form) → keeps_what_is_needed (usage_of f).verb ≡ false → takes (usage_of f).settings setting.Keep ≡ false
-takes-no-keep form.Show e = refl
-takes-no-keep form.Check e = refl
-takes-no-keep form.Link e = refl
-takes-no-keep form.Locate e = absurd cc
-takes-no-keep form.Dump e = absurd cc
-takes-no-keep form.Map e = absurd cc
-takes-no-keep form.Make e = refl
-takes-no-keep form.Addr e = refl
-takes-no-keep form.Bin e = absurd cc
-takes-no-keep form.Txt e = absurd cc
-takes-no-keep form.FromTxt e = refl
-takes-no-keep form.Build e = refl
+own-operands : (f : Form) → Some (usage_of f).operands ≡ operands_for (usage_of f).verb
+own-operands f = ap operands_in (sym (row-of f))
 
-takes-no-name : (f : Form) → names_module (usage_of f).verb ≡ false → takes (usage_of f).settings setting.Name ≡ false
-takes-no-name form.Show e = refl
-takes-no-name form.Check e = refl
-takes-no-name form.Link e = absurd cc
-takes-no-name form.Locate e = refl
-takes-no-name form.Dump e = refl
-takes-no-name form.Map e = refl
-takes-no-name form.Make e = refl
-takes-no-name form.Addr e = refl
-takes-no-name form.Bin e = refl
-takes-no-name form.Txt e = refl
-takes-no-name form.FromTxt e = refl
-takes-no-name form.Build e = refl
+operands-are : (f : Form) (o : Operands) → operands_for (usage_of f).verb ≡ Some o → (usage_of f).operands ≡ o
+operands-are f o is = ap (λ (found : Option Operands). unwrap_or found o) (own-operands f ∙ is)
 
-prints-no-help : (f : Form) → prints_help (usage_of f).verb ≡ false
-prints-no-help form.Show = refl
-prints-no-help form.Check = refl
-prints-no-help form.Link = refl
-prints-no-help form.Locate = refl
-prints-no-help form.Dump = refl
-prints-no-help form.Map = refl
-prints-no-help form.Make = refl
-prints-no-help form.Addr = refl
-prints-no-help form.Bin = refl
-prints-no-help form.Txt = refl
-prints-no-help form.FromTxt = refl
-prints-no-help form.Build = refl
+file-operands : (o : Operands) → are_files (Some o) ≡ true → o ≢ OneCount
+file-operands OneFile files = λ same. cc
+file-operands SomeFiles files = λ same. cc
+file-operands GroupedFiles files = λ same. cc
+file-operands OneCount files = absurd cc
 
-takes-files : (f : Form) → reads_files (usage_of f).verb ≡ true → (usage_of f).operands ≢ OneCount
-takes-files form.Show e = λ same. cc
-takes-files form.Check e = λ same. cc
-takes-files form.Link e = λ same. cc
-takes-files form.Locate e = λ same. cc
-takes-files form.Dump e = λ same. cc
-takes-files form.Map e = λ same. cc
-takes-files form.Make e = absurd cc
-takes-files form.Addr e = λ same. cc
-takes-files form.Bin e = λ same. cc
-takes-files form.Txt e = λ same. cc
-takes-files form.FromTxt e = λ same. cc
-takes-files form.Build e = λ same. cc
+takes-files : (f : Form) → are_files (operands_for (usage_of f).verb) ≡ true → (usage_of f).operands ≢ OneCount
+takes-files f files = file-operands (usage_of f).operands (ap are_files (own-operands f) ∙ files)
 
-takes-no-files : (f : Form) → reads_files (usage_of f).verb ≡ false → (usage_of f).operands ≡ OneCount
-takes-no-files form.Show e = absurd cc
-takes-no-files form.Check e = absurd cc
-takes-no-files form.Link e = absurd cc
-takes-no-files form.Locate e = absurd cc
-takes-no-files form.Dump e = absurd cc
-takes-no-files form.Map e = absurd cc
-takes-no-files form.Make e = refl
-takes-no-files form.Addr e = absurd cc
-takes-no-files form.Bin e = absurd cc
-takes-no-files form.Txt e = absurd cc
-takes-no-files form.FromTxt e = absurd cc
-takes-no-files form.Build e = absurd cc
+count-operands : (o : Operands) → are_files (Some o) ≡ false → o ≡ OneCount
+count-operands OneFile none = absurd cc
+count-operands SomeFiles none = absurd cc
+count-operands GroupedFiles none = absurd cc
+count-operands OneCount none = refl
 
-takes-count : (f : Form) → makes_modules (usage_of f).verb ≡ true → (usage_of f).operands ≡ OneCount
-takes-count form.Show e = absurd cc
-takes-count form.Check e = absurd cc
-takes-count form.Link e = absurd cc
-takes-count form.Locate e = absurd cc
-takes-count form.Dump e = absurd cc
-takes-count form.Map e = absurd cc
-takes-count form.Make e = refl
-takes-count form.Addr e = absurd cc
-takes-count form.Bin e = absurd cc
-takes-count form.Txt e = absurd cc
-takes-count form.FromTxt e = absurd cc
-takes-count form.Build e = absurd cc
-
-takes-one : (f : Form) → takes_one_file (usage_of f).verb ≡ true → (usage_of f).operands ≡ OneFile
-takes-one form.Show e = refl
-takes-one form.Check e = absurd cc
-takes-one form.Link e = absurd cc
-takes-one form.Locate e = absurd cc
-takes-one form.Dump e = absurd cc
-takes-one form.Map e = absurd cc
-takes-one form.Make e = absurd cc
-takes-one form.Addr e = absurd cc
-takes-one form.Bin e = absurd cc
-takes-one form.Txt e = absurd cc
-takes-one form.FromTxt e = refl
-takes-one form.Build e = refl
+takes-no-files : (f : Form) → are_files (operands_for (usage_of f).verb) ≡ false → (usage_of f).operands ≡ OneCount
+takes-no-files f none = count-operands (usage_of f).operands (ap are_files (own-operands f) ∙ none)
 
 no-files : (o : Operands) (words : List Text) → o ≡ OneCount → files_of o words ≡ []
 no-files OneFile words same = absurd cc
@@ -386,19 +307,21 @@ sound_by f rows is =
       files = record {
         some = λ files. subst (λ (n : ℕ). 1 ≤ n) (sym long) (fits.some (takes-files f files));
         none = λ reads. no-files o words (takes-no-files f reads);
-        one = λ one. one-file o words (takes-one f one) is.operand is.number;
+        one = λ one. one-file o words (operands-are f OneFile one) is.operand is.number;
         few = is.few;
       };
       options = record {
-        out = λ makes. out-given (demands (usage_of f).settings setting.Out) (given_by f rows).out is.out (demands-out f ∙ makes);
-        no_out = λ makes. not-taken (takes (usage_of f).settings setting.Out) (first_of (id_of setting.Out) rows) (takes-out f ∙ makes);
-        no_plan = λ reads. not-taken (takes (usage_of f).settings setting.Plan) (first_of (id_of setting.Plan) rows) (takes-no-plan f reads);
-        no_name = λ names. not-taken (takes (usage_of f).settings setting.Name) (first_of (id_of setting.Name) rows) (takes-no-name f names);
-        no_keep = λ keeps. none-taken (takes (usage_of f).settings setting.Keep) (unwrap_or (all_of (id_of setting.Keep) rows) []) (takes-no-keep f keeps);
+        out = λ makes. out-given (demands (usage_of f).settings setting.Out) (given_by f rows).out is.out (demands-out f ∙ takes-own f setting.Out ∙ makes);
+        no_out = λ makes. not-taken (takes (usage_of f).settings setting.Out) (first_of (id_of setting.Out) rows) (takes-own f setting.Out ∙ makes);
+        no_plan = λ reads. not-taken (takes (usage_of f).settings setting.Plan) (first_of (id_of setting.Plan) rows) (takes-own f setting.Plan ∙ reads);
+        no_name = λ names. not-taken (takes (usage_of f).settings setting.Name) (first_of (id_of setting.Name) rows) (takes-own f setting.Name ∙ names);
+        no_keep =
+            λ keeps. none-taken (takes (usage_of f).settings setting.Keep) (unwrap_or (all_of (id_of setting.Keep) rows) []) (takes-own f setting.Keep ∙ keeps);
         short = name-short (given_by f rows).name is.name;
-        count = λ makes. count-bounds o words is.count (takes-count f makes);
+        count = λ makes. count-bounds o words is.count (operands-are f OneCount makes);
         maus = maus-within (given_by f rows).maus;
-        help = λ prints. absurd (true≢false (sym prints ∙ prints-no-help f));
+        help = λ is. absurd (has-row f verb.Help refl is);
+        version = λ is. absurd (has-row f verb.Version refl is);
       };
     }
 
@@ -436,7 +359,8 @@ printing-sound v (Some text) c one is =
           count = λ makes. absurd cc;
           maus = (omega arith, omega arith);
           short = tt;
-          help = λ prints. refl;
+          help = λ is. refl;
+          version = λ is. refl;
         };
       }
       of-verb v (inr version) = subst (λ (x : Verb). IsSound (own_command x text)) (sym version) record {
@@ -451,7 +375,8 @@ printing-sound v (Some text) c one is =
           count = λ makes. absurd cc;
           maus = (omega arith, omega arith);
           short = tt;
-          help = λ prints. refl;
+          help = λ is. refl;
+          version = λ is. refl;
         };
       }
 
@@ -473,7 +398,8 @@ explain-sound = record {
     count = λ makes. absurd cc;
     maus = (omega arith, omega arith);
     short = tt;
-    help = λ prints. absurd cc;
+    help = λ is. absurd cc;
+    version = λ is. absurd cc;
   };
 }
 

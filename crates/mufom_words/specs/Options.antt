@@ -75,70 +75,42 @@ forms = form.Show ∷ form.Check ∷ form.Link ∷ form.Locate ∷ form.Dump ∷
 abbrev pub form_of : Text → Option Form
 form_of word = find (λ f. bytes_eq word (usage_of f).name) forms
 
--- the command makes a file, which `-o` names
-abbrev pub makes_file : Verb → Bool
-makes_file verb.Link = true
-makes_file verb.Locate = true
-makes_file verb.Bin = true
-makes_file verb.Txt = true
-makes_file verb.FromTxt = true
-makes_file verb.Build = true
-makes_file _ = false
+-- the row of a command; None for `help`, `version` and `explain`, whose arguments `clap` does not read
+abbrev pub form_for : Verb → Option Form
+form_for verb.Show = Some form.Show
+form_for verb.Check = Some form.Check
+form_for verb.Link = Some form.Link
+form_for verb.Locate = Some form.Locate
+form_for verb.Dump = Some form.Dump
+form_for verb.Map = Some form.Map
+form_for verb.Make = Some form.Make
+form_for verb.Addr = Some form.Addr
+form_for verb.Bin = Some form.Bin
+form_for verb.Txt = Some form.Txt
+form_for verb.FromTxt = Some form.FromTxt
+form_for verb.Build = Some form.Build
+form_for _ = None
 
--- the command reads a plan, if `--plan` names one
-abbrev pub reads_plan : Verb → Bool
-reads_plan verb.Locate = true
-reads_plan verb.Dump = true
-reads_plan verb.Map = true
-reads_plan verb.Addr = true
-reads_plan verb.Bin = true
-reads_plan verb.Txt = true
-reads_plan _ = false
+-- the options of a row
+abbrev pub settings_in : Option Form → List Setting
+settings_in None = []
+settings_in (Some f) = (usage_of f).settings
 
--- the command generates modules in place of files
-abbrev pub makes_modules : Verb → Bool
-makes_modules verb.Make = true
-makes_modules _ = false
+-- the operands of a row
+abbrev pub operands_in : Option Form → Option Operands
+operands_in None = None
+operands_in (Some f) = Some (usage_of f).operands
 
--- the command may name the module that it makes
-abbrev pub names_module : Verb → Bool
-names_module verb.Link = true
-names_module _ = false
+-- the operands of a command
+abbrev pub operands_for : Verb → Option Operands
+operands_for v = operands_in (form_for v)
 
--- the command may name public symbols, and then keeps what these symbols need
-abbrev pub keeps_what_is_needed : Verb → Bool
-keeps_what_is_needed verb.Locate = true
-keeps_what_is_needed verb.Dump = true
-keeps_what_is_needed verb.Map = true
-keeps_what_is_needed verb.Bin = true
-keeps_what_is_needed verb.Txt = true
-keeps_what_is_needed _ = false
-
--- the command takes exactly one file
-abbrev pub takes_one_file : Verb → Bool
-takes_one_file verb.Show = true
-takes_one_file verb.FromTxt = true
-takes_one_file verb.Build = true
-takes_one_file _ = false
-
--- the command reads files
-abbrev pub reads_files : Verb → Bool
-reads_files verb.Make = false
-reads_files verb.Help = false
-reads_files verb.Version = false
-reads_files verb.Explain = false
-reads_files _ = true
-
--- the command prints a text of the program itself
-abbrev pub prints_help : Verb → Bool
-prints_help verb.Help = true
-prints_help verb.Version = true
-prints_help _ = false
-
--- the command explains how a run with other arguments ends
-abbrev pub explains : Verb → Bool
-explains verb.Explain = true
-explains _ = false
+-- the operands are files
+abbrev pub are_files : Option Operands → Bool
+are_files (Some operands.OneFile) = true
+are_files (Some operands.SomeFiles) = true
+are_files (Some operands.GroupedFiles) = true
+are_files _ = false
 
 -- ---- the table of options
 
@@ -195,6 +167,10 @@ app_for f = app_with (usage_of f).name (usage_of f).settings
 -- the option is one of these
 abbrev pub takes : List Setting → Setting → Bool
 takes settings s = list_any (λ own. bytes_eq (id_of own) (id_of s)) settings
+
+-- the command has the option
+abbrev pub has_option : Setting → Verb → Bool
+has_option s v = takes (settings_in (form_for v)) s
 
 -- the option must be given
 abbrev pub is_required : Setting → Bool

@@ -1,9 +1,10 @@
 use Rattle.std.proofs.Common.{List, Result, map, subst, sym, ℕ}
 use Rattle.std.specs.String.{string_bytes}
 use Rattle.mufom_command.proofs.AnswerLaws.{does-nothing}
-use Rattle.mufom_command.proofs.HelpLaws.{help-asked, help-prints}
-use Rattle.mufom_command.specs.RunParts.{AsksForHelp, DoesBy, DoesWith}
+use Rattle.mufom_command.proofs.HelpLaws.{help-asked}
+use Rattle.mufom_command.specs.RunParts.{DoesBy, DoesWith}
 use Rattle.mufom_task.specs.Calls.{Call, call_of}
+use Rattle.mufom_task.specs.Tasks.{AsksForHelp}
 use Rattle.mufom_task.specs.declared.task.Request.{Request}
 use Rattle.mufom_words.specs.Answer.{answer_of}
 use Rattle.mufom_words.specs.declared.command.Command.{Command}
@@ -31,4 +32,4 @@ returns-in-Err-request_of-clause-does g c =
 pub returns-in-Err-request_of-clause-memory : goal.returns-in-Err-request_of-clause-memory
 returns-in-Err-request_of-clause-memory g c = λ prints.
     let words : List (List ℕ) = map (λ word. string_bytes word) c.args.words.now in
-    absurd (c.in-Err-request_of.ensures.memory (help-prints words c.in-Ok.command prints c.in-Ok.ensures.ok))
+    absurd (c.in-Err-request_of.ensures.memory (help-asked words c.in-Ok.command prints c.in-Ok.ensures.ok))
