@@ -78,7 +78,7 @@ fn print_whole_map<H: Host>(
 {
     let Location {
         origins,
-        object: module,
+        module,
         plan,
         located,
     } = location;
@@ -109,7 +109,7 @@ fn print_spot<H: Host>(alloc: Global, address: u64, location: &Location, host: &
 {
     let Location {
         origins,
-        object: module,
+        module,
         plan,
         located,
     } = location;
@@ -190,10 +190,7 @@ pub(crate) fn put_out<H: Host>(alloc: Global, ready: &Ready<'_>, host: &mut H) -
         Ready::Lines(text) => print_bytes(text, host),
         Ready::Help(text) => print_bytes(text.as_str().as_bytes(), host),
         Ready::Listing { modules, form } => print_one(alloc, *form, modules.as_slice(), host),
-        Ready::File {
-            out,
-            object: module,
-        } => make_file(out.as_str(), module, host),
+        Ready::File { out, module } => make_file(out.as_str(), module, host),
         Ready::Raw { out, fill, located } => make_raw(out.as_str(), *fill, located, host),
         Ready::Range {
             out,

@@ -69,7 +69,7 @@ module _ (e : Explained) (ms leaves : List Parts) (same : MeansTheSame ms leaves
 
   -- the located module is the same one
   fields : (n address : ℕ) → field_details one n address ≡ field_details other n address
-  fields n address = ap (λ (entry : Text). entry ++ lines_of_field e.own (field_of e.object e.own e.plan n address)) (entries n)
+  fields n address = ap (λ (entry : Text). entry ++ lines_of_field e.own (field_of e.«module» e.own e.plan n address)) (entries n)
 
   layouts : layout ms e.plan ≡ layout leaves e.plan
   layouts = layout_same ms leaves e.plan same

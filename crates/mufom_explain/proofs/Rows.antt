@@ -74,7 +74,16 @@ abbrev flat : List FileModule
 flat = (0, first) ∷ (1, second) ∷ []
 
 abbrev explained : Explained
-explained = record { names = files; flat = flat; origins = origins_of flat; maus = 4; modules = first ∷ second ∷ []; object = first; own = first; plan = plan }
+explained = record {
+  names = files;
+  flat = flat;
+  origins = origins_of flat;
+  maus = 4;
+  modules = first ∷ second ∷ [];
+  «module» = first;
+  own = first;
+  plan = plan;
+}
 
 misfit_is : locate_details explained (Place (Misfit 2 (Some 0)))
     ≡ line (codes "common 2: \"c\" size 6 align 8") ++ line (codes "  module 0 \"a\" file 0: \"a.695\"") ++ line (codes "  module 1 \"b\" file 1: \"b.695\"")
@@ -118,7 +127,7 @@ lacking = record {
   origins = origins_of ((0, root) ∷ (2, member) ∷ []);
   maus = 4;
   modules = root ∷ member ∷ [];
-  object = root;
+  «module» = root;
   own = root;
   plan = record { regions = []; symbols = []; keep = [] };
 }
@@ -151,7 +160,7 @@ bordered = record {
   origins = origins_of many;
   maus = 2;
   modules = empty ∷ small ∷ empty ∷ small ∷ [];
-  object = small;
+  «module» = small;
   own = small;
   plan = record { regions = []; symbols = []; keep = [] };
 }
@@ -199,7 +208,7 @@ sum = record first {
 }
 
 abbrev summed : Explained
-summed = record explained { flat = (0, sum) ∷ []; origins = origins_of ((0, sum) ∷ []); modules = sum ∷ []; object = sum; own = sum }
+summed = record explained { flat = (0, sum) ∷ []; origins = origins_of ((0, sum) ∷ []); modules = sum ∷ []; «module» = sum; own = sum }
 
 overflow_is : locate_details summed (Overflow 0 256 Unsigned 1 256)
     ≡ line (codes "section 0: \"t\" size 4 align 4, module 0 \"a\" file 0: \"a.695\"") ++ line (codes "value: (X0 + R0)") ++ line (codes "  X0: \"far\"")

@@ -102,7 +102,7 @@ pub record Explained : Type 0 where
   pub origins : List Origin
   pub maus : ℕ
   pub modules : List Parts
-  pub object : Parts
+  pub «module» : Parts
   pub own : Parts
   pub plan : Plan
 
@@ -159,7 +159,7 @@ lines_of_field m (Some t) = value_lines m t
 
 -- the lines of the section with a number, and of the value of the first field that is loaded into it at an address
 abbrev pub field_details : Explained → ℕ → ℕ → Text
-field_details e n address = entry_lines e n ++ lines_of_field e.own (field_of e.object e.own e.plan n address)
+field_details e n address = entry_lines e n ++ lines_of_field e.own (field_of e.«module» e.own e.plan n address)
 
 abbrev pub site_details : Explained → Site → Text
 site_details e (site.Public name) = mention_text e.names e.flat (name ∷ [])

@@ -60,9 +60,9 @@ explained_of c = record {
   names = all_files c.names.now;
   flat = flat_of c.flat.now;
   origins = c.origins.now;
-  maus = c.object.now.maus;
-  modules = c.object.now ∷ [];
-  object = c.object.now;
+  maus = c.«module».now.maus;
+  modules = c.«module».now ∷ [];
+  «module» = c.«module».now;
   own = c.own.now;
   plan = c.plan.now;
 }

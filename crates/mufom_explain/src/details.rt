@@ -59,7 +59,7 @@ pub struct LocateContext<'a> {
     /// The origins of the entries of the module that is located.
     pub origins: &'a Origins,
     /// The module that is located: the link of the flat list, or what is left of it, with the plan's symbols.
-    pub object: &'a Module,
+    pub module: &'a Module,
     /// That module without the plan's symbols. Its expressions are shown.
     pub own: &'a Module,
     pub plan: &'a Plan,
@@ -97,6 +97,6 @@ pub struct LocateDetails<'a> {
     pub(crate) context: LocateContext<'a>,
     pub(crate) commons: List<Section>,
     pub(crate) kind: LocateKind<'a>,
-    ghost units: { IsUnitCount context.object.now.maus },
-    ghost commons_are: { commons ≡ placed_commons (context.object.now ∷ []) context.plan.now },
+    ghost units: { IsUnitCount context.module.now.maus },
+    ghost commons_are: { commons ≡ placed_commons (context.module.now ∷ []) context.plan.now },
 }

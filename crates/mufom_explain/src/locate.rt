@@ -72,7 +72,7 @@ fn region_at<K: Output>(
     taken: u128,
 )
     requires units { IsUnitCount maus }
-    requires same { maus ≡ context.now.object.now.maus }
+    requires same { maus ≡ context.now.module.now.maus }
     ensures { K.takes out.old out.new (taken_text (explained_of context.now) number taken) }
 {
     match context.plan.regions.get(number as usize) {
@@ -87,7 +87,7 @@ impl<'a> LocateDetails<'a> {
         ensures { K.takes out.old out.new (entry_lines (explained_of self.now.context) number) }
     {
         let context = &self.context;
-        let parts = context.object.parts();
+        let parts = context.module.parts();
         let sections = parts.sections.as_slice();
         let position = number as usize;
         if position < sections.len() {
@@ -109,10 +109,10 @@ impl<'a> LocateDetails<'a> {
     // The line of the copy with a number, if it is one; copies are numbered after the commons.
     fn copy_line<K: Output>(&self, out: &mut K, copies: &[RegionCopy], number: u32)
         ensures { K.takes out.old out.new (copied_line number
-            (numbered_copy (length self.now.context.object.now.sections + length self.now.commons) copies.now number)) }
+            (numbered_copy (length self.now.context.module.now.sections + length self.now.commons) copies.now number)) }
     {
         let position = number as usize;
-        let sections = self.context.object.parts().sections.len();
+        let sections = self.context.module.parts().sections.len();
         let commons = self.commons.len();
         if position >= sections && position - sections >= commons {
             copied_at(out, number, copies, position - sections - commons);
@@ -132,7 +132,7 @@ impl<'a> LocateDetails<'a> {
         ensures { K.takes out.old out.new (taken_text (explained_of self.now.context) number taken) }
     {
         let context = &self.context;
-        region_at(out, context, context.object.parts().maus, number, taken);
+        region_at(out, context, context.module.parts().maus, number, taken);
     }
 }
 
@@ -191,9 +191,9 @@ fn about_undefined<'a>(
 ) -> Result<LocateKind<'a>, NoMemory>
     requires { length context.now.flat.now < 2 ^ 32 }
     ensures { IfOk result (λ kind. locate_lines (explained_of context.now) kind
-        ≡ mention_text (all_files context.now.names.now) (flat_of context.now.flat.now) (undefined_names (context.now.object.now ∷ []))) }
+        ≡ mention_text (all_files context.now.names.now) (flat_of context.now.flat.now) (undefined_names (context.now.module.now ∷ []))) }
 {
-    let wanted = undefined_names(alloc, context.object)?;
+    let wanted = undefined_names(alloc, context.module)?;
     Ok(LocateKind::Mentions(find_mentions(alloc, wanted, context.flat)?))
 }
 
@@ -210,11 +210,11 @@ fn copies_for(
     ensures { IfOk result (λ copies. lines_among (explained_of context.now) copies number ≡ placed_lines (explained_of context.now) number) }
 {
     let position = number as usize;
-    let sections = context.object.parts().sections.len();
+    let sections = context.module.parts().sections.len();
     if position < sections || position - sections < commons {
         return Ok(List::new(alloc));
     }
-    Ok(module_copies(alloc, context.object, context.plan)?)
+    Ok(module_copies(alloc, context.module, context.plan)?)
 }
 
 // The lines of a section, common or copy that does not fit the region with a number.
@@ -226,7 +226,7 @@ fn about_region<'a>(
     number: u32,
 ) -> Result<LocateKind<'a>, NoMemory>
     requires plan { IsReadPlan context.now.plan.now }
-    requires listed { AllListed context.now.plan.now context.now.object.now.sections }
+    requires listed { AllListed context.now.plan.now context.now.module.now.sections }
     requires copies { lines_among (explained_of context.now) copies section ≡ placed_lines (explained_of context.now) section }
     ensures { IfOk result (λ kind. locate_lines (explained_of context.now) kind
         ≡ placement_details (explained_of context.now) (PlaceRefusal.Misfit section (Some number))) }
@@ -234,7 +234,7 @@ fn about_region<'a>(
     let Some(region) = context.plan.regions.get(number as usize) else {
         return Ok(LocateKind::Placed(copies, section));
     };
-    let ends = region_ends(alloc, context.object, context.plan)?;
+    let ends = region_ends(alloc, context.module, context.plan)?;
     let taken = ends[number as usize].saturating_sub(region.base as u128);
     Ok(LocateKind::Misfit {
         copies,
@@ -253,7 +253,7 @@ fn about_misfit<'a>(
     region: Option<u32>,
 ) -> Result<LocateKind<'a>, NoMemory>
     requires plan { IsReadPlan context.now.plan.now }
-    requires listed { AllListed context.now.plan.now context.now.object.now.sections }
+    requires listed { AllListed context.now.plan.now context.now.module.now.sections }
     requires commons { commons ≡ length (commons_of (explained_of context.now)) }
     ensures { IfOk result (λ kind. locate_lines (explained_of context.now) kind
         ≡ placement_details (explained_of context.now) (PlaceRefusal.Misfit section region)) }
@@ -276,7 +276,7 @@ fn about_overlap<'a>(
     ensures { IfOk result (λ kind. locate_lines (explained_of context.now) kind
         ≡ placement_details (explained_of context.now) (PlaceRefusal.Overlap first second)) }
 {
-    let copies = module_copies(alloc, context.object, context.plan)?;
+    let copies = module_copies(alloc, context.module, context.plan)?;
     Ok(LocateKind::Entries(copies, first, second))
 }
 
@@ -289,7 +289,7 @@ fn about_placement<'a>(
 ) -> Result<LocateKind<'a>, NoMemory>
     requires plan { IsReadPlan context.now.plan.now }
     requires commons { commons ≡ length (commons_of (explained_of context.now)) }
-    requires met { copied_answer (context.now.object.now ∷ []) context.now.plan.now ≡ Some (placement refusal) }
+    requires met { copied_answer (context.now.module.now ∷ []) context.now.plan.now ≡ Some (placement refusal) }
     ensures { IfOk result (λ kind. locate_lines (explained_of context.now) kind ≡ placement_details (explained_of context.now) refusal) }
 {
     match refusal {
@@ -310,14 +310,14 @@ fn about_field<'a>(
     section: u32,
     address: u64,
 ) -> Result<LocateKind<'a>, NoMemory>
-    requires names { AreDistinct (names_of context.now.object.now.names.publics) }
+    requires names { AreDistinct (names_of context.now.module.now.names.publics) }
     requires plan { IsReadPlan context.now.plan.now }
-    requires resolved { resolutions.now ≡ resolutions_of context.now.object.now }
-    requires placed { placing_refusal context.now.object.now context.now.plan.now ≡ None }
-    requires acyclic { circular context.now.object.now ≡ None }
+    requires resolved { resolutions.now ≡ resolutions_of context.now.module.now }
+    requires placed { placing_refusal context.now.module.now context.now.plan.now ≡ None }
+    requires acyclic { circular context.now.module.now ≡ None }
     ensures { IfOk result (λ kind. locate_lines (explained_of context.now) kind ≡ field_details (explained_of context.now) section address) }
 {
-    let (module, own, plan) = (context.object, context.own, context.plan);
+    let (module, own, plan) = (context.module, context.own, context.plan);
     let found = find_field(alloc, module, own, resolutions, plan, section, address)?;
     match found {
         Some(value) => {
@@ -336,10 +336,10 @@ fn about_site<'a>(
     site: &'a Site,
 ) -> Result<LocateKind<'a>, NoMemory>
     requires flat { length context.now.flat.now < 2 ^ 32 }
-    requires names { AreDistinct (names_of context.now.object.now.names.publics) }
+    requires names { AreDistinct (names_of context.now.module.now.names.publics) }
     requires plan { IsReadPlan context.now.plan.now }
-    requires resolved { resolutions.now ≡ resolutions_of context.now.object.now }
-    requires met { copied_answer (context.now.object.now ∷ []) context.now.plan.now ≡ Some (zero_divisor site.now) }
+    requires resolved { resolutions.now ≡ resolutions_of context.now.module.now }
+    requires met { copied_answer (context.now.module.now ∷ []) context.now.plan.now ≡ Some (zero_divisor site.now) }
     ensures { IfOk result (λ kind. locate_lines (explained_of context.now) kind ≡ site_details (explained_of context.now) site.now) }
 {
     match site {
@@ -362,11 +362,11 @@ fn about<'a>(
     refusal: &'a LocateRefusal,
 ) -> Result<LocateKind<'a>, NoMemory>
     requires flat { length context.now.flat.now < 2 ^ 32 }
-    requires names { AreDistinct (names_of context.now.object.now.names.publics) }
+    requires names { AreDistinct (names_of context.now.module.now.names.publics) }
     requires plan { IsReadPlan context.now.plan.now }
-    requires resolved { resolutions.now ≡ resolutions_of context.now.object.now }
+    requires resolved { resolutions.now ≡ resolutions_of context.now.module.now }
     requires commons { commons ≡ length (commons_of (explained_of context.now)) }
-    requires met { IsMet (copied_answer (context.now.object.now ∷ []) context.now.plan.now) refusal.now }
+    requires met { IsMet (copied_answer (context.now.module.now ∷ []) context.now.plan.now) refusal.now }
     ensures { IfOk result (λ kind. locate_lines (explained_of context.now) kind ≡ locate_details (explained_of context.now) refusal.now) }
 {
     match refusal {
@@ -403,13 +403,13 @@ pub fn explain_locate<'a>(
     refusal: &'a LocateRefusal,
 ) -> Result<LocateDetails<'a>, NoMemory>
     requires flat { length context.flat.now < 2 ^ 32 }
-    requires names { AreDistinct (names_of context.object.now.names.publics) }
+    requires names { AreDistinct (names_of context.module.now.names.publics) }
     requires plan { IsReadPlan context.plan.now }
-    requires met { IsMet (copied_answer (context.object.now ∷ []) context.plan.now) refusal.now }
+    requires met { IsMet (copied_answer (context.module.now ∷ []) context.plan.now) refusal.now }
     ensures { IfOk result (λ details. locate_text details ≡ locate_details (explained_of context.entry) refusal.now) }
 {
-    let resolutions = resolve_references(alloc, context.object)?;
-    let commons = planned_commons(alloc, context.object, resolutions.as_slice(), context.plan)?;
+    let resolutions = resolve_references(alloc, context.module)?;
+    let commons = planned_commons(alloc, context.module, resolutions.as_slice(), context.plan)?;
     let kind = about(
         alloc,
         &context,
@@ -417,7 +417,7 @@ pub fn explain_locate<'a>(
         commons.len(),
         refusal,
     )?;
-    a_module_is_valid(context.object);
+    a_module_is_valid(context.module);
     Ok(LocateDetails {
         context,
         commons,

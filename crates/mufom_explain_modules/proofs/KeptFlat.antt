@@ -37,7 +37,7 @@ use Rattle.mufom_works.specs.FlatFiles.{AreFlatFiles, files_with}
 use Rattle.mufom_prepare.specs.Locations.{HasPlaces, IsKeptPart, IsTracedLink}
 use Rattle.mufom_explain_modules.specs.Lists.{AreLinkedFlat, IsKeptFlat}
 use Rattle.mufom_prepare.specs.Prepared.{AreReadFrom}
-use Rattle.mufom_works.specs.HasDetails.{IsObjectBy}
+use Rattle.mufom_works.specs.HasDetails.{IsModuleBy}
 use Rattle.mufom_works.specs.WorkEnds.{EndsAt, own_kept, own_rest}
 use Rattle.mufom_outcome.specs.declared.outcome.Outcome.{Outcome}
 use Rattle.mufom_works.proofs.EndLaws.{ends-along}
@@ -141,23 +141,24 @@ rest-some : (roots : Roots) (M : Parts) (o : Option (List ℕ)) (own : Kept) →
 rest-some roots M (Some name) own never = absurd never
 rest-some roots M None own (marks, is_kept, same) = (remains M marks, ap (λ (k : Kept). k.rest) same)
 
-alike-rest : (own kept : Kept) (c : Remains) (object : Parts) → own.rest ≡ Some c → own.modules ≡ object ∷ [] → AreAlike own kept
-    → IsObjectBy kept.rest kept.modules object
-alike-rest own kept c object rest modules (inl same) =
-    subst (λ (k : Kept). IsObjectBy k.rest k.modules object) same (subst (λ (r : Option Remains). IsObjectBy r own.modules object) (sym rest) modules)
-alike-rest own kept c object rest modules (inr (none, no_rest, alike)) =
+alike-rest : (own kept : Kept) (c : Remains) («module» : Parts) → own.rest ≡ Some c → own.modules ≡ «module» ∷ [] → AreAlike own kept
+    → IsModuleBy kept.rest kept.modules «module»
+alike-rest own kept c «module» rest modules (inl same) =
+    subst (λ (k : Kept). IsModuleBy k.rest k.modules «module») same (subst (λ (r : Option Remains). IsModuleBy r own.modules «module») (sym rest) modules)
+alike-rest own kept c «module» rest modules (inr (none, no_rest, alike)) =
     let both : Some c ≡ None = sym rest ∙ none in absurd cc
 
 -- the module that is kept of the link of a list is the one that is located for what is kept of the list
-object-kept : (keep : Option Roots) (M object : Parts) (list : List Parts) → IsJoined M list (first_name list) → (own kept : Kept)
-    → own_kept keep M (gives own) → own.modules ≡ object ∷ [] → kept_of keep list (gives kept) → AreAlike own kept → IsObjectBy kept.rest kept.modules object
-object-kept None M object list joined own kept keeps modules all alike =
-    let both : (M ∷ []) ≡ (object ∷ []) = sym (ap (λ (k : Kept). k.modules) keeps) ∙ modules in
-    let same : M ≡ object = cc in
-    subst (λ (k : Kept). IsObjectBy k.rest k.modules object) (sym all) (subst (λ (m : Parts). IsJoined m list (first_name list)) same joined)
-object-kept (Some roots) M object list joined own kept keeps modules all alike =
+module-kept : (keep : Option Roots) (M «module» : Parts) (list : List Parts) → IsJoined M list (first_name list) → (own kept : Kept)
+    → own_kept keep M (gives own) → own.modules ≡ «module» ∷ [] → kept_of keep list (gives kept) → AreAlike own kept
+    → IsModuleBy kept.rest kept.modules «module»
+module-kept None M «module» list joined own kept keeps modules all alike =
+    let both : (M ∷ []) ≡ («module» ∷ []) = sym (ap (λ (k : Kept). k.modules) keeps) ∙ modules in
+    let same : M ≡ «module» = cc in
+    subst (λ (k : Kept). IsModuleBy k.rest k.modules «module») (sym all) (subst (λ (m : Parts). IsJoined m list (first_name list)) same joined)
+module-kept (Some roots) M «module» list joined own kept keeps modules all alike =
     let (c, rest) = rest-some roots M (first_unknown (M ∷ []) roots.names) own keeps in
-    alike-rest own kept c object rest modules alike
+    alike-rest own kept c «module» rest modules alike
 
 module _ (tree : Forest) (first : leaves tree ≡ numbers_from 0 (length (leaves tree))) (ms : List Parts) (valid : AreValid ms) (keep : Option Roots)
     (places : Places) (whole : TracedModule) (link : IsTracedLink tree ms places whole) (flat : List FileModule)
@@ -177,36 +178,36 @@ module _ (tree : Forest) (first : leaves tree ≡ numbers_from 0 (length (leaves
       linked-with tree ms places link.has flat are link.links.0 link.links.1 files inputs same names plan read
 
   -- what is kept of the link is kept of the flat list, or means the same
-  pub told-kept : (plan : Plan) (part : TracedModule) → IsKeptPart keep whole part → (kept : Kept) × IsKeptFlat keep flat part.object part.origins kept
+  pub told-kept : (plan : Plan) (part : TracedModule) → IsKeptPart keep whole part → (kept : Kept) × IsKeptFlat keep flat part.«module» part.origins kept
   told-kept plan part is =
       let (list, is_linked, joined) = link.links in
-      let like : IsKeptAlike keep list is.kept = own-is tree ms valid whole.object link.valid plan keep list is_linked joined is.kept is.keeps in
+      let like : IsKeptAlike keep list is.kept = own-is tree ms valid whole.«module» link.valid plan keep list is_linked joined is.kept is.keeps in
       by like where
-        means : (kept : Kept) → AreAlike is.kept kept → AreSame (part.object ∷ []) kept.modules
+        means : (kept : Kept) → AreAlike is.kept kept → AreSame (part.«module» ∷ []) kept.modules
         means kept (inl alike) =
-            subst (λ (l : List Parts). AreSame (part.object ∷ []) l) (sym is.modules ∙ ap (λ (k : Kept). k.modules) alike)
-            (same-itself (part.object ∷ []))
+            subst (λ (l : List Parts). AreSame (part.«module» ∷ []) l) (sym is.modules ∙ ap (λ (k : Kept). k.modules) alike)
+            (same-itself (part.«module» ∷ []))
         means kept (inr (none, no_rest, alike)) = subst (λ (l : List Parts). AreSame l kept.modules) is.modules alike
 
         rests : (kept : Kept) → AreAlike is.kept kept → is.kept.rest ≡ kept.rest
         rests kept (inl alike) = ap (λ (k : Kept). k.rest) alike
         rests kept (inr (none, no_rest, alike)) = none ∙ sym no_rest
 
-        by : IsKeptAlike keep link.links.0 is.kept → (kept : Kept) × IsKeptFlat keep flat part.object part.origins kept
+        by : IsKeptAlike keep link.links.0 is.kept → (kept : Kept) × IsKeptFlat keep flat part.«module» part.origins kept
         by like = (
           like.kept,
           record {
             keeps = subst (λ (l : List Parts). kept_of keep l (gives like.kept)) (sym own-same) like.keeps;
             same = means like.kept like.alike;
-            object_is = object-kept keep whole.object part.object link.links.0 link.links.2 is.kept like.kept is.keeps is.modules like.keeps like.alike;
+            module_is = module-kept keep whole.«module» part.«module» link.links.0 link.links.2 is.kept like.kept is.keeps is.modules like.keeps like.alike;
             from = is.origins ∙ (λ i. kept_origins (rests like.kept like.alike i) (origins-flat i));
           },
         )
 
   -- a name that no public has ends both
-  pub told-ends : (answer : Outcome) → EndsAt (own_kept keep whole.object) answer → EndsAt (kept_of keep (modules_of flat)) answer
+  pub told-ends : (answer : Outcome) → EndsAt (own_kept keep whole.«module») answer → EndsAt (kept_of keep (modules_of flat)) answer
   told-ends answer ends =
       let (list, is_linked, joined) = link.links in
       subst (λ (l : List Parts). EndsAt (kept_of keep l) answer) (sym own-same)
-      (ends-along (own_kept keep whole.object) (kept_of keep list)
-      (λ s is. own-ends tree ms valid whole.object link.valid no_regions keep list is_linked joined s is) answer ends)
+      (ends-along (own_kept keep whole.«module») (kept_of keep list)
+      (λ s is. own-ends tree ms valid whole.«module» link.valid no_regions keep list is_linked joined s is) answer ends)

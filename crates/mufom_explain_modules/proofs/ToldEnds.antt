@@ -48,7 +48,7 @@ use Rattle.mufom_task.specs.Tasks.{file_of, inputs_of, reads_files}
 use Rattle.mufom_task.proofs.InputsLaws.{known-map, over-map}
 use Rattle.mufom_prepare.specs.declared.locating.Location.{Location}
 use Rattle.mufom_prepare.specs.declared.ready.Ready.{Ready}
-use Rattle.mufom_works.specs.HasDetails.{IsObjectWith, IsRefusedFlat, lines_of_link, lines_of_locate, lines_of_name, lines_of_shared, plan_lines}
+use Rattle.mufom_works.specs.HasDetails.{IsModuleWith, IsRefusedFlat, lines_of_link, lines_of_locate, lines_of_name, lines_of_shared, plan_lines}
 use Rattle.mufom_works.specs.InputLines.{untried_lines}
 use Rattle.mufom_prepare.specs.Locations.{AreMapped, shown_of}
 use Rattle.mufom_prepare.specs.Ready.{ready_output}
@@ -139,11 +139,11 @@ pub link-over : (files : Option (List NamedFile)) (c : Inputs) (name : Option (L
     → EndsOver files (task.Link c name out) outcome.Done (untried_lines (Some out))
 link-over files c name out names plan ms read ready makes = (
   (
-    made out (written makes.object),
+    made out (written makes.«module»),
     record {
       place = refl;
-      cause = known-map (λ fs. AreReadOver fs c names plan ms) (λ fs. work_of (task.Link c name out) fs (gives (made out (written makes.object)))) files
-          (λ fs is. link-gives c plan ms fs is.read name out makes.object makes.links makes.held) read;
+      cause = known-map (λ fs. AreReadOver fs c names plan ms) (λ fs. work_of (task.Link c name out) fs (gives (made out (written makes.«module»)))) files
+          (λ fs is. link-gives c plan ms fs is.read name out makes.«module» makes.links makes.held) read;
     },
   ),
   refl,
@@ -163,16 +163,16 @@ without-symbols ms plan empty = by (placing_fact ms plan) where
   by (Some f) = none-followed ms _ plan.symbols empty
 
 -- the first module of a list with symbols is that of the list
-first-followed : (object m : Parts) (ms : List Parts) (numbers : PlanSymbol → ℕ) (ps : List PlanSymbol)
-    → HasFirstHeader object (followed_by (m ∷ ms) numbers ps) → object.maus ≡ m.maus
-first-followed object m ms numbers [] h = h.maus
-first-followed object m ms numbers (symbol ∷ more) h = h.maus
+first-followed : («module» m : Parts) (ms : List Parts) (numbers : PlanSymbol → ℕ) (ps : List PlanSymbol)
+    → HasFirstHeader «module» (followed_by (m ∷ ms) numbers ps) → «module».maus ≡ m.maus
+first-followed «module» m ms numbers [] h = h.maus
+first-followed «module» m ms numbers (symbol ∷ more) h = h.maus
 
-first-shown : (object m : Parts) (ms : List Parts) (plan : Plan) → HasFirstHeader object (shown_list (m ∷ ms) plan) → object.maus ≡ m.maus
-first-shown object m ms plan = by (placing_fact (m ∷ ms) plan) where
-  by : (o : Option LocateFact) → HasFirstHeader object (shown_if o (m ∷ ms) plan) → object.maus ≡ m.maus
-  by None h = first-followed object m ms _ plan.symbols h
-  by (Some f) h = first-followed object m ms _ plan.symbols h
+first-shown : («module» m : Parts) (ms : List Parts) (plan : Plan) → HasFirstHeader «module» (shown_list (m ∷ ms) plan) → «module».maus ≡ m.maus
+first-shown «module» m ms plan = by (placing_fact (m ∷ ms) plan) where
+  by : (o : Option LocateFact) → HasFirstHeader «module» (shown_if o (m ∷ ms) plan) → «module».maus ≡ m.maus
+  by None h = first-followed «module» m ms _ plan.symbols h
+  by (Some f) h = first-followed «module» m ms _ plan.symbols h
 
 abbrev name_by : Option Header → List ℕ
 name_by None = []
@@ -191,10 +191,10 @@ pub located-alone : (part : Parts) (plan : Plan) → plan.symbols ≡ [] → IsL
 located-alone part plan empty = subst (λ (ps : List PlanSymbol). IsLocatedWith ps part plan part) (sym empty) refl
 
 -- with symbols, its link with them
-pub located-linked : (part object : Parts) (plan : Plan) → plan.symbols ≢ [] → IsJoined object (shown_list (part ∷ []) plan) part.name
-    → MeansTheSame (object ∷ []) (shown_list (part ∷ []) plan) → IsLocatedAs part plan object
-located-linked part object plan some joined means = by plan.symbols some where
-  by : (ps : List PlanSymbol) → ps ≢ [] → IsLocatedWith ps part plan object
+pub located-linked : (part «module» : Parts) (plan : Plan) → plan.symbols ≢ [] → IsJoined «module» (shown_list (part ∷ []) plan) part.name
+    → MeansTheSame («module» ∷ []) (shown_list (part ∷ []) plan) → IsLocatedAs part plan «module»
+located-linked part «module» plan some joined means = by plan.symbols some where
+  by : (ps : List PlanSymbol) → ps ≢ [] → IsLocatedWith ps part plan «module»
   by [] none = absurd (none refl)
   by (symbol ∷ more) other = (joined, means)
 
@@ -205,9 +205,9 @@ met-alone part plan empty r other met =
     subst (λ (l : List Parts). IsMet (copied_answer l plan) r) (none-followed (part ∷ []) _ plan.symbols empty)
     (met-listed (part ∷ []) plan r other met).1
 
-pub met-linked : (part object : Parts) (plan : Plan) → copied_answer (object ∷ []) plan ≡ copied_answer (with_symbols (part ∷ []) plan) plan
-    → (r : LocateRefusal) → r ≢ locate.NoMemory → IsMet (list_fact (planned_answer (part ∷ []) plan)) r → IsMet (copied_answer (object ∷ []) plan) r
-met-linked part object plan same r other met =
+pub met-linked : (part «module» : Parts) (plan : Plan) → copied_answer («module» ∷ []) plan ≡ copied_answer (with_symbols (part ∷ []) plan) plan
+    → (r : LocateRefusal) → r ≢ locate.NoMemory → IsMet (list_fact (planned_answer (part ∷ []) plan)) r → IsMet (copied_answer («module» ∷ []) plan) r
+met-linked part «module» plan same r other met =
     subst (λ (o : Option LocateFact). IsMet o r) (sym same) (met-listed (part ∷ []) plan r other met).1
 
 -- ---- a location of which nothing is made
@@ -276,13 +276,13 @@ module _ (files : Option (List NamedFile)) (c : Inputs) (names : ModuleFiles) (k
     module _ (part : Parts) (origins : List Origin) where
       -- what a fact against the module that is located is explained by
       abbrev own_explained : Parts → Explained
-      own_explained object = record {
+      own_explained «module» = record {
         names = names;
         flat = flat;
         origins = origins;
-        maus = object.maus;
-        modules = object ∷ [];
-        object = object;
+        maus = «module».maus;
+        modules = «module» ∷ [];
+        «module» = «module»;
         own = part;
         plan = plan;
       }
@@ -327,38 +327,38 @@ module _ (files : Option (List NamedFile)) (c : Inputs) (names : ModuleFiles) (k
 
         -- ---- a fact about the list with the plan's symbols
 
-        module _ (object : Parts) (f : LocateFact) (met : planned_answer (part ∷ []) plan ≡ Some (of_list f)) where
+        module _ («module» : Parts) (f : LocateFact) (met : planned_answer (part ∷ []) plan ≡ Some (of_list f)) where
           none-shared : first_shared is.kept.modules plan ≡ None
           none-shared = unshared-by is.kept.modules plan f (sym alike.answers ∙ met)
 
           -- it is explained as against what is kept of the flat list
-          explained-with : (ps : List PlanSymbol) → plan.symbols ≡ ps → IsLocatedWith ps part plan object → (r : LocateRefusal)
-              → locate_details (own_explained object) r
-              ≡ locate_details (record (own_explained object) { modules = shown_list is.kept.modules plan }) r
+          explained-with : (ps : List PlanSymbol) → plan.symbols ≡ ps → IsLocatedWith ps part plan «module» → (r : LocateRefusal)
+              → locate_details (own_explained «module») r
+              ≡ locate_details (record (own_explained «module») { modules = shown_list is.kept.modules plan }) r
           explained-with [] empty same r =
               subst (λ (o : Parts). locate_details (own_explained o) r
               ≡ locate_details (record (own_explained o) { modules = shown_list is.kept.modules plan }) r) (sym same)
               (explained-alike (own_explained part) (part ∷ []) (shown_list is.kept.modules plan)
               (subst (λ (l : List Parts). MeansTheSame (part ∷ []) l) (sym (without-symbols is.kept.modules plan empty)) is.keeps.same.means) r)
           explained-with (symbol ∷ more) some (joined, means) r =
-              explained-alike (own_explained object) (object ∷ []) (shown_list (part ∷ []) plan) means r
-              ∙ explained-alike (own_explained object) (shown_list (part ∷ []) plan) (shown_list is.kept.modules plan) (alike.shown none-shared) r
+              explained-alike (own_explained «module») («module» ∷ []) (shown_list (part ∷ []) plan) means r
+              ∙ explained-alike (own_explained «module») (shown_list (part ∷ []) plan) (shown_list is.kept.modules plan) (alike.shown none-shared) r
 
-          object-with : (ps : List PlanSymbol) → plan.symbols ≡ ps → IsLocatedWith ps part plan object → IsObjectWith ps plan is.kept object
-          object-with [] empty same = subst (λ (o : Parts). IsObjectWith [] plan is.kept o) (sym same) is.keeps.object_is
-          object-with (symbol ∷ more) some (joined, means) =
-              subst (λ (n : List ℕ). IsJoined object (shown_list is.kept.modules plan) n) (name-kept part is.kept.modules is.keeps.same.means)
-              (((alike.shown none-shared).same_joined object part.name).0 joined)
+          module-with : (ps : List PlanSymbol) → plan.symbols ≡ ps → IsLocatedWith ps part plan «module» → IsModuleWith ps plan is.kept «module»
+          module-with [] empty same = subst (λ (o : Parts). IsModuleWith [] plan is.kept o) (sym same) is.keeps.module_is
+          module-with (symbol ∷ more) some (joined, means) =
+              subst (λ (n : List ℕ). IsJoined «module» (shown_list is.kept.modules plan) n) (name-kept part is.kept.modules is.keeps.same.means)
+              (((alike.shown none-shared).same_joined «module» part.name).0 joined)
 
-          units-with : (ps : List PlanSymbol) → plan.symbols ≡ ps → IsLocatedWith ps part plan object → object.maus ≡ part.maus
+          units-with : (ps : List PlanSymbol) → plan.symbols ≡ ps → IsLocatedWith ps part plan «module» → «module».maus ≡ part.maus
           units-with [] empty same = ap (λ (m : Parts). m.maus) same
-          units-with (symbol ∷ more) some (joined, means) = first-shown object part [] plan joined.header
+          units-with (symbol ∷ more) some (joined, means) = first-shown «module» part [] plan joined.header
 
-          pub locate-over : IsLocatedAs part plan object → f ≢ placement place_refusal.NoMemory → (details : List ℕ)
-              → details ≡ locate_details (own_explained object) (locate_refusal f)
-              → EndsOver files t (outcome.Refused (refusal.Locate (locate_refusal f) object.maus)) details
-          locate-over is_object other details are =
-              let units = units-with plan.symbols refl is_object in (
+          pub locate-over : IsLocatedAs part plan «module» → f ≢ placement place_refusal.NoMemory → (details : List ℕ)
+              → details ≡ locate_details (own_explained «module») (locate_refusal f)
+              → EndsOver files t (outcome.Refused (refusal.Locate (locate_refusal f) «module».maus)) details
+          locate-over is_module other details are =
+              let units = units-with plan.symbols refl is_module in (
                 record {
                   stop = locate_fact part.maus f;
                   is = ap (λ (n : ℕ). outcome.Refused (refusal.Locate (locate_refusal f) n)) units;
@@ -381,12 +381,12 @@ module _ (files : Option (List NamedFile)) (c : Inputs) (names : ModuleFiles) (k
                             is.keeps.keeps,
                             (
                               part,
-                              is.keeps.object_is,
+                              is.keeps.module_is,
                               (
-                                object,
-                                object-with plan.symbols refl is_object,
-                                are ∙ explained-with plan.symbols refl is_object (locate_refusal f)
-                                    ∙ (λ i. locate_details (record (own_explained object) {
+                                «module»,
+                                module-with plan.symbols refl is_module,
+                                are ∙ explained-with plan.symbols refl is_module (locate_refusal f)
+                                    ∙ (λ i. locate_details (record (own_explained «module») {
                                       names = there.named i;
                                       maus = units i;
                                       modules = shown_list is.kept.modules plan;
@@ -401,32 +401,32 @@ module _ (files : Option (List NamedFile)) (c : Inputs) (names : ModuleFiles) (k
               )
 
         -- the error that was returned is that of such a fact
-        pub obstacle-over : (object : Parts) → IsLocatedAs part plan object → (r : LocateRefusal) → r ≢ locate.NoMemory
-            → IsMet (list_fact (planned_answer (part ∷ []) plan)) r → (details : List ℕ) → details ≡ locate_details (own_explained object) r
-            → EndsOver files t (outcome.Refused (refusal.Locate r object.maus)) details
-        obstacle-over object is_object locate.NoMemory memory met details are = absurd (memory refl)
-        obstacle-over object is_object (locate.Place e) memory met details are =
-            locate-over object (placement e) (listed (planned_answer (part ∷ []) plan) (placement e) met) is_object
+        pub obstacle-over : («module» : Parts) → IsLocatedAs part plan «module» → (r : LocateRefusal) → r ≢ locate.NoMemory
+            → IsMet (list_fact (planned_answer (part ∷ []) plan)) r → (details : List ℕ) → details ≡ locate_details (own_explained «module») r
+            → EndsOver files t (outcome.Refused (refusal.Locate r «module».maus)) details
+        obstacle-over «module» is_module locate.NoMemory memory met details are = absurd (memory refl)
+        obstacle-over «module» is_module (locate.Place e) memory met details are =
+            locate-over «module» (placement e) (listed (planned_answer (part ∷ []) plan) (placement e) met) is_module
             (λ same. planned_never_lacks (part ∷ []) plan (listed (planned_answer (part ∷ []) plan) (placement e) met
             ∙ ap (λ (f : LocateFact). Some (of_list f)) same)) details are
-        obstacle-over object is_object (locate.Undefined name) memory met details are =
-            locate-over object (undefined name) (listed (planned_answer (part ∷ []) plan) (undefined name) met) is_object (λ same. cc) details are
-        obstacle-over object is_object (locate.CommonUnplaced name) memory met details are =
-            locate-over object (common_unplaced name) (listed (planned_answer (part ∷ []) plan) (common_unplaced name) met) is_object (λ same. cc) details are
-        obstacle-over object is_object (locate.Cycle name) memory met details are =
-            locate-over object (cycle name) (listed (planned_answer (part ∷ []) plan) (cycle name) met) is_object (λ same. cc) details are
-        obstacle-over object is_object (locate.DivideByZero site) memory met details are =
-            locate-over object (zero_divisor site) (listed (planned_answer (part ∷ []) plan) (zero_divisor site) met) is_object (λ same. cc) details are
-        obstacle-over object is_object (locate.Overflow section address kind size value) memory met details are =
-            locate-over object (overflow section address kind size value)
-            (listed (planned_answer (part ∷ []) plan) (overflow section address kind size value) met) is_object (λ same. cc) details are
-        obstacle-over object is_object (locate.LoadOutside section address) memory met details are =
-            locate-over object (load_outside section address) (listed (planned_answer (part ∷ []) plan) (load_outside section address) met) is_object
+        obstacle-over «module» is_module (locate.Undefined name) memory met details are =
+            locate-over «module» (undefined name) (listed (planned_answer (part ∷ []) plan) (undefined name) met) is_module (λ same. cc) details are
+        obstacle-over «module» is_module (locate.CommonUnplaced name) memory met details are =
+            locate-over «module» (common_unplaced name) (listed (planned_answer (part ∷ []) plan) (common_unplaced name) met) is_module (λ same. cc) details are
+        obstacle-over «module» is_module (locate.Cycle name) memory met details are =
+            locate-over «module» (cycle name) (listed (planned_answer (part ∷ []) plan) (cycle name) met) is_module (λ same. cc) details are
+        obstacle-over «module» is_module (locate.DivideByZero site) memory met details are =
+            locate-over «module» (zero_divisor site) (listed (planned_answer (part ∷ []) plan) (zero_divisor site) met) is_module (λ same. cc) details are
+        obstacle-over «module» is_module (locate.Overflow section address kind size value) memory met details are =
+            locate-over «module» (overflow section address kind size value)
+            (listed (planned_answer (part ∷ []) plan) (overflow section address kind size value) met) is_module (λ same. cc) details are
+        obstacle-over «module» is_module (locate.LoadOutside section address) memory met details are =
+            locate-over «module» (load_outside section address) (listed (planned_answer (part ∷ []) plan) (load_outside section address) met) is_module
             (λ same. cc) details are
-        obstacle-over object is_object (locate.LoadedTwice address) memory met details are =
-            locate-over object (loaded_twice address) (listed (planned_answer (part ∷ []) plan) (loaded_twice address) met) is_object (λ same. cc) details are
-        obstacle-over object is_object (locate.ImageLimit count) memory met details are =
-            locate-over object (image_limit count) (listed (planned_answer (part ∷ []) plan) (image_limit count) met) is_object (λ same. cc) details are
+        obstacle-over «module» is_module (locate.LoadedTwice address) memory met details are =
+            locate-over «module» (loaded_twice address) (listed (planned_answer (part ∷ []) plan) (loaded_twice address) met) is_module (λ same. cc) details are
+        obstacle-over «module» is_module (locate.ImageLimit count) memory met details are =
+            locate-over «module» (image_limit count) (listed (planned_answer (part ∷ []) plan) (image_limit count) met) is_module (λ same. cc) details are
 
   -- ---- a location
 

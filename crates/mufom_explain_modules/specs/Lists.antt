@@ -24,7 +24,7 @@ use Rattle.mufom_task.specs.declared.task.Task.TheVariants as task
 use Rattle.mufom_works.specs.Roots.{Roots, roots_by}
 use Rattle.mufom_works.specs.Works.{Kept, kept_of, kept_origins}
 use Rattle.mufom_works.specs.FlatFiles.{AreFlatFiles}
-use Rattle.mufom_works.specs.HasDetails.{IsObjectBy}
+use Rattle.mufom_works.specs.HasDetails.{IsModuleBy}
 use Rattle.mufom_works.specs.WorkEnds.{EndsAt}
 use Rattle.mufom_prepare.specs.Prepared.{AreReadFrom}
 
@@ -39,10 +39,10 @@ pub record AreLinkedFlat (files : Option (List NamedFile)) (inputs : Inputs) (na
 
 -- `kept` is what is kept of such a list. The module with these origins is located instead of it: it means the same, and its entries come from the
 -- same modules as in the list. It is the link of the list, or what remains of it.
-pub record IsKeptFlat (keep : Option Roots) (flat : List FileModule) (object : Parts) (origins : List Origin) (kept : Kept) : Type 0 where
+pub record IsKeptFlat (keep : Option Roots) (flat : List FileModule) («module» : Parts) (origins : List Origin) (kept : Kept) : Type 0 where
   pub keeps : kept_of keep (modules_of flat) (gives kept)
-  pub same : AreSame (object ∷ []) kept.modules
-  pub object_is : IsObjectBy kept.rest kept.modules object
+  pub same : AreSame («module» ∷ []) kept.modules
+  pub module_is : IsModuleBy kept.rest kept.modules «module»
   pub from : origins ≡ kept_origins kept.rest (origins_of flat)
 
 -- nothing is kept of such a list for this reason
@@ -59,19 +59,19 @@ pub record AreUnkept (files : Option (List NamedFile)) (inputs : Inputs) (names 
 
 -- the module with these origins is located instead of what is kept of it
 pub record AreUnlocated (files : Option (List NamedFile)) (inputs : Inputs) (names : ModuleFiles) (keep : List (List ℕ)) (plan : Plan)
-    (ms : List Parts) (flat : List FileModule) (object : Parts) (origins : List Origin) : Type 0 where
+    (ms : List Parts) (flat : List FileModule) («module» : Parts) (origins : List Origin) : Type 0 where
   pub linked : AreLinkedFlat files inputs names plan ms flat
   pub kept : Kept
-  pub keeps : IsKeptFlat (roots_by keep plan) flat object origins kept
+  pub keeps : IsKeptFlat (roots_by keep plan) flat «module» origins kept
 
 -- the module that is located for a part by a plan: the part, or its link with the plan's symbols if there are any
 abbrev pub IsLocatedWith : List PlanSymbol → Parts → Plan → Parts → Type 0
-IsLocatedWith [] part plan object = object ≡ part
-IsLocatedWith (symbol ∷ more) part plan object =
-    IsJoined object (shown_list (part ∷ []) plan) part.name × MeansTheSame (object ∷ []) (shown_list (part ∷ []) plan)
+IsLocatedWith [] part plan «module» = «module» ≡ part
+IsLocatedWith (symbol ∷ more) part plan «module» =
+    IsJoined «module» (shown_list (part ∷ []) plan) part.name × MeansTheSame («module» ∷ []) (shown_list (part ∷ []) plan)
 
 abbrev pub IsLocatedAs : Parts → Plan → Parts → Type 0
-IsLocatedAs part plan object = IsLocatedWith plan.symbols part plan object
+IsLocatedAs part plan «module» = IsLocatedWith plan.symbols part plan «module»
 
 -- the task links lists of the modules of these inputs into one, under this name, if one is given
 abbrev pub LinksLists : Task → Inputs → Option (List ℕ) → Type 0

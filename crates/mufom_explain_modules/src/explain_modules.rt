@@ -250,9 +250,9 @@ fn explain_fact<H: Host>(
     requires met { IsMet (copied_answer («module».now ∷ []) plan.now) refusal.now }
     requires memory { refusal.now ≢ LocateRefusal.NoMemory }
     ensures { (files : option (list NamedFile)) (inputs : Reads) (ms : list Parts) (keep : list (list ℕ)) (made : Made)
-        → AreUnlocated files inputs (all_files names.now) keep plan.now ms (flat_of flat.now) part.now.object part.now.origins
-        → IsLocatedAs part.now.object plan.now «module».now
-        → IsMetBy (planned_answer (part.now.object ∷ []) plan.now) (PlannedRefusal.Locate refusal.now)
+        → AreUnlocated files inputs (all_files names.now) keep plan.now ms (flat_of flat.now) part.now.module part.now.origins
+        → IsLocatedAs part.now.module plan.now «module».now
+        → IsMetBy (planned_answer (part.now.module ∷ []) plan.now) (PlannedRefusal.Locate refusal.now)
         → Tells (map (λ word. string_bytes word) words.now) (task_variants.Locate inputs keep made) files
         (call_of H.meaning H.faults host.old host.new) result }
 {
@@ -260,8 +260,8 @@ fn explain_fact<H: Host>(
         names,
         flat,
         origins: &part.origins,
-        object: module,
-        own: &part.object,
+        module,
+        own: &part.module,
         plan,
     };
     let maus = module.parts().maus;
@@ -290,21 +290,21 @@ fn explain_planned<H: Host>(
     host: &mut H,
 ) -> Outcome
     requires few { length flat.now < 2 ^ 32 }
-    requires names { AreDistinct (names_of part.now.object.names.publics) }
-    requires light { weight part.now.object < weight_limit }
+    requires names { AreDistinct (names_of part.now.module.names.publics) }
+    requires light { weight part.now.module < weight_limit }
     requires plan { IsReadPlan plan.now }
-    requires met { IsMetBy (planned_answer (part.now.object ∷ []) plan.now) (PlannedRefusal.Locate refusal.now) }
+    requires met { IsMetBy (planned_answer (part.now.module ∷ []) plan.now) (PlannedRefusal.Locate refusal.now) }
     requires memory { refusal.now ≢ LocateRefusal.NoMemory }
     ensures { (files : option (list NamedFile)) (inputs : Reads) (ms : list Parts) (keep : list (list ℕ)) (made : Made)
-        → AreUnlocated files inputs (all_files names.now) keep plan.now ms (flat_of flat.now) part.now.object part.now.origins
+        → AreUnlocated files inputs (all_files names.now) keep plan.now ms (flat_of flat.now) part.now.module part.now.origins
         → Tells (map (λ word. string_bytes word) words.now) (task_variants.Locate inputs keep made) files
         (call_of H.meaning H.faults host.old host.new) result }
 {
     if plan.symbols.is_empty() {
-        let module = &part.object;
+        let module = &part.module;
         return explain_fact(alloc, words, names, flat, part, module, plan, refusal, host);
     }
-    match with_plan_symbols(alloc, &part.object, plan) {
+    match with_plan_symbols(alloc, &part.module, plan) {
         Ok(module) => explain_fact(
             alloc, words, names, flat, part, &module, plan, refusal, host,
         ),
@@ -325,12 +325,12 @@ fn explain_unlocated<H: Host>(
     host: &mut H,
 ) -> Outcome
     requires few { length flat.now < 2 ^ 32 }
-    requires names { AreDistinct (names_of part.now.object.names.publics) }
-    requires light { weight part.now.object < weight_limit }
+    requires names { AreDistinct (names_of part.now.module.names.publics) }
+    requires light { weight part.now.module < weight_limit }
     requires plan { IsReadPlan plan.now }
-    requires met { IsMetBy (planned_answer (part.now.object ∷ []) plan.now) refusal.now }
+    requires met { IsMetBy (planned_answer (part.now.module ∷ []) plan.now) refusal.now }
     ensures { (files : option (list NamedFile)) (ms : list Parts) (keep : list (list ℕ)) (made : Made)
-        → AreUnlocated files inputs.now (all_files names.now) keep plan.now ms (flat_of flat.now) part.now.object part.now.origins
+        → AreUnlocated files inputs.now (all_files names.now) keep plan.now ms (flat_of flat.now) part.now.module part.now.origins
         → Tells (map (λ word. string_bytes word) words.now) (task_variants.Locate inputs.now keep made) files
         (call_of H.meaning H.faults host.old host.new) result }
 {

@@ -138,7 +138,7 @@ fn explains(
         names: &names,
         flat: &flat,
         origins: &origins,
-        object: module,
+        module,
         own: module,
         plan: &plan,
     };

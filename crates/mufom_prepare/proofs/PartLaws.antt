@@ -43,26 +43,26 @@ use Rattle.mufom_works.proofs.MapLaws.{alike-shown, origins-with}
 
 -- what is shown of a module that is kept of a whole one is what a map shows of that
 pub part-shown : (keep : Option Roots) (whole part : TracedModule) (is : IsKeptPart keep whole part) (plan : Plan) (r : LocatedParts)
-    → mapped_by part.origins (planned_layout (part.object ∷ []) plan) r ≡ mapped_kept whole.origins plan is.kept r
+    → mapped_by part.origins (planned_layout (part.«module» ∷ []) plan) r ≡ mapped_kept whole.origins plan is.kept r
 part-shown keep whole part is plan r = λ i. mapped_by (is.origins i) (planned_layout (sym is.modules i) plan) r
 
 -- what is left of a module for roots, with the origins of what is left, is what is kept of it
 pub part-is : (roots : Roots) (whole : TracedModule) (left : Pruned) (origins : List Origin)
-    → IsPrunedWithMarksFor left whole.object roots.names roots.stays → first_unknown (whole.object ∷ []) roots.names ≡ None
+    → IsPrunedWithMarksFor left whole.«module» roots.names roots.stays → first_unknown (whole.«module» ∷ []) roots.names ≡ None
     → origins ≡ origins_left left.sections.items left.publics.items whole.origins
-    → IsKeptPart (Some roots) whole (record { origins = origins; object = left.«module» })
+    → IsKeptPart (Some roots) whole (record { origins = origins; «module» = left.«module» })
 part-is roots whole left origins is known same =
-    let c = remains whole.object is.pruned.marks in
+    let c = remains whole.«module» is.pruned.marks in
     record {
-      kept = rest_of whole.object c;
-      keeps = rest-own roots left.«module» whole.object is.pruned known;
+      kept = rest_of whole.«module» c;
+      keeps = rest-own roots left.«module» whole.«module» is.pruned known;
       modules = ap (λ (m : Parts). m ∷ []) (sym is.pruned.is);
       origins = same ∙ (λ i. origins_left (is.sections i) (is.publics i) whole.origins);
     }
 
 -- without roots that is all of it
 pub whole-kept : (whole : TracedModule) → IsKeptPart None whole whole
-whole-kept whole = record { kept = all_of (whole.object ∷ []); keeps = refl; modules = refl; origins = refl }
+whole-kept whole = record { kept = all_of (whole.«module» ∷ []); keeps = refl; modules = refl; origins = refl }
 
 pub none-kept : (keep stays : List (List ℕ)) (whole : TracedModule) → keep ≡ [] → IsKeptPart (roots_with keep stays) whole whole
 none-kept keep stays whole none = subst (λ (names : List (List ℕ)). IsKeptPart (roots_with names stays) whole whole) (sym none) (whole-kept whole)
@@ -85,19 +85,19 @@ flat-origins tree first ms places has origins same = record {
 module _ (tree : Forest) (first : leaves tree ≡ numbers_from 0 (length (leaves tree))) (ms : List Parts) (valid : AreValid ms) (keep : Option Roots)
     (plan : Plan) (places : Places) (whole part : TracedModule) (link : IsTracedLink tree ms places whole) (is : IsKeptPart keep whole part) where
   -- the map of what is kept of their link is that of what is kept of the flat list
-  pub part-mapped : AreDistinct (names_of part.object.names.publics) → weight part.object < weight_limit → IsReadPlan plan → (m : Location)
+  pub part-mapped : AreDistinct (names_of part.«module».names.publics) → weight part.«module» < weight_limit → IsReadPlan plan → (m : Location)
       → LocatesPart part plan m → AreMapped tree keep plan ms m
   part-mapped names light sound_plan m at =
       let (list, is_linked, joined) = link.links in
       let own = flat-origins tree first ms places link.has whole.origins link.from in
-      let like = own-is tree ms valid whole.object link.valid plan keep list is_linked joined is.kept is.keeps in
-      let there : located plan (part.object ∷ []) (gives m.located) = is-located (part.object ∷ []) plan m.located at.located in
+      let like = own-is tree ms valid whole.«module» link.valid plan keep list is_linked joined is.kept is.keeps in
+      let there : located plan (part.«module» ∷ []) (gives m.located) = is-located (part.«module» ∷ []) plan m.located at.located in
       record {
         are_located = record {
-          names = subst (λ (x : Location). AreDistinct (names_of x.object.names.publics)) (sym at.is) names;
-          light = subst (λ (x : Location). weight x.object < weight_limit) (sym at.is) light;
+          names = subst (λ (x : Location). AreDistinct (names_of x.«module».names.publics)) (sym at.is) names;
+          light = subst (λ (x : Location). weight x.«module» < weight_limit) (sym at.is) light;
           sound = subst IsReadPlan (sym (ap (λ (x : Location). x.plan) at.is)) sound_plan;
-          located = subst (λ (x : Location). IsPlanned (x.object ∷ []) x.plan m.located) (sym at.is) at.located;
+          located = subst (λ (x : Location). IsPlanned (x.«module» ∷ []) x.plan m.located) (sym at.is) at.located;
         };
         list = list;
         links = is_linked;
@@ -114,9 +114,9 @@ module _ (tree : Forest) (first : leaves tree ≡ numbers_from 0 (length (leaves
       }
 
   -- and so is the end of its location
-  pub part-unlocated : HasSoundSymbols plan → (s : Stop) → located plan (part.object ∷ []) (stops s) → location_of tree keep plan ms (stops s)
+  pub part-unlocated : HasSoundSymbols plan → (s : Stop) → located plan (part.«module» ∷ []) (stops s) → location_of tree keep plan ms (stops s)
   part-unlocated symbols s ends =
-      link-unlocated tree ms valid whole.object link.valid plan symbols keep link.links is.kept is.keeps s
+      link-unlocated tree ms valid whole.«module» link.valid plan symbols keep link.links is.kept is.keeps s
       (subst (λ (l : List Parts). located plan l (stops s)) (sym is.modules) ends)
 
 -- ---- what keeps modules from being located
@@ -130,19 +130,20 @@ obstacle-ends tree first ms valid keep plan (obstacle.Unlinked r) is same =
     (unlinked-stops tree ms valid (roots_by keep plan) plan) (outcome_of_link r) (link-ends (linked_module tree None ms) r is)
 obstacle-ends tree first ms valid keep plan (obstacle.Unkept r own places) is same =
     let by : IsUnkept tree (roots_by keep plan) ms r places = subst (λ (p : Plan). IsUnkept tree (roots_by keep p) ms r places) same is in
-    ends-along (own_kept (roots_by keep plan) by.whole.object) (location_of tree (roots_by keep plan) plan ms)
-    (link-unkept tree ms valid by.whole.object by.link.valid plan (roots_by keep plan) by.link.links) (outcome_of_prune r) by.ends
+    ends-along (own_kept (roots_by keep plan) by.whole.«module») (location_of tree (roots_by keep plan) plan ms)
+    (link-unkept tree ms valid by.whole.«module» by.link.valid plan (roots_by keep plan) by.link.links) (outcome_of_prune r) by.ends
 obstacle-ends tree first ms valid keep plan (obstacle.Unlocated r part own places) is same =
     let by : IsUnlocated tree (roots_by keep plan) ms r part plan places
     = subst (λ (p : Plan). IsUnlocated tree (roots_by keep p) ms r part p places) same is in
-    ends-along (located plan (part.object ∷ [])) (location_of tree (roots_by keep plan) plan ms)
-    (part-unlocated tree first ms valid (roots_by keep plan) plan places by.whole part by.link by.kept by.sound.symbols) (outcome_of_planned part.object.maus r)
-    (locate-ends (part.object ∷ []) plan r by.met)
+    ends-along (located plan (part.«module» ∷ [])) (location_of tree (roots_by keep plan) plan ms)
+    (part-unlocated tree first ms valid (roots_by keep plan) plan places by.whole part by.link by.kept by.sound.symbols)
+    (outcome_of_planned part.«module».maus r)
+    (locate-ends (part.«module» ∷ []) plan r by.met)
 
 -- a part that cannot be located is what keeps the modules from having a location
 pub unlocated-is : (tree : Forest) (keep : List (List ℕ)) (ms : List Parts) (places : Places) (whole part : TracedModule) (plan : Plan)
-    → IsTracedLink tree ms places whole → IsKeptPart (roots_by keep plan) whole part → AreDistinct (names_of part.object.names.publics)
-    → weight part.object < weight_limit → IsReadPlan plan → (o : Obstacle) → IsUnlocatedPart part plan places o → IsObstacle tree keep ms o
+    → IsTracedLink tree ms places whole → IsKeptPart (roots_by keep plan) whole part → AreDistinct (names_of part.«module».names.publics)
+    → weight part.«module» < weight_limit → IsReadPlan plan → (o : Obstacle) → IsUnlocatedPart part plan places o → IsObstacle tree keep ms o
 unlocated-is tree keep ms places whole part plan link kept names light sound (obstacle.Unlocated r own by at) (same, planned, placed, met) =
     let is : IsUnlocated tree (roots_by keep plan) ms r part plan places
     = record { whole = whole; link = link; kept = kept; names = names; light = light; sound = sound; met = met } in

@@ -56,25 +56,25 @@ pub record AreOriginsOf (tree : Forest) (ms : List Parts) (origins : List Origin
 -- The module is what is kept of the whole one, and its entries come from the same modules as in the whole one.
 pub record IsKeptPart (keep : Option Roots) (whole part : TracedModule) : Type 0 where
   pub kept : Kept
-  pub keeps : own_kept keep whole.object (gives kept)
-  pub modules : kept.modules ≡ part.object ∷ []
+  pub keeps : own_kept keep whole.«module» (gives kept)
+  pub modules : kept.modules ≡ part.«module» ∷ []
   pub origins : part.origins ≡ kept_origins kept.rest whole.origins
 
 -- what a map shows of it
 abbrev pub shown_of : Location → Mapped
-shown_of m = mapped_by m.origins (planned_layout (m.object ∷ []) m.plan) m.located
+shown_of m = mapped_by m.origins (planned_layout (m.«module» ∷ []) m.plan) m.located
 
 -- the module, no two publics of which have the same name and which is light enough, is located by a plan that was read
 pub record AreLocated (m : Location) : Type 0 where
-  pub names : AreDistinct (names_of m.object.names.publics)
-  pub light : weight m.object < weight_limit
+  pub names : AreDistinct (names_of m.«module».names.publics)
+  pub light : weight m.«module» < weight_limit
   pub sound : IsReadPlan m.plan
-  pub located : IsPlanned (m.object ∷ []) m.plan m.located
+  pub located : IsPlanned (m.«module» ∷ []) m.plan m.located
 
 -- This is the location of the module by the plan, and the origins are those of the module.
 pub record LocatesPart (part : TracedModule) (plan : Plan) (m : Location) : Type 0 where
-  pub is : m ≡ record { origins = part.origins; object = part.object; plan = plan; located = m.located }
-  pub located : IsPlanned (part.object ∷ []) plan m.located
+  pub is : m ≡ record { origins = part.origins; «module» = part.«module»; plan = plan; located = m.located }
+  pub located : IsPlanned (part.«module» ∷ []) plan m.located
 
 -- The location is that of what is kept of the flat list of the tree, and a map shows that, with the files of the list.
 pub record AreMapped (tree : Forest) (keep : Option Roots) (plan : Plan) (ms : List Parts) (m : Location) : Type 0 where
@@ -97,8 +97,8 @@ pub record HasPlaces (tree : Forest) (ms : List Parts) (places : Places) : Type 
 
 -- The module is the link of the modules, with these members, and its entries come from these modules.
 pub record IsTracedLink (tree : Forest) (ms : List Parts) (places : Places) (whole : TracedModule) : Type 0 where
-  pub links : linked_module tree None ms (gives whole.object)
-  pub valid : IsValid whole.object
+  pub links : linked_module tree None ms (gives whole.«module»)
+  pub valid : IsValid whole.«module»
   pub has : HasPlaces tree ms places
   pub from : whole.origins ≡ with_chosen places.roots places.chosen (origins_of (numbered ms))
 
@@ -106,7 +106,7 @@ pub record IsTracedLink (tree : Forest) (ms : List Parts) (places : Places) (who
 pub record IsUnkept (tree : Forest) (keep : Option Roots) (ms : List Parts) (r : PruneRefusal) (places : Places) : Type 0 where
   pub whole : TracedModule
   pub link : IsTracedLink tree ms places whole
-  pub ends : EndsAt (own_kept keep whole.object) (outcome_of_prune r)
+  pub ends : EndsAt (own_kept keep whole.«module») (outcome_of_prune r)
 
 -- what is kept of such a link, in which no two publics have the same name and which is light enough, cannot be located
 pub record IsUnlocated (tree : Forest) (keep : Option Roots) (ms : List Parts) (r : PlannedRefusal) (part : TracedModule) (plan : Plan) (places : Places)
@@ -114,15 +114,15 @@ pub record IsUnlocated (tree : Forest) (keep : Option Roots) (ms : List Parts) (
   pub whole : TracedModule
   pub link : IsTracedLink tree ms places whole
   pub kept : IsKeptPart keep whole part
-  pub names : AreDistinct (names_of part.object.names.publics)
-  pub light : weight part.object < weight_limit
+  pub names : AreDistinct (names_of part.«module».names.publics)
+  pub light : weight part.«module» < weight_limit
   pub sound : IsReadPlan plan
-  pub met : IsMetBy (planned_answer (part.object ∷ []) plan) r
+  pub met : IsMetBy (planned_answer (part.«module» ∷ []) plan) r
 
 -- the part cannot be located by the plan
 abbrev pub IsUnlocatedPart : TracedModule → Plan → Places → Obstacle → Type 0
 IsUnlocatedPart part plan places (obstacle.Unlocated r own by at) =
-    (own ≡ part) × (by ≡ plan) × (at ≡ places) × IsMetBy (planned_answer (part.object ∷ []) plan) r
+    (own ≡ part) × (by ≡ plan) × (at ≡ places) × IsMetBy (planned_answer (part.«module» ∷ []) plan) r
 IsUnlocatedPart part plan places _ = ⊥
 
 -- Why the modules have no location: a list of them cannot be linked, nothing can be kept of their link for these names and the plan, or what is kept
@@ -142,4 +142,4 @@ HasPlan plan _ = Unit {0}
 abbrev pub outcome_of_obstacle : Obstacle → Outcome
 outcome_of_obstacle (obstacle.Unlinked r) = outcome_of_link r
 outcome_of_obstacle (obstacle.Unkept r plan places) = outcome_of_prune r
-outcome_of_obstacle (obstacle.Unlocated r part plan places) = outcome_of_planned part.object.maus r
+outcome_of_obstacle (obstacle.Unlocated r part plan places) = outcome_of_planned part.«module».maus r

@@ -39,10 +39,10 @@ pub record IsUnprepared (t : Task) (call : Call) (stop : Outcome) : Type 0 where
 
 -- Modules are linked into one under the given name or that of the first, and its file is ready to be written.
 pub record MakesLink (tree : Forest) (name : Option (List ℕ)) (out : List ℕ) (ms : List Parts) (ready : Ready) : Type 0 where
-  pub object : Parts
-  pub links : linked_module tree name ms (gives object)
-  pub held : IsHeld object
-  pub output : ready_output ready ≡ made out (written object)
+  pub «module» : Parts
+  pub links : linked_module tree name ms (gives «module»)
+  pub held : IsHeld «module»
+  pub output : ready_output ready ≡ made out (written «module»)
   pub is : IsReady ready
 
 -- a task that prints a text of the program has its output ready, without memory

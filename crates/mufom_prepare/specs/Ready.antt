@@ -18,7 +18,7 @@ abbrev pub ready_output : Ready → Output
 ready_output (ready.Lines bytes) = printed bytes.items
 ready_output (ready.Help text) = printed text.now
 ready_output (ready.Listing ms form) = printed (flat_map (text_of form) ms)
-ready_output (ready.File out object) = made out.now (written object)
+ready_output (ready.File out «module») = made out.now (written «module»)
 ready_output (ready.Raw out fill r) = made out.now (raw_image fill r.runs)
 ready_output (ready.Range out fill from count r) = made out.now (range_image fill from count r.runs)
 ready_output (ready.TiTxt out r) = made out.now (txt_text r.runs)

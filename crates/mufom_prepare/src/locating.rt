@@ -35,7 +35,7 @@ pub struct TracedModule {
     /// their entries that the module has.
     pub origins: Origins,
     /// The link of the flat list, or what is kept of it.
-    pub object: Module,
+    pub module: Module,
 }
 
 /// The places of the modules of a flat list, among all modules that were read.
@@ -53,7 +53,7 @@ pub struct Location {
     /// The modules of the flat list, as in [`TracedModule`].
     pub origins: Origins,
     /// The module that is located.
-    pub object: Module,
+    pub module: Module,
     pub plan: Plan,
     pub located: Located,
 }
@@ -86,7 +86,7 @@ pub(crate) fn outcome_of_obstacle(obstacle: Obstacle) -> Outcome
         Obstacle::Unlinked(refusal) => outcome_of_link(refusal),
         Obstacle::Unkept { refusal, .. } => outcome_of_prune(refusal),
         Obstacle::Unlocated { refusal, part, .. } => {
-            outcome_of_planned(part.object.parts().maus, refusal)
+            outcome_of_planned(part.module.parts().maus, refusal)
         }
     }
 }
@@ -100,7 +100,7 @@ fn traced_link(
 ) -> Result<(TracedModule, Places), LinkRefusal>
     requires linkable { AreLinkable inputs.now modules }
     ensures ok { IfOk result (λ both. IsTracedLink (tree_of inputs.now.marks) modules both.1 both.0) }
-    ensures light { IfOk result (λ both. weight both.0.object < most_weight + 2 ^ 16) }
+    ensures light { IfOk result (λ both. weight both.0.module < most_weight + 2 ^ 16) }
     ensures refused { IfErr result (λ e. StopsWork (linked_module (tree_of inputs.now.marks) None modules) e) }
 {
     let Ok(origins) = Origins::of(alloc, modules.as_slice()) else {
@@ -117,7 +117,7 @@ fn traced_link(
     Ok((
         TracedModule {
             origins,
-            object: linked.module,
+            module: linked.module,
         },
         Places {
             roots: linked.roots,
@@ -145,21 +145,21 @@ fn pruned_part(
     names: &[Bytes],
     stays: &[Bytes],
 ) -> Result<TracedModule, PruneRefusal>
-    requires names { AreDistinct (names_of whole.now.object.names.publics) }
-    requires light { weight whole.now.object < most_weight + 2 ^ 16 }
+    requires names { AreDistinct (names_of whole.now.module.names.publics) }
+    requires light { weight whole.now.module < most_weight + 2 ^ 16 }
     ensures ok { IfOk result (IsKeptPart (Some (record { names = names.now; stays = stays.now })) whole.now) }
-    ensures names { IfOk result (λ part. AreDistinct (names_of part.object.names.publics)) }
-    ensures light { IfOk result (λ part. weight part.object < most_weight + 2 ^ 16) }
-    ensures stops { IfErr result (λ e. EndsAt (own_kept (Some (record { names = names.now; stays = stays.now })) whole.now.object) (of_prune e)) }
+    ensures names { IfOk result (λ part. AreDistinct (names_of part.module.names.publics)) }
+    ensures light { IfOk result (λ part. weight part.module < most_weight + 2 ^ 16) }
+    ensures stops { IfErr result (λ e. EndsAt (own_kept (Some (record { names = names.now; stays = stays.now })) whole.now.module) (of_prune e)) }
 {
-    let left = match prune_for(alloc, &whole.object, names, stays) {
+    let left = match prune_for(alloc, &whole.module, names, stays) {
         Ok(left) => left,
         Err(refusal) => return Err(refusal),
     };
     match left_origins(alloc, &whole.origins, &left) {
         Ok(origins) => Ok(TracedModule {
             origins,
-            object: left.module,
+            module: left.module,
         }),
         Err(refusal) => Err(refusal),
     }
@@ -172,12 +172,12 @@ fn kept_part(
     stays: &[Bytes],
     whole: TracedModule,
 ) -> Result<TracedModule, PruneRefusal>
-    requires names { AreDistinct (names_of whole.object.names.publics) }
-    requires light { weight whole.object < most_weight + 2 ^ 16 }
+    requires names { AreDistinct (names_of whole.module.names.publics) }
+    requires light { weight whole.module < most_weight + 2 ^ 16 }
     ensures ok { IfOk result (IsKeptPart (roots_with keep.now stays.now) whole) }
-    ensures names { IfOk result (λ part. AreDistinct (names_of part.object.names.publics)) }
-    ensures light { IfOk result (λ part. weight part.object < most_weight + 2 ^ 16) }
-    ensures stops { IfErr result (λ e. EndsAt (own_kept (roots_with keep.now stays.now) whole.object) (of_prune e)) }
+    ensures names { IfOk result (λ part. AreDistinct (names_of part.module.names.publics)) }
+    ensures light { IfOk result (λ part. weight part.module < most_weight + 2 ^ 16) }
+    ensures stops { IfErr result (λ e. EndsAt (own_kept (roots_with keep.now stays.now) whole.module) (of_prune e)) }
 {
     match keep {
         [] => Ok(whole),
@@ -192,19 +192,19 @@ fn locate_part(
     plan: Plan,
     places: Places,
 ) -> Result<Location, Obstacle>
-    requires names { AreDistinct (names_of part.object.names.publics) }
+    requires names { AreDistinct (names_of part.module.names.publics) }
     requires plan { IsReadPlan plan }
-    requires light { weight part.object < most_weight + 2 ^ 16 }
+    requires light { weight part.module < most_weight + 2 ^ 16 }
     ensures ok { IfOk result (LocatesPart part plan) }
     ensures light { IfOk result (λ location. weight (absolute_of location.located) < 2 ^ 32) }
     ensures refused { IfErr result (IsUnlocatedPart part plan places) }
 {
-    match locate_by_plan(alloc, &part.object, &plan) {
+    match locate_by_plan(alloc, &part.module, &plan) {
         Ok(located) => {
-            let TracedModule { origins, object } = part;
+            let TracedModule { origins, module } = part;
             Ok(Location {
                 origins,
-                object,
+                module,
                 plan,
                 located,
             })

@@ -41,7 +41,7 @@ pub enum Ready<'a> {
     /// The file of a module.
     File {
         out: &'a Text,
-        object: Module,
+        module: Module,
     },
     /// The file of the raw bytes of an image, which are not too many.
     Raw {
@@ -85,10 +85,7 @@ fn absolute_file<'a>(alloc: Global, out: &'a Text, located: Located) -> Result<R
     match absolute(alloc, &located) {
         Ok(module) => {
             a_module_is_valid(&module);
-            Ok(Ready::File {
-                out,
-                object: module,
-            })
+            Ok(Ready::File { out, module })
         }
         Err(_) => Err(Outcome::NoMemory),
     }

@@ -99,10 +99,7 @@ pub fn link_file<'a>(
     match link_modules(alloc, inputs.marks.as_slice(), name, modules) {
         Ok(module) => {
             a_module_is_valid(&module);
-            Ok(Ready::File {
-                out,
-                object: module,
-            })
+            Ok(Ready::File { out, module })
         }
         Err(refusal) => Err(refusal),
     }
@@ -187,10 +184,7 @@ fn prepare_text<'a, H: Host>(
     match module_of(alloc, text.as_slice(), maus) {
         Ok(module) => {
             a_module_is_valid(&module);
-            Ok(Ready::File {
-                out,
-                object: module,
-            })
+            Ok(Ready::File { out, module })
         }
         Err(stop) => Err(stop),
     }
@@ -215,10 +209,7 @@ fn prepare_listing<'a, H: Host>(
     match built_from(alloc, text.as_slice()) {
         Ok(module) => {
             a_module_is_valid(&module);
-            Ok(Ready::File {
-                out,
-                object: module,
-            })
+            Ok(Ready::File { out, module })
         }
         Err(stop) => Err(stop),
     }

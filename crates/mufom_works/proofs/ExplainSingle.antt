@@ -41,7 +41,7 @@ use Rattle.mufom_planned.specs.Shown.{shown_list}
 use Rattle.mufom_plan.specs.declared.refusal.PlanRefusal.{PlanRefusal}
 use Rattle.mufom_prune.specs.Pruned.{Remains}
 use Rattle.mufom_plan_faults.proofs.LineLaws.{syntax-line-single}
-use Rattle.mufom_works.specs.HasDetails.{IsObjectBy, IsObjectOf, IsObjectWith, explained_by, modules_at_places, lines_of_link, lines_of_locate, lines_of_name}
+use Rattle.mufom_works.specs.HasDetails.{IsModuleBy, IsModuleOf, IsModuleWith, explained_by, modules_at_places, lines_of_link, lines_of_locate, lines_of_name}
 use Rattle.mufom_works.specs.HasDetails.{lines_of_shared, plan_lines}
 use Rattle.mufom_outcome.specs.LocateRefusals.{locate_refusal}
 use Rattle.mufom_works.specs.Run.{outcome_of}
@@ -96,21 +96,21 @@ module _ (files : List NamedFile) (bytes : HoldBytes files) (c : Inputs) (keep :
       (flat-files-single (tree_of c.marks) ms) λ flat. sure-single (name_details names flat name)
 
   -- there is one module that is located for what is kept
-  object-single : (rest : Option Remains) (ms : List Parts) (a b : Parts) → IsObjectBy rest ms a → IsObjectBy rest ms b → a ≡ b
-  object-single None ms a b one other = joined_is_single a b ms (first_name ms) one other
-  object-single (Some c) ms a b one other = let both : (a ∷ []) ≡ (b ∷ []) = sym one ∙ other in cc
+  module-single : (rest : Option Remains) (ms : List Parts) (a b : Parts) → IsModuleBy rest ms a → IsModuleBy rest ms b → a ≡ b
+  module-single None ms a b one other = joined_is_single a b ms (first_name ms) one other
+  module-single (Some c) ms a b one other = let both : (a ∷ []) ≡ (b ∷ []) = sym one ∙ other in cc
 
-  planned-single : (symbols : List PlanSymbol) (plan : Plan) (kept : Kept) (a b : Parts) → IsObjectWith symbols plan kept a → IsObjectWith symbols plan kept b
+  planned-single : (symbols : List PlanSymbol) (plan : Plan) (kept : Kept) (a b : Parts) → IsModuleWith symbols plan kept a → IsModuleWith symbols plan kept b
       → a ≡ b
-  planned-single [] plan kept a b one other = object-single kept.rest kept.modules a b one other
+  planned-single [] plan kept a b one other = module-single kept.rest kept.modules a b one other
   planned-single (symbol ∷ more) plan kept a b one other = joined_is_single a b (shown_list kept.modules plan) (first_name kept.modules) one other
 
-  abbrev object-lines : Plan → List FileModule → ℕ → LocateFact → Kept → Parts → Work Stop Text
-  object-lines plan flat maus f kept own =
-      one_with (IsObjectOf plan kept) >>= λ object. sure (locate_details (explained_by names plan flat kept object own maus) (locate_refusal f))
+  abbrev module-lines : Plan → List FileModule → ℕ → LocateFact → Kept → Parts → Work Stop Text
+  module-lines plan flat maus f kept own =
+      one_with (IsModuleOf plan kept) >>= λ «module». sure (locate_details (explained_by names plan flat kept «module» own maus) (locate_refusal f))
 
   abbrev own-lines : Plan → List FileModule → ℕ → LocateFact → Kept → Work Stop Text
-  own-lines plan flat maus f kept = one_with (IsObjectBy kept.rest kept.modules) >>= λ own. object-lines plan flat maus f kept own
+  own-lines plan flat maus f kept = one_with (IsModuleBy kept.rest kept.modules) >>= λ own. module-lines plan flat maus f kept own
 
   locate-single : (maus : ℕ) (f : LocateFact) → IsSingle (lines_of_locate files c keep maus f)
   locate-single maus f =
@@ -125,11 +125,11 @@ module _ (files : List NamedFile) (bytes : HoldBytes files) (c : Inputs) (keep :
       (flat-files-single (tree_of c.marks) ms) λ flat.
       then-single (kept_of (roots_by keep plan) (modules_of flat)) (λ kept. own-lines plan flat maus f kept)
       (kept_of-single (roots_by keep plan) (modules_of flat)) λ kept.
-      then-single (one_with (IsObjectBy kept.rest kept.modules)) (λ own. object-lines plan flat maus f kept own)
-      (one_with-single (IsObjectBy kept.rest kept.modules) (object-single kept.rest kept.modules)) λ own.
-      then-single (one_with (IsObjectOf plan kept)) (λ object. sure (locate_details (explained_by names plan flat kept object own maus) (locate_refusal f)))
-      (one_with-single (IsObjectOf plan kept) (planned-single plan.symbols plan kept)) λ object.
-      sure-single (locate_details (explained_by names plan flat kept object own maus) (locate_refusal f))
+      then-single (one_with (IsModuleBy kept.rest kept.modules)) (λ own. module-lines plan flat maus f kept own)
+      (one_with-single (IsModuleBy kept.rest kept.modules) (module-single kept.rest kept.modules)) λ own.
+      then-single (one_with (IsModuleOf plan kept)) (λ «module». sure (locate_details (explained_by names plan flat kept «module» own maus) (locate_refusal f)))
+      (one_with-single (IsModuleOf plan kept) (planned-single plan.symbols plan kept)) λ «module».
+      sure-single (locate_details (explained_by names plan flat kept «module» own maus) (locate_refusal f))
 
   shared-single : (name : List ℕ) → IsSingle (lines_of_shared files c name)
   shared-single name =

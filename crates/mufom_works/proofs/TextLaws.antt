@@ -34,8 +34,9 @@ parts-end maus text o (inr (s, of_text, is, ends)) = inr (s, of_text, is, inl en
 
 module _ (parts_of : List ℕ → Work Stop Parts) (out : List ℕ) (c : Inputs) (text : List ℕ) (fs : List NamedFile)
     (read : text_in fs c.files (gives text)) where
-  pub text-gives : (object : Parts) → parts_of text (gives object) → IsHeld object → module_of_text parts_of out fs c (gives (made out (written object)))
-  text-gives object is held = (text, read, (object, is, (held, refl)))
+  pub text-gives : («module» : Parts) → parts_of text (gives «module») → IsHeld «module»
+      → module_of_text parts_of out fs c (gives (made out (written «module»)))
+  text-gives «module» is held = (text, read, («module», is, (held, refl)))
 
   pub text-stops : (s : Stop) → parts_of text (stops s) → module_of_text parts_of out fs c (stops s)
   text-stops s ends = inr (text, read, inl ends)

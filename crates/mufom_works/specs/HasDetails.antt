@@ -112,30 +112,30 @@ lines_of_name files c name = do
 
 -- The one module for what is kept of a list: the partial link of the list under the name of its first module, if all is kept, and
 -- otherwise what remains of that link.
-abbrev pub IsObjectBy : Option Remains → List Parts → Parts → Type 0
-IsObjectBy None ms object = IsJoined object ms (first_name ms)
-IsObjectBy (Some c) ms object = ms ≡ object ∷ []
+abbrev pub IsModuleBy : Option Remains → List Parts → Parts → Type 0
+IsModuleBy None ms «module» = IsJoined «module» ms (first_name ms)
+IsModuleBy (Some c) ms «module» = ms ≡ «module» ∷ []
 
 -- the one module that is located for it: with symbols of a plan, the link of the list with them
-abbrev pub IsObjectWith : List PlanSymbol → Plan → Kept → Parts → Type 0
-IsObjectWith [] plan kept object = IsObjectBy kept.rest kept.modules object
-IsObjectWith (symbol ∷ more) plan kept object = IsJoined object (shown_list kept.modules plan) (first_name kept.modules)
+abbrev pub IsModuleWith : List PlanSymbol → Plan → Kept → Parts → Type 0
+IsModuleWith [] plan kept «module» = IsModuleBy kept.rest kept.modules «module»
+IsModuleWith (symbol ∷ more) plan kept «module» = IsJoined «module» (shown_list kept.modules plan) (first_name kept.modules)
 
-abbrev pub IsObjectOf : Plan → Kept → Parts → Type 0
-IsObjectOf plan kept object = IsObjectWith plan.symbols plan kept object
+abbrev pub IsModuleOf : Plan → Kept → Parts → Type 0
+IsModuleOf plan kept «module» = IsModuleWith plan.symbols plan kept «module»
 
 -- The context in which an error of locating is explained. Sections, sizes of commons and undefined names are those of what is kept of the flat list,
--- with the plan's symbols; the modules that mention a name or request a common are looked up in the whole flat list. A field is found in `object`, the
+-- with the plan's symbols; the modules that mention a name or request a common are looked up in the whole flat list. A field is found in `«module»`, the
 -- one module that is located; its expression is that of `own`, the one module for what is kept, in which a reference to a symbol of the plan is still
 -- a reference. `names` are the files of all modules, and `maus` is the length of an address in units.
 abbrev pub explained_by : ModuleFiles → Plan → List FileModule → Kept → Parts → Parts → ℕ → Explained
-explained_by names plan flat kept object own maus = record {
+explained_by names plan flat kept «module» own maus = record {
   names = names;
   flat = flat;
   origins = kept_origins kept.rest (origins_of flat);
   maus = maus;
   modules = shown_list kept.modules plan;
-  object = object;
+  «module» = «module»;
   own = own;
   plan = plan;
 }
@@ -147,9 +147,9 @@ lines_of_locate files c keep maus f = do
   ms ← modules_in files c
   flat ← one_with (AreFlatFiles (tree_of c.marks) ms)
   kept ← kept_of (roots_by keep plan) (modules_of flat)
-  own ← one_with (IsObjectBy kept.rest kept.modules)
-  object ← one_with (IsObjectOf plan kept)
-  sure (locate_details (explained_by (module_files files c) plan flat kept object own maus) (locate_refusal f))
+  own ← one_with (IsModuleBy kept.rest kept.modules)
+  «module» ← one_with (IsModuleOf plan kept)
+  sure (locate_details (explained_by (module_files files c) plan flat kept «module» own maus) (locate_refusal f))
 
 -- the line of the plan, if one is named
 abbrev pub plan_lines : Option (List ℕ) → Text

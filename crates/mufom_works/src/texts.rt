@@ -36,7 +36,7 @@ pub fn module_of(alloc: Global, text: &[u8], maus: u8) -> Result<Module, Outcome
     requires low { 1 ≤ maus }
     requires high { maus ≤ 8 }
     requires short { length text.now ≤ most }
-    ensures ok { IfOk result (λ object. parts_of_txt maus text.now (gives object)) }
+    ensures ok { IfOk result (λ «module». parts_of_txt maus text.now (gives «module»)) }
     ensures stops { IfErr result (EndsAt (parts_of_txt maus text.now)) }
 {
     let runs = match runs_of(alloc, text, maus) {
@@ -52,7 +52,7 @@ pub fn module_of(alloc: Global, text: &[u8], maus: u8) -> Result<Module, Outcome
 /// Builds a module from a listing, or returns the outcome of the run.
 pub fn built_from(alloc: Global, text: &[u8]) -> Result<Module, Outcome>
     requires { length text.now ≤ most }
-    ensures ok { IfOk result (λ object. parts_of_listing text.now (gives object)) }
+    ensures ok { IfOk result (λ «module». parts_of_listing text.now (gives «module»)) }
     ensures stops { IfErr result (EndsAt (parts_of_listing text.now)) }
 {
     match mufom_build::build(alloc, text) {

@@ -6,10 +6,10 @@ use Rattle.mufom_explain.proofs.locate.about.Goals as goal
 
 pub about_field-requires-clause-placed : goal.about_field-requires-clause-placed
 about_field-requires-clause-placed c =
-    let m = c.args.context.now.object.now in let plan = c.args.context.now.plan.now in
+    let m = c.args.context.now.«module».now in let plan = c.args.context.now.plan.now in
     placed-overflown m plan _ _ _ _ _ (subst (IsMet (copied_answer (m ∷ []) plan)) c.in-Overflow.is c.requires.met)
 
 pub about_field-requires-clause-acyclic : goal.about_field-requires-clause-acyclic
 about_field-requires-clause-acyclic c =
-    let m = c.args.context.now.object.now in let plan = c.args.context.now.plan.now in
+    let m = c.args.context.now.«module».now in let plan = c.args.context.now.plan.now in
     acyclic-overflown m plan _ _ _ _ _ (subst (IsMet (copied_answer (m ∷ []) plan)) c.in-Overflow.is c.requires.met)

@@ -6,8 +6,8 @@ use Rattle.mufom_explain.proofs.locate.about_site.Goals as goal
 
 pub about_field-requires-clause-placed : goal.about_field-requires-clause-placed
 about_field-requires-clause-placed c =
-    placed-divided c.args.context.now.object.now c.args.context.now.plan.now c.args.site.now c.requires.met
+    placed-divided c.args.context.now.«module».now c.args.context.now.plan.now c.args.site.now c.requires.met
 
 pub about_field-requires-clause-acyclic : goal.about_field-requires-clause-acyclic
 about_field-requires-clause-acyclic c =
-    acyclic-divided c.args.context.now.object.now c.args.context.now.plan.now c.args.site.now c.requires.met
+    acyclic-divided c.args.context.now.«module».now c.args.context.now.plan.now c.args.site.now c.requires.met

@@ -2,4 +2,4 @@ use Rattle.mufom_explain.proofs.PlacedLaws.{unit-count}
 use Rattle.mufom_explain.proofs.locate.explain_locate.Goals as goal
 
 pub invariant_of-result-clause-units : goal.invariant_of-result-clause-units
-invariant_of-result-clause-units c = unit-count c.args.context.object.now c.args.context.plan.now c.a_module_is_valid.ensures.valid
+invariant_of-result-clause-units c = unit-count c.args.context.«module».now c.args.context.plan.now c.a_module_is_valid.ensures.valid

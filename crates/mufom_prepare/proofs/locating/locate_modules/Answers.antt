@@ -9,7 +9,7 @@ use Rattle.mufom_prepare.proofs.locating.locate_modules.Goals as goal
 
 pub kept_part-requires-clause-names : goal.kept_part-requires-clause-names
 kept_part-requires-clause-names c =
-    link-names (tree_of c.args.inputs.now.marks) c.args.modules c.requires.linkable.valid c.in-Ok.link.0.object c.in-Ok.ensures.ok.links
+    link-names (tree_of c.args.inputs.now.marks) c.args.modules c.requires.linkable.valid c.in-Ok.link.0.«module» c.in-Ok.ensures.ok.links
 
 pub returns-in-Ok-kept_part-clause-ok : goal.returns-in-Ok-kept_part-clause-ok
 returns-in-Ok-kept_part-clause-ok c =

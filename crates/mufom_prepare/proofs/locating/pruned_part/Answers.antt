@@ -3,7 +3,8 @@ use Rattle.mufom_prepare.proofs.PartLaws.{part-is}
 use Rattle.mufom_prepare.proofs.locating.pruned_part.Goals as goal
 
 pub returns-in-Err-clause-stops : goal.returns-in-Err-clause-stops
-returns-in-Err-clause-stops c = prune-ends (record { names = c.args.names.now; stays = c.args.stays.now }) c.args.whole.now.object c.in-Err.refusal c.in-Err.ensures.refused
+returns-in-Err-clause-stops c =
+    prune-ends (record { names = c.args.names.now; stays = c.args.stays.now }) c.args.whole.now.«module» c.in-Err.refusal c.in-Err.ensures.refused
 
 pub returns-in-Ok-left_origins-clause-ok : goal.returns-in-Ok-left_origins-clause-ok
 returns-in-Ok-left_origins-clause-ok c =
@@ -12,5 +13,5 @@ returns-in-Ok-left_origins-clause-ok c =
 
 pub returns-in-Ok-left_origins-clause-names : goal.returns-in-Ok-left_origins-clause-names
 returns-in-Ok-left_origins-clause-names c =
-    pruned-names c.in-Ok.left.«module» c.args.whole.now.object (record { names = c.args.names.now; stays = c.args.stays.now })
+    pruned-names c.in-Ok.left.«module» c.args.whole.now.«module» (record { names = c.args.names.now; stays = c.args.stays.now })
     c.in-Ok.ensures.pruned.pruned c.requires.names

@@ -15,7 +15,7 @@ link_modules-requires-clause-tree c =
 
 pub returns-in-Ok-clause-ok : goal.returns-in-Ok-clause-ok
 returns-in-Ok-clause-ok c = record {
-  object = c.in-Ok.module;
+  «module» = c.in-Ok.module;
   links = subst (λ (marks : List Mark). linked_module (tree_of marks) c.args.name.now c.args.modules (gives c.in-Ok.module)) c.as_slice.ensures
       c.in-Ok.ensures.ok;
   held = record { valid = c.a_module_is_valid.ensures.valid; made = c.a_module_is_valid.ensures.made };

@@ -40,7 +40,7 @@ returns-in-Ok-link_file-clause-ok g c =
     readied (task.Link inputs name out) (λ fs. inputs_in fs inputs) refl old mid before between (loaded.plan, loaded.modules) read.read read.all
     c.in-Ok-link_file.ready (ap file_name is.output)
     (λ fs there. subst (λ (o : Output). work_of (task.Link inputs name out) fs (gives o)) (sym is.output)
-    (link-gives inputs loaded.plan loaded.modules fs there name out is.object is.links is.held)) is.is
+    (link-gives inputs loaded.plan loaded.modules fs there name out is.«module» is.links is.held)) is.is
 
 pub returns-clause-err : goal.returns-clause-err
 returns-clause-err g c =

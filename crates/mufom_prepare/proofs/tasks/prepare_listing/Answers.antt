@@ -19,14 +19,14 @@ returns-in-Err-clause-err g c =
 
 pub returns-in-Ok-built_from-clause-ok : goal.returns-in-Ok-built_from-clause-ok
 returns-in-Ok-built_from-clause-ok g c =
-    let read = c.in-Ok.ensures in let inputs = c.args.inputs.now in let out = c.args.out.now in let object = c.in-Ok-built_from.module in
+    let read = c.in-Ok.ensures in let inputs = c.args.inputs.now in let out = c.args.out.now in let «module» = c.in-Ok-built_from.module in
     let bytes : List ℕ = c.in-Ok.text.items in
     let old = g.H.World.meaning c.args.host.now in let mid = g.H.World.meaning c.read_text.new.host in
     let before = g.H.World.faults c.args.host.now in let between = g.H.World.faults c.read_text.new.host in
     readied (task.Build inputs out) (λ fs. text_in fs inputs.files) refl old mid before between bytes read.read read.all
-    (ready.File c.args.out object) refl
-    (λ fs is. text-gives parts_of_listing out inputs bytes fs is object
-    (subst (λ (text : List ℕ). parts_of_listing text (gives object)) c.as_slice.ensures.value c.in-Ok-built_from.ensures.ok)
+    (ready.File c.args.out «module») refl
+    (λ fs is. text-gives parts_of_listing out inputs bytes fs is «module»
+    (subst (λ (text : List ℕ). parts_of_listing text (gives «module»)) c.as_slice.ensures.value c.in-Ok-built_from.ensures.ok)
     (record { valid = c.a_module_is_valid.ensures.valid; made = c.a_module_is_valid.ensures.made })) tt
 
 pub returns-clause-err : goal.returns-clause-err
