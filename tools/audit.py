@@ -1,9 +1,9 @@
 #!/usr/bin/env python3
-"""Writes docs/AUDIT.md: the definitions on which the contract of `run` and the public laws depend.
+"""Writes docs/AUDIT.md: the definitions on which the contract of the program and the public laws depend.
 
 usage: audit.py [--check]      run at the top of the repository
 
-It starts with the names in the clauses of ROOTS, and follows each name to its definition through the `use` lines of its
+It starts with the names in the clauses, and in the definitions, of PARTS, and follows each name to its definition through the `use` lines of its
 file. It respects scopes, so a variable or a field is not mistaken for a definition of the same name. An operator is
 followed like a name, and `do` uses `>>=`. Definitions in the crates' specs/ are followed; types and constants that Rust
 declares, and definitions of the toolchain's library, are listed by name. With --check it writes nothing, prints whether
@@ -11,20 +11,54 @@ docs/AUDIT.md is up to date, and ends with status 1 if it is not.
 """
 import os, re, sys
 
-COMMAND = "mufom_command/src/"
-# The functions whose clauses a reader has to trust: the file below crates/, and the name (None: every function in the file).
-ROOTS = [("mufom_headline/src/laws.rt", None), ("mufom_headline/src/read_back.rt", None), (COMMAND + "command.rt", "run"),
-         ("mufom_run_laws/src/laws.rt", None), ("mufom_judging/src/laws.rt", None), ("mufom_groups/src/laws.rt", None),
-         ("mufom_prune/src/laws.rt", None), ("mufom_make/src/laws.rt", None), ("mufom_debug_laws/src/laws.rt", None)]
+# The parts of the page. Each has a title, what it is about, and what it begins with: functions whose clauses a reader has to
+# trust (the file below crates/, and the name, or None for every function in the file), and definitions (the file, and the
+# name). A definition is listed in the first part that reaches it. Where a part reaches a definition with which a later part
+# begins, the later part has it.
+PARTS = [
+    ("Linking and locating",
+     "The headline, as the contract of the program states it: what a run has done if no I/O call failed, it did not run out of memory, and its plan and"
+     " files were accepted. Whoever reads this part and the next knows what a linked module and a location are, when they are made, and which bytes,"
+     " publics, start and debug addresses they have.",
+     [], [("mufom_headline/specs/Headline.antt", "RunLocates"), ("mufom_headline/specs/Linking.antt", "RunLinks")]),
+    ("Files of modules",
+     "Which modules a file holds, and the file of a module: IEEE Std 695 as it is read and written, and archives.",
+     [], [("mufom_task/specs/Inputs.antt", "ComeTo"), ("mufom_task/specs/Inputs.antt", "module_files"),
+          ("mufom_module/specs/Written.antt", "written"), ("mufom_module/specs/Written.antt", "weight"),
+          ("mufom_judging/specs/Judging.antt", "IsModule"), ("mufom_headline/specs/ReadBack.antt", "IsReadAt"),
+          ("mufom_module/specs/Defects.antt", "IsValid")]),
+    ("Errors of files",
+     "Which error a file has, and where, if it holds no module.",
+     [], [("mufom_task/specs/Inputs.antt", "IsFileRefused"), ("mufom_task/specs/Inputs.antt", "IsFilePast"),
+          ("mufom_judging/specs/Limited.antt", "IsRefusedWithin"), ("mufom_judging/specs/Limited.antt", "IsPastLimit"),
+          ("mufom_members/specs/Files.antt", "IsFirstRefused"), ("mufom_members/specs/Files.antt", "IsPrefixVerdict")]),
+    ("Plans",
+     "Which plan a text is, and its errors.",
+     [], [("mufom_plan/specs/PlanText.antt", "plan_of_text")]),
+    ("Arguments",
+     "What the arguments of the command line ask for.",
+     [], [("mufom_words/specs/Answer.antt", "answer_of")]),
+    ("Texts",
+     "What is printed or written of a location other than its bytes.",
+     [], [("mufom_text/specs/Image.antt", "image_text"), ("mufom_map/specs/MapText.antt", "view_text"), ("mufom_map/specs/Mapped.antt", "mapped_by"),
+          ("mufom_works/specs/Text.antt", "hit_text"), ("mufom_addr/specs/AddressHit.antt", "hit_at"),
+          ("mufom_titxt/specs/Written.antt", "txt_text")]),
+    ("All runs",
+     "The contract of the program, of which the headline is what follows for linking and locating: each outcome has its cause, and the arguments and the"
+     " files determine it; `explain`, `build`, `fromtxt`, `make`, `show` and `check`; the error lines and the exit status.",
+     [("mufom/src/main.rt", "program")], []),
+    ("Further laws",
+     "The public laws beside the headline.",
+     [("mufom_headline/src/laws.rt", None), ("mufom_headline/src/read_back.rt", None), ("mufom_run_laws/src/laws.rt", None),
+      ("mufom_judging/src/laws.rt", None), ("mufom_groups/src/laws.rt", None), ("mufom_prune/src/laws.rt", None),
+      ("mufom_make/src/laws.rt", None), ("mufom_debug_laws/src/laws.rt", None)], []),
+]
 # What an auditor reads in addition: the clauses of the outside world, the exit status, and how contracts see these types.
 BESIDE = ["mufom_host/src/world.rt", "mufom_outcome/src/outcome.rt", "mufom_numbers/src/text.rt", "mufom_numbers/src/bytes.rt",
           "mufom_numbers/src/list.rt", "mufom_expr/src/postfix.rt", "mufom_module/src/module.rt"]
 # Laws on which the facts of a list rest: the file of proofs, and the name.
 FACTS = [("mufom_meaning/proofs/facts/AllAnswers.antt", "answers_are_facts"),
          ("mufom_meaning/proofs/staging/Stages.antt", "staged_means_the_same")]
-# The crates that define the format.
-FORMAT = {"mufom_numbers", "mufom_expr", "mufom_records", "mufom_sections", "mufom_names", "mufom_loads", "mufom_debug",
-          "mufom_module", "mufom_judging", "mufom_read", "mufom_source"}
 PAGE = "docs/AUDIT.md"
 TOKEN = re.compile(r'"(?:\\.|[^"\\])*"|[()\[\]{},;]|[^\s()\[\]{},;"]+')
 # A line that begins a definition. All other lines continue the definition before them.
@@ -227,10 +261,10 @@ def clauses_of(path, wanted):
     """Returns the functions of a file, each with the number of lines of its clauses and the paths that these name."""
     text = read(f"crates/{path}")
     uses = names_of_use(text)
-    for found in re.finditer(r"pub fn (\w+)[^{]*?\n((?:\s+(?:requires|ensures|//)[^\n]*\n|\s+[^\n{]*\}\n)+)\{", text):
-        if wanted in (None, found[1]):
-            words = sorted({it.split(".")[0] for it in tokens_of(found[2])})
-            yield found[1], found[2].strip().count("\n") + 1, [uses[it] for it in words if it in uses]
+    head = rf"\bfn ({wanted})" if wanted else r"\bpub fn (\w+)"
+    for found in re.finditer(head + r"\b[^{]*?\n((?:\s+(?:requires|ensures|//)[^\n]*\n|\s{8,}[^\n]*\n)+)\{", text):
+        words = sorted({it.split(".")[0] for it in tokens_of(found[2])})
+        yield found[1], found[2].strip().count("\n") + 1, [uses[it] for it in words if it in uses]
 
 
 def ghosts_of(path):
@@ -243,10 +277,11 @@ def ghosts_of(path):
 
 
 class Reached:
-    """The definitions that have been reached from the given paths."""
+    """The definitions that have been reached from the given paths, but those that are listed, or left to others."""
 
-    def __init__(self):
+    def __init__(self, listed=(), left=()):
         self.items, self.types, self.library, self.order = {}, set(), set(), []
+        self.listed, self.left = set(listed), set(left)
 
     def follow(self, paths):
         todo = list(paths)
@@ -264,13 +299,13 @@ class Reached:
         if name not in spec.where:
             return [spec.uses[name]] if name in spec.uses else []
         more, pending = [], [spec.where[name].name]
-        if place not in self.order:
-            self.order.append(place)
         while pending:
             one = pending.pop(0)
-            if one in self.items.setdefault(place, []):
+            if (place, one) in self.listed | self.left or one in self.items.get(place, []):
                 continue
-            self.items[place].append(one)
+            if place not in self.order:
+                self.order.append(place)
+            self.items.setdefault(place, []).append(one)
             local, distant = spec.cited(spec.where[one])
             pending += sorted(local)
             more += sorted(distant)
@@ -278,6 +313,12 @@ class Reached:
 
     def lines(self, place):
         return sum(len(spec_at(place).where[it].lines) for it in self.items[place])
+
+    def size(self):
+        return sum(self.lines(place) for place in self.order)
+
+    def names(self):
+        return {(place, it) for place, names in self.items.items() for it in names}
 
 
 def table_of(reached):
@@ -297,49 +338,80 @@ def listed(pairs):
     return [f"- `{place}`: {', '.join(f'`{it}`' for it in sorted(names))}" for place, names in sorted(groups.items())]
 
 
+def place_of(file, name):
+    """Returns the file and the name of a definition with which a part begins."""
+    place = f"crates/{file}"
+    return place, spec_at(place).where[name].name
+
+
+class Part:
+    """A part of the page: its functions, and the definitions that it is the first to reach."""
+
+    def __init__(self, title, about, functions, definitions, listed, left):
+        self.title, self.about = title, about
+        self.functions = [(path, *found) for path, wanted in functions for found in clauses_of(path, wanted)]
+        self.reached = Reached(listed, left)
+        for file, name in definitions:
+            self.reached.follow(self.reached.enter(*place_of(file, name)))
+        self.reached.follow(path for *_, paths in self.functions for path in paths)
+
+    def text(self):
+        clauses = ["| function | lines | file |", "|---|---|---|",
+                   *[f"| `{name}` | {lines} | `crates/{path}` |" for path, name, lines, _ in self.functions], ""]
+        return [f"## {self.title}", "", self.about, "", *(clauses if self.functions else []), *table_of(self.reached), "",
+                f"{sum(len(it) for it in self.reached.items.values())} definitions, {self.reached.size()} lines with their comments.", ""]
+
+
+def parts_of():
+    """Returns the parts of the page, each without what the parts before it list."""
+    found, listed = [], set()
+    for number, (title, about, functions, definitions) in enumerate(PARTS):
+        left = [place_of(*it) for *_, later in PARTS[number + 1:] for it in later]
+        found.append(Part(title, about, functions, definitions, listed, left))
+        listed |= found[-1].reached.names()
+    return found
+
+
 def page_text():
-    functions = [(path, *found) for path, wanted in ROOTS for found in clauses_of(path, wanted)]
-    reached = Reached()
-    reached.follow(path for *_, paths in functions for path in paths)
-    total = sum(reached.lines(place) for place in reached.order)
-    of_format = sum(reached.lines(place) for place in reached.order if place.split("/")[1] in FORMAT)
-    count = sum(len(it) for it in reached.items.values())
-    beside = Reached()
+    parts = parts_of()
+    sizes = [it.reached.size() for it in parts]
+    listed_names = {it for part in parts for it in part.reached.names()}
+    beside = Reached(listed_names)
     beside.follow(path for file in BESIDE for path in ghosts_of(file))
     for place, name in FACTS:
         beside.follow([path for path in spec_at(f"crates/{place}").cited(spec_at(f"crates/{place}").where[name])[1] if ".specs." in path])
-    for place in list(beside.order):
-        beside.items[place] = [it for it in beside.items[place] if it not in reached.items.get(place, [])]
-        if not beside.items[place]:
-            beside.order.remove(place)
-    library = [tuple(it.rsplit(".", 1)) for it in reached.library | beside.library if "." in it]
+    types = {it for part in parts for it in part.reached.types}
+    library = {it for part in parts for it in part.reached.library} | beside.library
     return "\n".join([
         "# What you have to trust", "",
-        "This page lists all definitions that are reached from the laws of `mufom_headline`, the contract of `run`, and the public laws of `mufom_run_laws`,"
-        " `mufom_judging`, `mufom_groups`, `mufom_prune`, `mufom_make` and `mufom_debug_laws`. Anyone who reads them, and trusts the toolchain and"
-        " [the code without a contract](#the-code-without-a-contract), knows what is proved;"
-        " [how to read a contract](ARCHITECTURE.md#how-to-read-a-contract) explains the notation. `python3 tools/audit.py` writes this page; with"
-        " `--check` it says whether the page is up to date.", "",
-        "## The clauses", "", "| function | lines | file |", "|---|---|---|",
-        *[f"| `{name}` | {lines} | `crates/{path}` |" for path, name, lines, _ in functions], "",
-        "## The definitions", "", "In the order in which they are reached.", "", *table_of(reached), "",
-        f"{len(reached.order)} files, {count} definitions, {total} lines with their comments. {of_format} of the lines are the format"
-        " alone: how numbers, expressions and records are spelled, which bytes are the file of a module, and the errors of reading and of"
-        " modules. The rest is about linking, locating and runs.", "",
+        "Anyone who reads the definitions on this page, and trusts the toolchain and [the code without a contract](#the-code-without-a-contract), knows"
+        " what is proved; [how to read a contract](ARCHITECTURE.md#how-to-read-a-contract) explains the notation. The definitions are those that are"
+        " reached from the contract of the program, from the laws of `mufom_headline`, and from the public laws of `mufom_run_laws`, `mufom_judging`,"
+        " `mufom_groups`, `mufom_prune`, `mufom_make` and `mufom_debug_laws`. `python3 tools/audit.py` writes this page; with `--check` it says whether"
+        " the page is up to date.", "",
+        "The page has parts, so that you need not read more than you want to know. Each part lists the definitions that no part before it has, in the order in"
+        " which they are reached.", "",
+        "| part | lines with their comments |", "|---|---|",
+        *[f"| [{it.title}](#{it.title.lower().replace(' ', '-')}) | {size:,} |" for it, size in zip(parts, sizes)],
+        f"| all | {sum(sizes):,} |", "",
+        f"The headline is in the first two parts, {sizes[0] + sizes[1]:,} lines. It is proved of each run of the program, whatever the definition of `Answers`"
+        " in the contract of `run`, from which it follows. Where these parts name an error of a file, the text of a plan, the arguments or a printed text, a later part defines it.", "",
+        *[line for part in parts for line in part.text()],
         "## The types", "", "Types and constants that Rust declares, whose fields and variants the definitions use.", "",
-        *listed(reached.types), "",
+        *listed(types), "",
         "## Beside them", "",
         "The clauses of what is outside, and how contracts see the types that own their contents, with the definitions that only these reach:",
         "", *[f"- `crates/{it}`" for it in BESIDE], "",
         "and two laws that tie the facts to a list: "
-        + " and ".join(f"`{name}` of `crates/{place}`" for place, name in FACTS) + ".", "", *table_of(beside), "", *listed(beside.types - reached.types), "",
+        + " and ".join(f"`{name}` of `crates/{place}`" for place, name in FACTS) + ".", "", *table_of(beside), "", *listed(beside.types - types), "",
         "## The code without a contract", "",
-        "`run` is proved over any host. No clause covers how the arguments, files and streams of the system reach it:", "",
+        "`program` is proved over any host. No clause covers how the arguments, files and streams of the system reach it:", "",
         "- `main` and `all_arguments` of `crates/mufom/src/main.rt` take the arguments from the system, and end the process with the status.",
         "- `RealHost` of `crates/mufom_host/src/real.rt` calls the system. It is trusted that a file or a stream takes the bytes that are passed to"
         " it, and returns those that it has. Blocks, short and interrupted calls, and lasting failures are proved over any writer and reader"
         " (`crates/mufom_host/src/streams.rt`).", "",
-        "## The toolchain's library", "", "Definitions of the library that these use, by module.", "", *listed(library), ""])
+        "## The toolchain's library", "", "Definitions of the library that these use, by module.", "",
+        *listed(tuple(it.rsplit(".", 1)) for it in library if "." in it), ""])
 
 
 def main():

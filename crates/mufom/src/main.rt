@@ -1,20 +1,23 @@
 //! The program `mufom`: it passes the arguments of the command line to [`run`] over the files and streams of
 //! the process, and ends with the status of the outcome.
 //!
-//! It depends on `mufom_command`, whose contract states what every outcome means, and on `mufom_host`. The
-//! main clause is that of [`program`]: over any host, the arguments after the program's name are run, and the
-//! exit status is that of the outcome. `main` itself has no contract: it hands over what the system gives.
+//! It depends on `mufom_command`, whose contract states what every outcome means, on `mufom_headline`, whose
+//! laws state what follows for linking and locating, and on `mufom_host`. The main clause is that of
+//! [`program`]: over any host, the arguments after the program's name are run, what is linked and located is
+//! as the laws say, and the exit status is that of the outcome. `main` itself has no contract: it hands over
+//! what the system gives.
 #![tactic(auto)]
 
 ghost use Rattle.std.specs.Prelude.{◌≡◌, ◌<◌, ◌^◌, drop, length, map};
 ghost use Rattle.std.specs.Process.{exit_status};
 ghost use Rattle.std.specs.String.{string_bytes};
-ghost use Rattle.mufom_command.specs.Contract.{IsRun};
+ghost use Rattle.mufom.specs.Program.{IsProgramRun};
 ghost use Rattle.mufom_outcome.specs.Complaint.{status_of};
 ghost use Rattle.mufom_outcome.specs.declared.outcome.Outcome.{Outcome};
 ghost use Rattle.mufom_task.specs.Calls.{call_of};
 
 use mufom_command::run;
+use mufom_headline::{links_are_put_out, the_headline};
 use mufom_host::{Host, RealHost};
 use std::alloc::Global;
 use std::env;
@@ -34,14 +37,17 @@ fn after_name(arguments: &[String]) -> &[String]
     arguments.get(1..).unwrap_or(&[])
 }
 
-// Runs the arguments after the program's name, and returns the exit status of the outcome.
+// Runs the arguments after the program's name, and returns the exit status of the outcome. The two laws are called for
+// what they state.
 fn program<H: Host>(alloc: Global, arguments: &[String], host: &mut H) -> ExitCode
     requires { length arguments.now < 2 ^ 32 }
     ensures { (outcome : Outcome)
-        × IsRun (map (λ word. string_bytes word) (drop 1 arguments.now)) (call_of H.meaning H.faults host.old host.new) outcome
+        × IsProgramRun (map (λ word. string_bytes word) (drop 1 arguments.now)) (call_of H.meaning H.faults host.old host.new) outcome
         × (exit_status result ≡ status_of outcome) }
 {
     let outcome = run(alloc, after_name(arguments), host);
+    the_headline();
+    links_are_put_out();
     ExitCode::from(outcome.status())
 }
 

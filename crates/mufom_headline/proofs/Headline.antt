@@ -270,7 +270,7 @@ module _ (files : List NamedFile) (call : Call) (result : Outcome) (c : Inputs) 
   }
 
 pub the-headline : TheHeadline
-the-headline words files call result c inputs keep p plan flat is calm named asks accepts =
+the-headline words call result is files c inputs keep p plan flat calm named asks accepts =
     let bytes : HoldBytes files = of-files call files calm.known HoldBytes calm.revealed.bytes in
     let answers : AnswersFor (task.Locate inputs keep p) call result = plain-answers words c named (task.Locate inputs keep p) asks call result is in
     let own = flat-files (tree_of inputs.marks) accepts.modules flat accepts.is_flat in

@@ -63,7 +63,7 @@ module _ (name : Option (List ℕ)) (out : List ℕ) (list : List Parts) (valid 
   }
 
 pub links-are-put-out : LinksArePutOut
-links-are-put-out words files call result c inputs name out plan flat is calm named asks accepts = record {
+links-are-put-out words call result is files c inputs name out plan flat calm named asks accepts = record {
   linked = has-linked flat refl (λ f stands. stands) (λ none. same-work (linked_file name out flat)) (flat-valid files inputs plan flat accepts);
   staged = λ leaves came.
       let same = (lists-link-as-their-leaves flat leaves came).facts in

@@ -121,13 +121,16 @@ pub record LocatesAll (named : List NamedFile) (inputs : Inputs) (keep : List (L
   pub staged : (leaves : List Parts) → CameByLinks flat leaves
       → HasLocated (roots_by keep plan) p (module_files named inputs) (origins_of files) plan call result (named_as flat leaves)
 
--- For all arguments, files and plans: if no I/O call failed, the run did not run out of memory, and the plan and the files were accepted,
--- then `locate`, `bin`, `txt`, `dump`, `addr` and `map` locate the flat list of the modules, and each list from which that was linked in
--- stages.
-abbrev pub TheHeadline : Type 0
-TheHeadline =
-    (words : List (List ℕ)) (files : List NamedFile) (call : Call) (result : Outcome) (c : Command) (inputs : Inputs) (keep : List (List ℕ)) (p : Product)
-    (plan : Plan) (flat : List Parts)
-    → Answers words call result → IsUndisturbed files call result
+-- The headline, of a run with these arguments. For all files and plans: if no I/O call failed, the run did not run out of memory, and the plan and
+-- the files were accepted, then `locate`, `bin`, `txt`, `dump`, `addr` and `map` locate the flat list of the modules, and each list from which that
+-- was linked in stages.
+abbrev pub RunLocates : List (List ℕ) → Call → Outcome → Type 0
+RunLocates words call result =
+    (files : List NamedFile) (c : Command) (inputs : Inputs) (keep : List (List ℕ)) (p : Product) (plan : Plan) (flat : List Parts)
+    → IsUndisturbed files call result
     → answer_of words ≡ Ok c → request_of c ≡ request.Run (task.Locate inputs keep p) → (accepts : Accepts files inputs plan flat)
     → LocatesAll files inputs keep p plan call result accepts.modules flat
+
+-- It holds of each run whose outcome has its cause, as the contract of `run` says of all runs.
+abbrev pub TheHeadline : Type 0
+TheHeadline = (words : List (List ℕ)) (call : Call) (result : Outcome) → Answers words call result → RunLocates words call result

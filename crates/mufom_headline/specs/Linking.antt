@@ -71,14 +71,17 @@ pub record LinksAll (name : Option (List ℕ)) (out : List ℕ) (call : Call) (r
   pub linked : HasLinked name out call result flat
   pub staged : (leaves : List Parts) → CameByLinks flat leaves → HasLinked name out call result (named_as flat leaves)
 
--- If no I/O call failed, the run did not run out of memory and its files were accepted, `link` links the flat list of the modules.
-abbrev pub LinksArePutOut : Type 0
-LinksArePutOut =
-    (words : List (List ℕ)) (files : List NamedFile) (call : Call) (result : Outcome) (c : Command) (inputs : Inputs) (name : Option (List ℕ))
-    (out : List ℕ) (plan : Plan) (flat : List Parts)
-    → Answers words call result → IsUndisturbed files call result → answer_of words ≡ Ok c → request_of c ≡ request.Run (task.Link inputs name out)
+-- The headline of linking, of a run with these arguments: if no I/O call failed, the run did not run out of memory and its files were accepted, `link`
+-- links the flat list of the modules.
+abbrev pub RunLinks : List (List ℕ) → Call → Outcome → Type 0
+RunLinks words call result =
+    (files : List NamedFile) (c : Command) (inputs : Inputs) (name : Option (List ℕ)) (out : List ℕ) (plan : Plan) (flat : List Parts)
+    → IsUndisturbed files call result → answer_of words ≡ Ok c → request_of c ≡ request.Run (task.Link inputs name out)
     → Accepts files inputs plan flat
     → LinksAll name out call result flat
+
+abbrev pub LinksArePutOut : Type 0
+LinksArePutOut = (words : List (List ℕ)) (call : Call) (result : Outcome) → Answers words call result → RunLinks words call result
 
 -- The work over one list of modules, without groups and members: the list is linked, which may end the work with a link error, and the output
 -- follows.
