@@ -217,7 +217,7 @@ pub unmade-unwritten : (p : Product) (names : ModuleFiles) (m : Location) (answe
     → EndsAt (product_of p names (shown_of m) m.located) answer → answer ≢ outcome.WriteFault
 unmade-unwritten p names m answer (inl lacks) = λ same. let both : outcome.NoMemory ≡ outcome.WriteFault = sym lacks ∙ same in cc
 unmade-unwritten p names m answer (inr (s, of_modules, shown, ends)) =
-    let (refused, is) = product-stops p names (shown_of m) m.located s ends in
+    let (refused, fact, is) = product-stops p names (shown_of m) m.located s ends in
     λ same. let both : outcome.Refused (refusal.Bin refused) ≡ outcome.WriteFault = sym (shown ∙ ap stop_outcome is) ∙ same in cc
 
 -- ---- a name that no public has
@@ -450,7 +450,7 @@ module _ (files : Option (List NamedFile)) (c : Inputs) (names : ModuleFiles) (k
     pub unmade-over : (answer : Outcome) → EndsAt (product_of p names (shown_of m) m.located) answer → (answer ≡ outcome.NoMemory) ⊎ EndsOver files t answer []
     unmade-over answer (inl lacks) = inl lacks
     unmade-over answer (inr (s, of_modules, shown, ends)) =
-        let (refused, same) = product-stops p names (shown_of m) m.located s ends in
+        let (refused, fact, same) = product-stops p names (shown_of m) m.located s ends in
         let long : product_of p names (shown_of m) m.located (stops (bytes_refused refused))
         = subst (λ (x : Stop). product_of p names (shown_of m) m.located (stops x)) same ends in
         inr (subst (λ (o : Outcome). EndsOver files t o []) (sym (shown ∙ ap stop_outcome same)) (

@@ -47,7 +47,7 @@ use Rattle.mufom_works.specs.Roots.{Roots, first_unknown, roots_by}
 use Rattle.mufom_works.specs.Works.{Kept, Output, kept_of, kept_unless, located, located_unless, locating_kept, mapped_kept, maus_of, producing}
 use Rattle.mufom_works.specs.Works.{product_of, product_with, stop_of, work_of}
 use Rattle.mufom_works.specs.Works.{bytes_fact, bytes_unless, length_fact, region_fact, region_image, region_named}
-use Rattle.mufom_works.proofs.ProductLaws.{bytes-stop}
+use Rattle.mufom_works.proofs.ProductLaws.{bytes-stop, product-never}
 use Rattle.mufom_works.proofs.EndLaws.{location-of}
 use Rattle.mufom_works.proofs.KeptLaws.{kept-valid}
 use Rattle.mufom_works.proofs.Runs.{kept_of-single, of-files}
@@ -56,7 +56,7 @@ use Rattle.mufom_run_laws.proofs.Accepted.{EndsAtFact, accepted-back, accepted-f
 use Rattle.mufom_run_laws.proofs.Calm.{CameTo, done-comes, never-done}
 use Rattle.mufom_run_laws.proofs.Determined.{answers-determined}
 use Rattle.mufom_run_laws.proofs.Leaves.{accepted-light}
-use Rattle.mufom_run_laws.proofs.LocatingDone.{no-end, no-fact-there, product-never}
+use Rattle.mufom_run_laws.proofs.LocatingDone.{no-end, no-fact-there}
 use Rattle.mufom_run_laws.proofs.Plain.{plain-answers, plain-run}
 use Rattle.mufom_headline.specs.Headline.{HasLocated, MayBeWritten, LocatesAll, PutsOutLocation, TheHeadline}
 use Rattle.mufom_headline.specs.Linking.{IsRefusedLink}

@@ -1,8 +1,6 @@
 -- Locating accepted files is done exactly where no fact stands against their flat list.
-use Rattle.std.proofs.Common.{◌≡◌, ◌⊎◌, ℕ, List, length, Option, None, sym, subst, inl, inr}
+use Rattle.std.proofs.Common.{◌≡◌, ◌⊎◌, ℕ, List, Option, None, sym, subst, inl, inr}
 use Rattle.mufom_host.specs.World.{HoldBytes, NamedFile}
-use Rattle.mufom_map.specs.Mapped.{Mapped}
-use Rattle.mufom_origins.specs.Words.{ModuleFiles}
 use Rattle.mufom_origins.specs.Origins.{origins_of}
 use Rattle.mufom_module.specs.declared.module.Parts.{Parts}
 use Rattle.mufom_plan.specs.declared.plan.Plan.{Plan}
@@ -10,20 +8,17 @@ use Rattle.mufom_words.specs.Tree.{tree_of}
 use Rattle.mufom_meaning.specs.declared.located.LocatedParts.{LocatedParts}
 use Rattle.mufom_meaning.specs.LinkAnswer.{link_answer}
 use Rattle.mufom_planned.specs.Planned.{IsPlanned, PlanFact, planned_answer}
-use Rattle.mufom_write.specs.Raw.{raw_image}
 use Rattle.mufom_groups.specs.Work.{gives, stops, Work}
 use Rattle.mufom_groups.proofs.Works.{value-same}
-use Rattle.mufom_outcome.specs.declared.outcome.BinRefusal.{BinRefusal}
 use Rattle.mufom_outcome.specs.Stop.{Stop}
 use Rattle.mufom_task.specs.declared.task.Inputs.{Inputs}
 use Rattle.mufom_task.specs.Inputs.{module_files}
 use Rattle.mufom_task.specs.declared.task.Product.{Product}
-use Rattle.mufom_task.specs.declared.task.Product.TheVariants as product
 use Rattle.mufom_task.specs.declared.task.Task.TheVariants as task
 use Rattle.mufom_works.specs.Roots.{Roots, roots_by}
-use Rattle.mufom_works.specs.Works.{Kept, Output, kept_of, located_unless, locating_kept, mapped_kept, producing, product_of, work_of}
-use Rattle.mufom_works.specs.Works.{bytes_fact, bytes_unless, length_fact, region_fact, region_image, region_named}
+use Rattle.mufom_works.specs.Works.{Kept, Output, kept_of, located_unless, locating_kept, mapped_kept, producing, work_of}
 use Rattle.mufom_works.proofs.EndLaws.{location-of}
+use Rattle.mufom_works.proofs.ProductLaws.{product-never}
 use Rattle.mufom_works.proofs.Runs.{kept_of-single, of-files}
 use Rattle.mufom_run_laws.specs.RunLaws.{Accepts, HasNoFact, LocatingIsDone, MayPutOut}
 use Rattle.mufom_run_laws.proofs.Accepted.{EndsAtFact, accepted-gives, accepted-stops, no-link-fact}
@@ -50,23 +45,6 @@ module _ (output : Kept → LocatedParts → Work Stop Output) (keep : Option Ro
       let locates : planned_answer kept.modules plan ≡ None = subst (λ (k : Kept). planned_answer k.modules plan ≡ None) (sym same) none.locates in
       subst (λ (o : Option PlanFact). located_unless o plan kept.modules (stops s)) locates ends
   no-end never none s (inr (kept, is_kept, inr (r, is_located, ends))) = never kept r is_kept (location-of plan kept.modules r is_located) s ends
-
--- ---- what is made of a location has no end
-
-bytes-never : (o : Option BinRefusal) → o ≡ None → (name bytes : List ℕ) (s : Stop) → bytes_unless o name bytes (stops s) → ⊥
-bytes-never o none name bytes s ends = subst (λ (p : Option BinRefusal). bytes_unless p name bytes (stops s)) none ends
-
-pub product-never : (p : Product) (names : ModuleFiles) (shown : Mapped) (r : LocatedParts) → bytes_fact p shown.regions r ≡ None → (s : Stop)
-    → product_of p names shown r (stops s) → ⊥
-product-never (product.Absolute out) names shown r may s (held, never) = never
-product-never (product.Raw fill out) names shown r may s ends =
-    bytes-never (length_fact (length (raw_image fill r.runs))) may out (raw_image fill r.runs) s ends
-product-never (product.Region name fill out) names shown r may s ends =
-    bytes-never (region_fact name (region_named shown.regions name)) may out (region_image fill (region_named shown.regions name) r) s ends
-product-never (product.TiTxt out) names shown r may s never = never
-product-never product.Image names shown r may s never = never
-product-never (product.Map at) names shown r may s never = never
-product-never (product.Hit at) names shown r may s never = never
 
 -- ---- the work of a task that locates
 

@@ -1,5 +1,5 @@
 -- What is made of a location, or why nothing is.
-use Rattle.std.proofs.Common.{◌≡◌, ◌<◌, ◌≤◌, ℕ, Bool, false, true, nat_lt, arith, rules, length, List, Option, Some, None, refl, sym, ap, subst, ◌⊎◌}
+use Rattle.std.proofs.Common.{◌≡◌, ◌<◌, ◌≤◌, ℕ, Bool, false, true, nat_lt, arith, rules, length, List, Option, Some, None, refl, sym, ap, subst, ◌∙◌, ◌⊎◌}
 use Rattle.std.proofs.Common.{inl, inr, if◌then◌else◌}
 use Rattle.std.proofs.lemmas.Bool.{ltb-true}
 use Rattle.mufom_numbers.specs.declared.limits.TheConstants.{MOST_FILE_BYTES}
@@ -18,7 +18,7 @@ use Rattle.mufom_task.specs.declared.task.Product.{Product}
 use Rattle.mufom_task.specs.declared.task.Product.TheVariants as product
 use Rattle.mufom_task.specs.Tasks.{file_of}
 use Rattle.mufom_works.specs.Run.{file_name}
-use Rattle.mufom_works.specs.Works.{Output, made, product_of, bytes_unless, length_fact, region_fact, region_image, region_named}
+use Rattle.mufom_works.specs.Works.{Output, bytes_fact, made, product_of, bytes_unless, length_fact, region_fact, region_image, region_named}
 use Rattle.mufom_works.specs.WorkEnds.{EndsAt}
 
 -- ---- what is made of a location
@@ -61,8 +61,9 @@ bytes-place : (o : Option BinRefusal) (name bytes : List ℕ) (output : Output) 
 bytes-place (Some b) name bytes output is = absurd is
 bytes-place None name bytes output is = ap file_name is
 
-bytes-ends : (o : Option BinRefusal) (name bytes : List ℕ) (s : Stop) → bytes_unless o name bytes (stops s) → (b : BinRefusal) × (s ≡ bytes_refused b)
-bytes-ends (Some b) name bytes s is = (b, is)
+bytes-ends : (o : Option BinRefusal) (name bytes : List ℕ) (s : Stop) → bytes_unless o name bytes (stops s)
+    → (b : BinRefusal) × (o ≡ Some b) × (s ≡ bytes_refused b)
+bytes-ends (Some b) name bytes s is = (b, refl, is)
 bytes-ends None name bytes s is = absurd is
 
 -- a file has the name that is given
@@ -77,9 +78,9 @@ product-place product.Image names shown r o is = ap file_name is
 product-place (product.Map at) names shown r o is = ap file_name is
 product-place (product.Hit at) names shown r o is = ap file_name is
 
--- Only the bytes of `bin` may be refused.
+-- Nothing ends the work but bytes of `bin` that may not be written.
 pub product-stops : (p : Product) (names : ModuleFiles) (shown : Mapped) (r : LocatedParts) (s : Stop) → product_of p names shown r (stops s)
-    → (b : BinRefusal) × (s ≡ bytes_refused b)
+    → (b : BinRefusal) × (bytes_fact p shown.regions r ≡ Some b) × (s ≡ bytes_refused b)
 product-stops (product.Absolute out) names shown r s (held, never) = absurd never
 product-stops (product.Raw fill out) names shown r s is = bytes-ends (length_fact (length (raw_image fill r.runs))) out (raw_image fill r.runs) s is
 product-stops (product.Region name fill out) names shown r s is =
@@ -88,3 +89,9 @@ product-stops (product.TiTxt out) names shown r s never = absurd never
 product-stops product.Image names shown r s never = absurd never
 product-stops (product.Map at) names shown r s never = absurd never
 product-stops (product.Hit at) names shown r s never = absurd never
+
+-- so what may be written is made
+pub product-never : (p : Product) (names : ModuleFiles) (shown : Mapped) (r : LocatedParts) → bytes_fact p shown.regions r ≡ None → (s : Stop)
+    → product_of p names shown r (stops s) → ⊥
+product-never p names shown r may s ends =
+    let (b, some, same) = product-stops p names shown r s ends in let clash : None ≡ Some b = sym may ∙ some in absurd cc
