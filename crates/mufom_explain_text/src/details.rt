@@ -136,7 +136,8 @@ pub fn file_of(product: &Product) -> Option<&Text>
         Product::Raw { out, .. } => Some(out),
         Product::Region { out, .. } => Some(out),
         Product::TiTxt { out } => Some(out),
-        Product::Image | Product::Map { .. } | Product::Hit { .. } => None,
+        // a text
+        _ => None,
     }
 }
 
