@@ -395,7 +395,8 @@ def page_text():
         *[f"| [{it.title}](#{it.title.lower().replace(' ', '-')}) | {size:,} |" for it, size in zip(parts, sizes)],
         f"| all | {sum(sizes):,} |", "",
         f"The headline is in the first two parts, {sizes[0] + sizes[1]:,} lines. It is proved of each run of the program, whatever the definition of `Answers`"
-        " in the contract of `run`, from which it follows. Where these parts name an error of a file, the text of a plan, the arguments or a printed text, a later part defines it.", "",
+        " in the contract of `run`, from which it follows. Where these parts name an error of a file, the text of a plan, the arguments or a printed text,"
+        " a later part defines it.", "",
         *[line for part in parts for line in part.text()],
         "## The types", "", "Types and constants that Rust declares, whose fields and variants the definitions use.", "",
         *listed(types), "",

@@ -19,6 +19,7 @@ ghost use Rattle.mufom_task.specs.Calls.{call_of};
 use mufom_command::run;
 use mufom_headline::{links_are_put_out, the_headline};
 use mufom_host::{Host, RealHost};
+use mufom_outcome::Outcome;
 use std::alloc::Global;
 use std::env;
 use std::io::ErrorKind;
@@ -37,17 +38,25 @@ fn after_name(arguments: &[String]) -> &[String]
     arguments.get(1..).unwrap_or(&[])
 }
 
-// Runs the arguments after the program's name, and returns the exit status of the outcome. The two laws are called for
-// what they state.
+// Runs the arguments. The laws are called for what they state of each run.
+fn proved_run<H: Host>(alloc: Global, words: &[String], host: &mut H) -> Outcome
+    requires { length words.now < 2 ^ 32 }
+    ensures { IsProgramRun (map (λ word. string_bytes word) words.now) (call_of H.meaning H.faults host.old host.new) result }
+{
+    let outcome = run(alloc, words, host);
+    the_headline();
+    links_are_put_out();
+    outcome
+}
+
+// Runs the arguments after the program's name, and returns the exit status of the outcome.
 fn program<H: Host>(alloc: Global, arguments: &[String], host: &mut H) -> ExitCode
     requires { length arguments.now < 2 ^ 32 }
     ensures { (outcome : Outcome)
         × IsProgramRun (map (λ word. string_bytes word) (drop 1 arguments.now)) (call_of H.meaning H.faults host.old host.new) outcome
         × (exit_status result ≡ status_of outcome) }
 {
-    let outcome = run(alloc, after_name(arguments), host);
-    the_headline();
-    links_are_put_out();
+    let outcome = proved_run(alloc, after_name(arguments), host);
     ExitCode::from(outcome.status())
 }
 
