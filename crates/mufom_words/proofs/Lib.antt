@@ -9,6 +9,5 @@ mod Worked
 mod WorkedGroups
 mod Hexadecimal
 mod HelpLaws
-pub mod ExplainGiven
 mod WorkedFaulty
 pub mod FoundLaws
