@@ -23,4 +23,17 @@ pub mod PlanSizes
 pub mod PlanResults
 pub mod TextHeld
 pub mod TextResults
+pub mod Bounded
+pub mod BoundedRecords
+pub mod BoundedFiles
+pub mod BoundedInputs
+pub mod BoundedLinks
+pub mod BoundedMade
+pub mod LinkResults
+pub mod KeptBounded
+pub mod LocatedValues
+pub mod LocatedSections
+pub mod LocatedLoads
+pub mod AbsoluteBounded
+pub mod AbsoluteResults
 pub mod Results

@@ -25,7 +25,7 @@ use Rattle.mufom_task.proofs.FileLaws.{never-prefix}
 use Rattle.mufom_task.proofs.RootLaws.{root-module}
 
 -- an archive that is accepted is accepted as a whole
-archive-whole : (options : ReadOptions) (limit : ℕ) (bytes : List ℕ) (names : Option (List (List ℕ))) (ms : List Parts)
+pub archive-whole : (options : ReadOptions) (limit : ℕ) (bytes : List ℕ) (names : Option (List (List ℕ))) (ms : List Parts)
     → IsVerdictWithin options limit bytes (accepted names ms) → IsArchiveVerdict options bytes (accepted names ms)
 archive-whole options limit bytes names ms (inl is) = is.1
 archive-whole options limit bytes names ms (inr cut) = absurd (never-prefix (take limit bytes) names ms cut.1.0 cut.1.2)

@@ -129,9 +129,9 @@ pub fn no_fact_is_decided()
     ensures { NoFactIsDecided }
 {}
 
-/// A plain run has a result: one whose arguments have an error, and one of `show`, `check`, `make`, `help`,
-/// `version`, `fromtxt` or of a command that locates, except `locate`. This holds if the files exist, with that
-/// of the plan, and hold bytes.
+/// A plain run has a result: one whose arguments have an error, and one of each command but `build` and
+/// `explain`. This holds if the files exist, with that of the plan, and hold bytes; if a name that `link` gives
+/// to its module consists of bytes; and if the plan of `locate` has no symbols and no load regions.
 pub fn plain_runs_have_results()
     ensures { PlainRunsHaveResults }
 {}
