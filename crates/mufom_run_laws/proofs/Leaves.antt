@@ -1,5 +1,5 @@
 -- A list that came by links is put out as the list that they began with.
-use Rattle.std.proofs.Common.{◌≡◌, ◌≢◌, ℕ, ◌+◌, ◌<◌, ◌≤◌, ◌^◌, List, [], ◌∷◌, ◌++◌, length, None, refl, sym, subst, ◌∙◌, arith}
+use Rattle.std.proofs.Common.{◌≡◌, ◌≤◌, List, [], ◌∷◌, None, refl, sym, subst, ◌∙◌, arith}
 use Rattle.mufom_host.specs.World.{HoldBytes, NamedFile}
 use Rattle.mufom_words.specs.Tree.{tree_of}
 use Rattle.mufom_module.specs.declared.module.Parts.{Parts}
@@ -7,12 +7,11 @@ use Rattle.mufom_module.specs.Defects.{IsValid}
 use Rattle.mufom_plan.specs.declared.plan.Plan.{Plan}
 use Rattle.mufom_meaning.specs.Joined.{IsJoined}
 use Rattle.mufom_meaning.specs.LinkAnswer.{link_answer}
-use Rattle.mufom_meaning.specs.Staging.{AreValid}
 use Rattle.mufom_meaning.specs.StagingLaws.{total_weight}
 use Rattle.mufom_meaning.proofs.facts.Linkable.{no_link_answer_is_linkable}
 use Rattle.mufom_meaning.proofs.staging.JoinedValid.{joined_is_valid}
 use Rattle.mufom_planned.specs.PlanLaws.{HasSoundSymbols}
-use Rattle.mufom_stages.specs.Stages.{CameByLinks, IsLinkedInStages, first_named, linked, named_as, unlinked}
+use Rattle.mufom_stages.specs.Stages.{CameByLinks, IsLinkedInStages, linked, named_as, unlinked}
 use Rattle.mufom_stages.proofs.Linked.{lists-link-as-their-leaves}
 use Rattle.mufom_stages.proofs.OldStages.{stages-are-links}
 use Rattle.mufom_groups.specs.Groups.{most_weight}
