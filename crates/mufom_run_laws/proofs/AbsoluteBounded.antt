@@ -94,8 +94,8 @@ few-loaded ms plan none =
     λ past. (answers_are_facts ms plan).locate_complete none (image_limit (loaded_total ms)) (inl (refl, past)) in
     omega (arith, within)
 
--- the limit is what the modules of a run can weigh, with the name of a module
-pub absolute-light : (ms : List Parts) (plan : Plan) (r : LocatedParts) → AreValid ms → total_weight ms ≤ 671154176 → IsLocation ms plan r
+-- the limit is what the modules of a run can weigh, with the name of a module and the symbols of a plan
+pub absolute-light : (ms : List Parts) (plan : Plan) (r : LocatedParts) → AreValid ms → total_weight ms ≤ 673317020 → IsLocation ms plan r
     → weight (absolute_of r) < 2 ^ 32
 absolute-light ms plan r v light h =
     let most = absolute_weighs ms plan r v h in

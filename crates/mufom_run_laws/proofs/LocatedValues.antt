@@ -37,7 +37,7 @@ pub one-number : (n : ℕ) → IsNumber n → IsBoundedTree (number n)
 one-number n is = (omega arith, (is, tt))
 
 -- an address has at most 64 bits
-narrow-width : (m : Parts) → not (is_unit_count m.maus) ≡ false → 2 ^ (8 * m.maus) ≤ 2 ^ 64
+pub narrow-width : (m : Parts) → not (is_unit_count m.maus) ≡ false → 2 ^ (8 * m.maus) ≤ 2 ^ 64
 narrow-width m is = by (nat_le 1 m.maus) (nat_le m.maus 8) refl is where
   by : (a b : Bool) → nat_le m.maus 8 ≡ b → not (a && b) ≡ false → 2 ^ (8 * m.maus) ≤ 2 ^ 64
   by true true high is =

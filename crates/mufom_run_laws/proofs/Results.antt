@@ -254,7 +254,8 @@ module _ (files : List NamedFile) (inputs : Inputs) (bytes : HoldBytes files) (s
       (λ plan flat accepts links kept is_kept r is_located.
       let roots = roots_by keep plan in
       let sound_list = valid plan flat accepts links in
-      absolute-held kept.modules plan r (plain plan accepts.planned) (kept-valid roots flat kept sound_list is_kept)
+      absolute-held kept.modules plan r (plain plan accepts.planned) (plan-sound files inputs.plan plan accepts.planned).symbols
+      (kept-valid roots flat kept sound_list is_kept)
       (kept-bounded flat sound_list (bounded plan flat accepts links) (light plan flat accepts links) roots kept is_kept) is_located) read
 
 -- ---- the work of `make`

@@ -1,5 +1,5 @@
--- The law that plain runs have a result: all runs but those that build or explain, or locate into a module by a plan with symbols or copies.
-use Rattle.std.specs.Prelude.{◌≡◌, ℕ, List, [], IfSome, IsSome, Result, Ok, Err}
+-- The law that plain runs have a result: all runs but those that build or explain, or locate into a module by a plan with load regions.
+use Rattle.std.specs.Prelude.{ℕ, List, IfSome, IsSome, Result, Ok, Err}
 use Rattle.std.specs.List.{AllByRecursion}
 use Rattle.mufom_numbers.specs.Spelling.{AreBytes}
 use Rattle.mufom_host.specs.World.{HoldBytes, NamedFile, file_named}
@@ -29,10 +29,10 @@ pub record CanBeRead (files : List NamedFile) (inputs : Inputs) : Type 0 where
   pub exist : AllByRecursion (λ name. IsSome (file_named name files)) inputs.files
   pub plan : IfSome inputs.plan (λ name. IsSome (file_named name files))
 
--- The plan has no symbols and loads each region where it is.
+-- The plan loads each region where it is, and the names of its symbols consist of bytes.
 pub record IsPlainPlan (plan : Plan) : Type 0 where
-  pub symbols : plan.symbols ≡ []
   pub regions : AreLoadedInPlace plan.regions
+  pub symbols : AllByRecursion (λ symbol. AreBytes symbol.name) plan.symbols
 
 -- The task is not `build`. If it is `link` with a name for the module, the name consists of bytes, as each argument of a real run does. If it is
 -- `locate`, its plan is plain.
