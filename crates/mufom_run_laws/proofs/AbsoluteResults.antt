@@ -2,7 +2,6 @@
 use Rattle.std.proofs.Common.{ℕ, zero, suc, ◌*◌, ◌%◌, ◌^◌, ◌<◌, ◌≤◌, List, [], ◌∷◌, map, Option, Some, None, arith, mod-lt}
 use Rattle.std.specs.List.{AllByRecursion}
 use Rattle.std.proofs.lemmas.List.Elements.{All-nil}
-use Rattle.mufom_numbers.specs.Spelling.{AreBytes}
 use Rattle.mufom_module.specs.declared.module.Parts.{Parts}
 use Rattle.mufom_module.specs.declared.module.Defect.TheVariants as kinds
 use Rattle.mufom_module.specs.Made.{IsMadeNote, IsNumber}
@@ -17,7 +16,7 @@ use Rattle.mufom_meaning.proofs.NoDefects.{no_defect}
 use Rattle.mufom_meaning.proofs.absolute.Valid.{absolute_is_valid}
 use Rattle.mufom_planned.specs.Layout.{layout}
 use Rattle.mufom_planned.specs.Numbers.{symbol_number}
-use Rattle.mufom_planned.specs.PlanLaws.{HasSoundSymbols}
+use Rattle.mufom_planned.specs.PlanLaws.{AreLoadedInPlace, HasSoundSymbols}
 use Rattle.mufom_planned.specs.PlanSymbols.{followed_by, symbol_public, symbols_module, with_names, with_symbols}
 use Rattle.mufom_planned.specs.Planned.{IsPlanned, PlanFact, planned_answer}
 use Rattle.mufom_planned.proofs.Locatable.{planned_is_locatable}
@@ -25,26 +24,22 @@ use Rattle.mufom_planned.proofs.Plain.{to_location}
 use Rattle.mufom_planned.proofs.Weight.{followed-heavier}
 use Rattle.mufom_groups.specs.Work.{gives}
 use Rattle.mufom_works.specs.Works.{IsHeld, located, located_unless}
-use Rattle.mufom_run_laws.specs.Results.{IsPlainPlan}
 use Rattle.mufom_run_laws.proofs.AbsoluteBounded.{absolute-bounded, absolute-light}
 use Rattle.mufom_run_laws.proofs.Bounded.{IsBounded, IsBoundedPublic, all-append}
 use Rattle.mufom_run_laws.proofs.BoundedInputs.{AreBounded}
 use Rattle.mufom_run_laws.proofs.BoundedMade.{bounded-held}
 use Rattle.mufom_run_laws.proofs.KeptBounded.{AreKept}
 use Rattle.mufom_run_laws.proofs.LocatedValues.{narrow-width, one-number}
+use Rattle.mufom_run_laws.proofs.PlanBytes.{HasByteName}
 
 -- ---- the symbols of a plan
-
--- the names consist of bytes
-abbrev HaveByteNames : List PlanSymbol → Type 0
-HaveByteNames symbols = AllByRecursion (λ symbol. AreBytes symbol.name) symbols
 
 powers-some : (w : ℕ) → 0 < 2 ^ w
 powers-some zero = omega arith
 powers-some (suc w) = omega (arith, powers-some w)
 
 module _ (m : Parts) (numbers : PlanSymbol → ℕ) (narrow : 2 ^ (8 * m.maus) ≤ 2 ^ 64) where
-  symbols-bounded : (symbols : List PlanSymbol) → HaveByteNames symbols
+  symbols-bounded : (symbols : List PlanSymbol) → AllByRecursion HasByteName symbols
       → AllByRecursion IsBoundedPublic (map (symbol_public (2 ^ (8 * m.maus)) numbers) symbols)
   symbols-bounded [] are = tt
   symbols-bounded (symbol ∷ symbols) are =
@@ -55,7 +50,7 @@ module _ (m : Parts) (numbers : PlanSymbol → ℕ) (narrow : 2 ^ (8 * m.maus) �
         symbols-bounded symbols are.1,
       )
 
-  module-bounded : (symbols : List PlanSymbol) → HaveByteNames symbols → IsBounded (symbols_module m numbers symbols)
+  module-bounded : (symbols : List PlanSymbol) → AllByRecursion HasByteName symbols → IsBounded (symbols_module m numbers symbols)
   module-bounded symbols are = record {
     processor = tt;
     name = tt;
@@ -69,7 +64,7 @@ module _ (m : Parts) (numbers : PlanSymbol → ℕ) (narrow : 2 ^ (8 * m.maus) �
     start = tt;
   }
 
-followed-bounded : (ms : List Parts) (numbers : PlanSymbol → ℕ) (symbols : List PlanSymbol) → AreValid ms → AreBounded ms → HaveByteNames symbols
+followed-bounded : (ms : List Parts) (numbers : PlanSymbol → ℕ) (symbols : List PlanSymbol) → AreValid ms → AreBounded ms → AllByRecursion HasByteName symbols
     → AreBounded (followed_by ms numbers symbols)
 followed-bounded [] numbers symbols valid are names = tt
 followed-bounded (m ∷ ms) numbers [] valid are names = are
@@ -79,13 +74,13 @@ followed-bounded (m ∷ ms) numbers (symbol ∷ more) valid are names =
 
 -- ---- the location
 
-module _ (ms : List Parts) (plan : Plan) (r : LocatedParts) (plain : IsPlainPlan plan) (symbols : HasSoundSymbols plan) (valid : AreValid ms)
-    (kept : AreKept ms) where
+module _ (ms : List Parts) (plan : Plan) (r : LocatedParts) (loads : AreLoadedInPlace plan.regions) (symbols : HasSoundSymbols plan)
+    (names : AllByRecursion HasByteName plan.symbols) (valid : AreValid ms) (kept : AreKept ms) where
   abbrev all : List Parts
   all = with_symbols ms plan
 
   all-bounded : AreBounded all
-  all-bounded = followed-bounded ms (λ symbol. symbol_number (layout (with_names ms plan) plan) symbol.value) plan.symbols valid kept.bounded plain.symbols
+  all-bounded = followed-bounded ms (λ symbol. symbol_number (layout (with_names ms plan) plan) symbol.value) plan.symbols valid kept.bounded names
 
   all-light : total_weight all ≤ 673317020
   all-light =
@@ -102,7 +97,7 @@ module _ (ms : List Parts) (plan : Plan) (r : LocatedParts) (plain : IsPlainPlan
   planned-held : IsPlanned ms plan r → IsHeld (absolute_of r)
   planned-held is =
       let ready = planned_is_locatable ms plan valid symbols is.links is.locates in
-      location-held ready.valid (to_location all plan plain.regions r ready.links ready.locates is.located)
+      location-held ready.valid (to_location all plan loads r ready.links ready.locates is.located)
 
   unless-held : (o : Option PlanFact) → located_unless o plan ms (gives r) → IsHeld (absolute_of r)
   unless-held None is = planned-held is

@@ -31,6 +31,9 @@ pub mod BoundedLinks
 pub mod BoundedMade
 pub mod LinkResults
 pub mod KeptBounded
+pub mod TextBytes
+pub mod TomlBytes
+pub mod PlanBytes
 pub mod LocatedValues
 pub mod LocatedSections
 pub mod LocatedLoads

@@ -29,19 +29,19 @@ use Rattle.mufom_run_laws.proofs.TomlSizes.{counted, document-size, items_size, 
 
 -- ---- steps
 
-bound : {A B : Type 0} (r : Result A PlanRefusal) (f : A → Result B PlanRefusal) (y : B) → r >>= f ≡ Ok y → (x : A) × (r ≡ Ok x) × (f x ≡ Ok y)
+pub bound : {A B : Type 0} (r : Result A PlanRefusal) (f : A → Result B PlanRefusal) (y : B) → r >>= f ≡ Ok y → (x : A) × (r ≡ Ok x) × (f x ≡ Ok y)
 bound (Ok x) f y is = (x, refl, is)
 bound (Err refusal) f y is = absurd cc
 
-passed : {A : Type 0} (test : Bool) (refusal : PlanRefusal) (r : Result A PlanRefusal) (y : A) → unless test refusal r ≡ Ok y → r ≡ Ok y
+pub passed : {A : Type 0} (test : Bool) (refusal : PlanRefusal) (r : Result A PlanRefusal) (y : A) → unless test refusal r ≡ Ok y → r ≡ Ok y
 passed true refusal r y is = is
 passed false refusal r y is = absurd cc
 
-found : {A : Type 0} (refusal : PlanRefusal) (o : Option A) (x : A) → or_refuse refusal o ≡ Ok x → o ≡ Some x
+pub found : {A : Type 0} (refusal : PlanRefusal) (o : Option A) (x : A) → or_refuse refusal o ≡ Ok x → o ≡ Some x
 found refusal (Some x) y is = cc
 found refusal None y is = absurd cc
 
-same-ok : {A : Type 0} (x y : A) → ◌≡◌ {A = Result A PlanRefusal} (Ok x) (Ok y) → x ≡ y
+pub same-ok : {A : Type 0} (x y : A) → ◌≡◌ {A = Result A PlanRefusal} (Ok x) (Ok y) → x ≡ y
 same-ok x y e = cc
 
 -- ---- what tables hold
@@ -129,7 +129,7 @@ regions-few before (value ∷ more) regions is = by is (λ region. regions-few (
 -- ---- symbols
 
 -- a name that is new is the text
-new-same : (names : List (List ℕ)) (text name : List ℕ) → new_name names text ≡ Some name → text ≡ name
+pub new-same : (names : List (List ℕ)) (text name : List ℕ) → new_name names text ≡ Some name → text ≡ name
 new-same names text name is = by ((length text == 0) || has_name names text) is where
   by : (b : Bool) → (if b then None else Some text) ≡ Some name → text ≡ name
   by true is = absurd cc
@@ -202,22 +202,22 @@ pub record IsWithin (n : ℕ) (plan : Plan) : Type 0 where
   pub names : names_size plan.symbols ≤ n
 
 module _ (document : Members) where
-  abbrev whole : List (List ℕ) → List Region → List PlanSymbol → Result Plan PlanRefusal
+  abbrev pub whole : List (List ℕ) → List Region → List PlanSymbol → Result Plan PlanRefusal
   whole keep regions symbols = Ok (record { regions = regions; symbols = symbols; keep = keep })
 
-  abbrev of_regions : List Data → List (List ℕ) → List Region → Result Plan PlanRefusal
+  abbrev pub of_regions : List Data → List (List ℕ) → List Region → Result Plan PlanRefusal
   of_regions values keep regions = symbols_of (listed_names regions) (region_names regions) [] values >>= (λ symbols. whole keep regions symbols)
 
-  abbrev of_read : List Data → List (List ℕ) → List Region → Result Plan PlanRefusal
+  abbrev pub of_read : List Data → List (List ℕ) → List Region → Result Plan PlanRefusal
   of_read values keep read = with_loads (first_wrong_load read) read >>= (λ regions. of_regions values keep regions)
 
-  abbrev of_keep : List Data → List Data → List (List ℕ) → Result Plan PlanRefusal
+  abbrev pub of_keep : List Data → List Data → List (List ℕ) → Result Plan PlanRefusal
   of_keep values others keep = regions_of [] values >>= (λ read. of_read others keep read)
 
-  abbrev of_symbols : List Data → List Data → Result Plan PlanRefusal
+  abbrev pub of_symbols : List Data → List Data → Result Plan PlanRefusal
   of_symbols values others = or_refuse (Shape None field.Keep) (kept_names (get_member (codes "keep") document)) >>= (λ keep. of_keep values others keep)
 
-  abbrev of_items : List Data → Result Plan PlanRefusal
+  abbrev pub of_items : List Data → Result Plan PlanRefusal
   of_items values = tables_at field.Symbol (get_member (codes "symbol") document) >>= (λ others. of_symbols values others)
 
   loaded-same : (wrong : Option ℕ) (read regions : List Region) → with_loads wrong read ≡ Ok regions → read ≡ regions

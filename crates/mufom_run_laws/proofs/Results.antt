@@ -78,6 +78,7 @@ use Rattle.mufom_run_laws.proofs.Leaves.{accepted-light}
 use Rattle.mufom_run_laws.proofs.Light.{all-count, flat-some, flat-valid}
 use Rattle.mufom_run_laws.proofs.LinkResults.{linked-file-result}
 use Rattle.mufom_run_laws.proofs.Members.{files-valid}
+use Rattle.mufom_run_laws.proofs.PlanBytes.{plan-named}
 use Rattle.mufom_run_laws.proofs.PlanResults.{plan-result}
 use Rattle.mufom_run_laws.proofs.Selections.{flat-lists-exist}
 use Rattle.mufom_run_laws.proofs.TextResults.{from-txt-result}
@@ -255,7 +256,7 @@ module _ (files : List NamedFile) (inputs : Inputs) (bytes : HoldBytes files) (s
       let roots = roots_by keep plan in
       let sound_list = valid plan flat accepts links in
       absolute-held kept.modules plan r (plain plan accepts.planned) (plan-sound files inputs.plan plan accepts.planned).symbols
-      (kept-valid roots flat kept sound_list is_kept)
+      (plan-named files inputs.plan plan bytes accepts.planned) (kept-valid roots flat kept sound_list is_kept)
       (kept-bounded flat sound_list (bounded plan flat accepts links) (light plan flat accepts links) roots kept is_kept) is_located) read
 
 -- ---- the work of `make`

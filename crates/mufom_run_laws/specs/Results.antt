@@ -29,16 +29,12 @@ pub record CanBeRead (files : List NamedFile) (inputs : Inputs) : Type 0 where
   pub exist : AllByRecursion (λ name. IsSome (file_named name files)) inputs.files
   pub plan : IfSome inputs.plan (λ name. IsSome (file_named name files))
 
--- The plan loads each region where it is, and the names of its symbols consist of bytes.
-pub record IsPlainPlan (plan : Plan) : Type 0 where
-  pub regions : AreLoadedInPlace plan.regions
-  pub symbols : AllByRecursion (λ symbol. AreBytes symbol.name) plan.symbols
-
 -- The task is not `build`. If it is `link` with a name for the module, the name consists of bytes, as each argument of a real run does. If it is
--- `locate`, its plan is plain.
+-- `locate`, its plan loads each region where it is.
 abbrev pub IsPlainTask : List NamedFile → Task → Type 0
 IsPlainTask files (task.Link inputs name out) = IfSome name AreBytes
-IsPlainTask files (task.Locate inputs keep (product.Absolute out)) = (plan : Plan) → plan_in files inputs.plan (gives plan) → IsPlainPlan plan
+IsPlainTask files (task.Locate inputs keep (product.Absolute out)) = (plan : Plan) → plan_in files inputs.plan (gives plan)
+    → AreLoadedInPlace plan.regions
 IsPlainTask files (task.Build inputs out) = ⊥
 IsPlainTask files _ = Unit {0}
 
