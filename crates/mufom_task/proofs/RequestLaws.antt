@@ -1,9 +1,8 @@
 -- The task of a sound command is sound.
-use Rattle.std.proofs.Common.{◌≡◌, true, false, refl, ap, sym, subst, Some, Result, Ok, Err, IfOk}
+use Rattle.std.proofs.Common.{◌≡◌, true, false, length, refl, ap, sym, subst, Result, Ok, Err, IfOk}
 use Rattle.mufom_words.specs.declared.command.Command.{Command}
 use Rattle.mufom_words.specs.declared.command.Verb.{Verb}
 use Rattle.mufom_words.specs.declared.command.Verb.TheVariants as verb
-use Rattle.mufom_words.specs.declared.form.Operands.TheVariants as operands
 use Rattle.mufom_words.specs.declared.options.Setting.TheVariants as setting
 use Rattle.mufom_words.specs.Options.{are_files, has_option, operands_for}
 use Rattle.mufom_words.specs.Sound.{IsSound}
@@ -18,8 +17,8 @@ module _ (c : Command) (sound : IsSound c) where
   sound-files : are_files (operands_for c.verb) ≡ true → has_option setting.Plan c.verb ≡ false → IsSoundFiles (inputs_named c)
   sound-files reads plain = record { sound = sound-inputs reads; no_plan = sound.options.no_plan plain }
 
-  sound-file : operands_for c.verb ≡ Some operands.OneFile → has_option setting.Plan c.verb ≡ false → IsSoundFile (inputs_named c)
-  sound-file one plain = record { sound = sound-files (ap are_files one) plain; one = sound.files.one one }
+  sound-file : length c.files ≡ 1 → are_files (operands_for c.verb) ≡ true → has_option setting.Plan c.verb ≡ false → IsSoundFile (inputs_named c)
+  sound-file one reads plain = record { sound = sound-files reads plain; one = one }
 
   -- what the table says of the command
   files : {v : Verb} → c.verb ≡ v → are_files (operands_for c.verb) ≡ are_files (operands_for v)
@@ -32,7 +31,7 @@ module _ (c : Command) (sound : IsSound c) where
   own is = ap operands_for is
 
   sound-by : (v : Verb) → c.verb ≡ v → IsSoundRequest (request_by v c)
-  sound-by verb.Show is = sound-file (own is) (plan is)
+  sound-by verb.Show is = sound-file (sound.files.one (own is)) (files is) (plan is)
   sound-by verb.Check is = sound-files (files is) (plan is)
   sound-by verb.Link is = (sound-inputs (files is), sound.options.short)
   sound-by verb.Locate is = sound-inputs (files is)
@@ -41,8 +40,8 @@ module _ (c : Command) (sound : IsSound c) where
   sound-by verb.Addr is = sound-inputs (files is)
   sound-by verb.Bin is = sound-inputs (files is)
   sound-by verb.Txt is = sound-inputs (files is)
-  sound-by verb.FromTxt is = (sound-file (own is) (plan is), sound.options.maus.0, sound.options.maus.1)
-  sound-by verb.Build is = sound-file (own is) (plan is)
+  sound-by verb.FromTxt is = (sound-file (sound.files.one (own is)) (files is) (plan is), sound.options.maus.0, sound.options.maus.1)
+  sound-by verb.Build is = sound-file (sound.files.one (own is)) (files is) (plan is)
   sound-by verb.Make is = sound.options.count (own is)
   sound-by verb.Help is = tt
   sound-by verb.Version is = tt
