@@ -14,6 +14,7 @@ use Rattle.mufom_records.specs.declared.record.Record.{Record}
 use Rattle.mufom_records.specs.declared.record.Record.TheVariants as r
 use Rattle.mufom_records.specs.declared.record.BlockTail.{BlockTail}
 use Rattle.mufom_records.specs.declared.record.BlockTail.TheVariants as tail
+use Rattle.mufom_records.specs.Parts.{expression_of}
 use Rattle.mufom_debug.specs.Marks.{joined}
 
 -- a record and its bytes
@@ -101,23 +102,6 @@ named_by (r.DebugNote i _ _ _) = Some (debug_name, i)
 named_by (r.SetSection i) = Some (section, i)
 named_by (r.SetPc i _) = Some (section, i)
 named_by _ = None
-
--- the offset of a block, for the kinds that have one
-abbrev pub offset_of_block : BlockTail → Option Span
-offset_of_block (tail.Scope _ _ offset) = Some offset
-offset_of_block (tail.Section _ _ offset) = Some offset
-offset_of_block _ = None
-
--- the expression of a record; none has more than one
-abbrev pub expression_of : Record → Option Span
-expression_of (r.PublicValue _ value) = Some value
-expression_of (r.BlockBegin _ _ _ block) = offset_of_block block
-expression_of (r.BlockEnd value) = value
-expression_of (r.DebugValue _ value) = Some value
-expression_of (r.SetPc _ value) = Some value
-expression_of (r.FieldItem _ value _) = Some value
-expression_of (r.Start value) = Some value
-expression_of _ = None
 
 -- the tree of its expression
 abbrev pub tree_of_record : SpelledRecord → Option Tree

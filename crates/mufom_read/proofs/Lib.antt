@@ -2,7 +2,6 @@ pub mod TableLaws
 pub mod RuleLaws
 pub mod TreeLaws
 pub mod WholeLaws
-pub mod OwnParts
 pub mod NearFaults
 pub mod RecordFacts
 pub mod FaultLaws

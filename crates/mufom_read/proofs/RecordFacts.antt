@@ -4,10 +4,8 @@ use Rattle.std.proofs.Common.{le-leb, sym, ap, subst, ◌∙◌, arith}
 use Rattle.mufom_records.specs.declared.record.Mode.TheVariants as mode
 use Rattle.mufom_records.specs.Layouts
 use Rattle.mufom_judging.proofs.ended.Rows.{begin_row, descriptor_row, offset_row, body_kind, items_kind}
-use Rattle.mufom_read.proofs.OwnParts.{body_owned, item_owned, gnu_item_owned, begin_owned}
 use Rattle.mufom_records.specs.declared.record.Mode.{Mode}
 use Rattle.mufom_records.specs.declared.record.Record.{Record}
-use Rattle.mufom_records.specs.Parts.{HasParts}
 use Rattle.mufom_records.specs.declared.options.ReadOptions.{ReadOptions}
 use Rattle.mufom_module.specs.RecordParts.{items_mode}
 use Rattle.mufom_module.specs.Grammar.{offset_in}
@@ -16,15 +14,6 @@ use Rattle.mufom_read.specs.declared.prefix.Location.TheVariants as fault_offset
 use Rattle.mufom_judging.specs.Prefixes.{Step, header_mode}
 use Rattle.mufom_read.specs.PrefixOfCode.{IsHeaderRow, IsPlacedWell, as_location, mode_at}
 use Rattle.mufom_judging.specs.RecordFields.{HasKind}
-
--- the positions in a record are within its bytes
-pub got-own : (m : Mode) (row : Record) (bytes : List ℕ) (after : Option ℕ) → Layouts.IsWholeRecord m row bytes after → HasParts bytes row
-got-own mode.Begin row bytes after is = begin_owned row bytes after is
-got-own mode.Descriptor row bytes after is = let d = descriptor_row row bytes after is in subst (HasParts bytes) (sym d.3) tt
-got-own (mode.Offset k) row bytes after is = let o = offset_row k row bytes after is in subst (HasParts bytes) (sym o.1) tt
-got-own mode.Body row bytes after is = body_owned row bytes after is
-got-own mode.Items row bytes after is = item_owned row bytes after is
-got-own mode.GnuItems row bytes after is = gnu_item_owned row bytes after is
 
 -- the records of the header are MB, AD and ASW
 pub got-header : (k : ℕ) (row : Record) (bytes : List ℕ) (after : Option ℕ) → Layouts.IsWholeRecord (header_mode k) row bytes after → IsHeaderRow row

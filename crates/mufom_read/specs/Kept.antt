@@ -18,7 +18,7 @@ use Rattle.mufom_module.specs.SpelledRecords.{is_public_value, tree_of_record, i
 use Rattle.mufom_module.specs.SpelledRecords.{section_size, section_base, start_address, assigned_by, is_assigned}
 use Rattle.mufom_read.specs.declared.tables.Tables.{Tables}
 use Rattle.std.specs.Option.{option_or}
-use Rattle.mufom_records.specs.Parts.{HasParts}
+use Rattle.mufom_records.specs.Parts.{HasParts, HasTokens}
 use Rattle.mufom_read.specs.declared.seen.SeenRecord.{SeenRecord}
 use Rattle.mufom_read.specs.declared.refusal.ReadRefusal.{ReadRefusal}
 use Rattle.mufom_judging.specs.Prefixes.{OffsetRecord}
@@ -186,6 +186,10 @@ placed s = (s.start, record_of_seen s)
 -- its strings, its literal bytes and its expressions are within its bytes
 abbrev pub HasOwnParts : SeenRecord → Type 0
 HasOwnParts s = HasParts s.bytes.now s.row.now
+
+-- its tokens are those of its expression, if it has one
+abbrev pub HasOwnTokens : SeenRecord → Type 0
+HasOwnTokens s = HasTokens s.bytes.now s.row.now s.tokens.now
 
 -- an error of the code as an error of the specs
 abbrev pub as_fault : ReadRefusal → Fault

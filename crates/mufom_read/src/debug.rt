@@ -4,6 +4,7 @@ ghost use Rattle.std.specs.Prelude.{◌≡◌, ◌≢◌, ◌==◌, ◌||◌, �
 ghost use Rattle.std.specs.List.{cons_option};
 ghost use Rattle.mufom_debug.specs.declared.item.BlockHead.TheVariants as heads;
 ghost use Rattle.mufom_debug.specs.Marks.{block_begin, block_end, name_mark, note_mark, value_mark, kind_number, marks_of, marks_of_item};
+ghost use Rattle.mufom_records.specs.Parts.{offset_of_block};
 ghost use Rattle.mufom_module.specs.SpelledRecords as records;
 ghost use Rattle.mufom_module.specs.RecordParts as parts;
 ghost use Rattle.mufom_module.specs.Gathered as gathered;
@@ -116,9 +117,9 @@ fn head_of(
     offset: Option<Postfix>,
 ) -> Result<BlockHead, NoMemory>
     requires { (p : records.SpelledRecord)
-        × (offset ≡ option_map (records.positioned (indexes_by tables.now)) (option_map (records.tree_in p) (records.offset_of_block block.now))) }
+        × (offset ≡ option_map (records.positioned (indexes_by tables.now)) (option_map (records.tree_in p) (offset_of_block block.now))) }
     ensures { IfOk result (λ head. (p : records.SpelledRecord)
-        → offset ≡ option_map (records.positioned (indexes_by tables.now)) (option_map (records.tree_in p) (records.offset_of_block block.now))
+        → offset ≡ option_map (records.positioned (indexes_by tables.now)) (option_map (records.tree_in p) (offset_of_block block.now))
         → head ≡ gathered.head_by (indexes_by tables.now) p kind block.now) }
 {
     match block {

@@ -8,7 +8,7 @@ ghost use Rattle.mufom_module.specs.RecordParts as parts;
 ghost use Rattle.mufom_judging.specs.Prefixes as prefixes;
 ghost use Rattle.mufom_judging.specs.Faults as faults;
 ghost use Rattle.mufom_read.specs.PartsOfCode.{as_part, as_extent};
-ghost use Rattle.mufom_read.specs.Kept.{record_of_seen, placed, HasOwnParts, HasRoom, is_new, as_fault};
+ghost use Rattle.mufom_read.specs.Kept.{record_of_seen, placed, HasOwnParts, HasOwnTokens, HasRoom, is_new, as_fault};
 ghost use Rattle.mufom_read.specs.DebugSoFar.{opened};
 ghost use Rattle.mufom_judging.specs.RecordFields.{HasKind};
 ghost use Rattle.mufom_read.specs.ContentsSoFar.{AreContentsOf, AreContentsBefore, AreMarked};
@@ -30,7 +30,7 @@ use crate::tables::Tables;
 use crate::whole::whole_fault;
 use mufom_expr::Postfix;
 use mufom_numbers::{List, NoMemory, Reason, codes};
-use mufom_records::{Mode, ReadOptions, Record, Stop, read_record_before};
+use mufom_records::{ExpressionTokens, Mode, ReadOptions, Record, Stop, read_record_before};
 use std::alloc::Global;
 
 // The position, from 0, of the last record of the header.
@@ -454,6 +454,7 @@ impl Prefix {
         requires known { (prefix : List prefixes.Step) × IsPrefixOf self.old prefix
             × (as_location place ≡ prefixes.location_after prefix) }
         requires own { HasOwnParts next.now }
+        requires tokens { HasOwnTokens next.now }
         requires some { 0 < length next.now.bytes.now }
         requires start { next.now.start ≡ self.old.size }
         requires fits { self.old.size + length next.now.bytes.now ≤ file_limit }
@@ -472,7 +473,7 @@ impl Prefix {
         }
     }
 
-    // Reads the record at the start of `rest`, checks it and adds it.
+    // Reads the record at the start of `rest`, checks it and adds it. The tokens of its expression are read to `tokens`.
     #[inline(always)]
     fn read(
         &mut self,
@@ -480,6 +481,7 @@ impl Prefix {
         options: ReadOptions,
         place: Location,
         rest: &[u8],
+        tokens: &mut ExpressionTokens,
     ) -> Result<Next, NoMemory>
         requires known { (prefix : List prefixes.Step) × IsPrefixOf self.old prefix
             × (as_location place ≡ prefixes.location_after prefix) }
@@ -494,12 +496,13 @@ impl Prefix {
         // Any record: `read_record_before` stores the one that it reads here.
         let mut row = Record::ModuleEnd;
         let mode = self.mode(options, place, rest);
-        match read_record_before(rest, self.end(options, place), mode, &mut row) {
+        match read_record_before(rest, self.end(options, place), mode, &mut row, tokens) {
             Ok(used) => {
                 let next = SeenRecord {
                     start: self.size,
                     row: &row,
                     bytes: prefix_of(rest, used),
+                    tokens: tokens.as_slice(),
                 };
                 self.take(alloc, place, &next)
             }
@@ -565,7 +568,13 @@ impl Prefix {
 
     // Takes the next record, or bytes that are not read as records.
     #[inline(always)]
-    fn step(&mut self, alloc: Global, options: ReadOptions, rest: &[u8]) -> Result<Next, NoMemory>
+    fn step(
+        &mut self,
+        alloc: Global,
+        options: ReadOptions,
+        rest: &[u8],
+        tokens: &mut ExpressionTokens,
+    ) -> Result<Next, NoMemory>
         requires known { (prefix : List prefixes.Step) × IsPrefixOf self.old prefix }
         requires fits { self.old.size + length rest.now ≤ file_limit }
         ensures { IfOk result (λ next. (prefix : List prefixes.Step) → IsPrefixOf self.old prefix
@@ -575,16 +584,18 @@ impl Prefix {
         let place = self.location;
         match raw_part(options, place) {
             Some(extent) => self.skip(extent, rest),
-            None => self.read(alloc, options, place, rest),
+            None => self.read(alloc, options, place, rest, tokens),
         }
     }
 
     /// Takes the next record, or bytes that are not read as records. If a part ends after them, checks the part as a whole.
+    /// `tokens` is room for the tokens of the record's expression; what it holds before does not matter.
     pub(crate) fn advance(
         &mut self,
         alloc: Global,
         options: ReadOptions,
         rest: &[u8],
+        tokens: &mut ExpressionTokens,
     ) -> Result<Next, NoMemory>
         requires known { (prefix : List prefixes.Step) × IsPrefixOf self.old prefix × (prefixes.is_ended prefix ≡ false)
             × (faults.ended_part_fault prefix ≡ None) }
@@ -593,7 +604,7 @@ impl Prefix {
             → prefixes.is_ended prefix ≡ false → faults.ended_part_fault prefix ≡ None
             → HasAdvanced options prefix rest.now self.new next) }
     {
-        match self.step(alloc, options, rest)? {
+        match self.step(alloc, options, rest, tokens)? {
             Next::Took(count) => Ok(self.judge_part(count)),
             Next::More => Ok(Next::More),
             Next::Refused(refusal) => Ok(Next::Refused(refusal)),

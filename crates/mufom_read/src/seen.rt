@@ -1,26 +1,29 @@
 //! The record that is being checked, with its bytes.
 
 ghost use Rattle.std.specs.Prelude.{◌≡◌, ◌+◌, ◌≤◌, length, slice_range, IfOk};
-ghost use Rattle.mufom_records.specs.Parts.{LiesIn, IsExpressionIn, HasParts};
+ghost use Rattle.mufom_records.specs.Parts as parts;
+ghost use Rattle.mufom_records.specs.Parts.{LiesIn};
 ghost use Rattle.mufom_module.specs.SpelledRecords as records;
-ghost use Rattle.mufom_read.specs.Kept.{record_of_seen};
+ghost use Rattle.mufom_read.specs.Kept.{record_of_seen, HasOwnTokens};
 
-use mufom_expr::Postfix;
+use mufom_expr::{Postfix, Token};
 use mufom_numbers::{Bytes, NoMemory, Span};
 use mufom_records::{BlockTail, Record, postfix_of};
 use std::alloc::Global;
 
-/// The record that is being checked: the offset of its first byte, the record, and its bytes.
+/// The record that is being checked: the offset of its first byte, the record, its bytes, and the tokens of
+/// its expression, if it has one.
 #[derive(Debug, Drop)]
 pub(crate) struct SeenRecord<'a> {
     pub start: u64,
     pub row: &'a Record,
     pub bytes: &'a [u8],
+    pub tokens: &'a [Token],
 }
 
 // The offset expression of a block, if its kind has one.
 fn offset_of(block: &BlockTail) -> Option<Span>
-    ensures { result ≡ records.offset_of_block block.now }
+    ensures { result ≡ parts.offset_of_block block.now }
 {
     match block {
         BlockTail::Module => None,
@@ -32,7 +35,7 @@ fn offset_of(block: &BlockTail) -> Option<Span>
 
 // The position of a record's expression in its bytes.
 fn expression_of(record: &Record) -> Option<Span>
-    ensures { result ≡ records.expression_of «record».now }
+    ensures { result ≡ parts.expression_of «record».now }
 {
     match record {
         Record::PublicValue(_, value) => Some(*value),
@@ -63,23 +66,16 @@ impl SeenRecord<'_> {
         Bytes::from_slice(alloc, part_of(self.bytes, span))
     }
 
-    // The expression at a span of the record. Its variables have the indexes of the file.
-    fn tree(&self, alloc: Global, span: Span) -> Result<Postfix, NoMemory>
-        requires { IsExpressionIn self.now.bytes.now span }
-        ensures { IfOk result (λ tree. tree ≡ records.tree_in (record_of_seen self.now) span) }
-    {
-        postfix_of(alloc, part_of(self.bytes, span))
-    }
-
-    /// The record's expression, if it has one. No record has more than one.
+    /// The record's expression, if it has one. No record has more than one. Its variables have the indexes of
+    /// the file.
     pub(crate) fn expression(&self, alloc: Global) -> Result<Option<Postfix>, NoMemory>
-        requires { HasParts self.now.bytes.now self.now.row.now }
+        requires { HasOwnTokens self.now }
         ensures { IfOk result (λ tree. tree ≡ records.tree_of_record (record_of_seen self.now)) }
     {
         match expression_of(self.row) {
             None => Ok(None),
-            Some(span) => {
-                let tree = self.tree(alloc, span)?;
+            Some(_) => {
+                let tree = postfix_of(alloc, self.tokens)?;
                 Ok(Some(tree))
             }
         }

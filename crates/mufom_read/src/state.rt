@@ -22,7 +22,7 @@ use crate::prefix::{Next, Prefix};
 use crate::refusal::{ReadRefusal, ReadStop};
 use mufom_numbers::limits::MOST_FILE_BYTES;
 use mufom_numbers::{NoMemory, Reason};
-use mufom_records::ReadOptions;
+use mufom_records::{ExpressionTokens, ReadOptions};
 use std::alloc::Global;
 
 /// The state of a reader.
@@ -86,8 +86,9 @@ fn take_all(
         → HasTakenAll options before rest.now prefix.new result }
 {
     let mut taken = 0;
+    let mut tokens = ExpressionTokens::new();
     while !prefix.is_ended() {
-        match prefix.advance(alloc, options, after(rest, taken)) {
+        match prefix.advance(alloc, options, after(rest, taken), &mut tokens) {
             Ok(Next::Took(count)) => taken += count,
             Ok(Next::More) => return Ok(taken),
             Ok(Next::Refused(refusal)) => return Err(ReadStop::Refused(refusal)),
@@ -191,12 +192,16 @@ impl State {
     {
         let pending = self.rest.len();
         let mut used = 0;
+        let mut tokens = ExpressionTokens::new();
         while used < chunk.len() {
             let Ok(added) = self.double_pending(after(chunk, used)) else {
                 return Err(ReadStop::NoMemory);
             };
             used += added;
-            match self.prefix.advance(self.alloc, self.options, &self.rest) {
+            match self
+                .prefix
+                .advance(self.alloc, self.options, &self.rest, &mut tokens)
+            {
                 Ok(Next::Took(count)) => {
                     self.rest.clear();
                     return Ok(count - pending);

@@ -2,7 +2,7 @@
 
 use mufom_expr::{Function, Letter, Token};
 use mufom_numbers::{Reason, Taken};
-use mufom_records::{Mode, next_record, postfix_of};
+use mufom_records::{ExpressionTokens, Mode, Record, next_record, postfix_of, read_record};
 use std::alloc::Global;
 use std::process::Abort;
 
@@ -523,12 +523,27 @@ fn an_expression_has_at_most_255_tokens(rt: HostRuntime) {
 }
 
 #[test]
-fn a_spelled_expression_is_built(rt: HostRuntime) {
-    let difference = postfix_of(rt.alloc(), b"\xD8\x0B\xD0\x01\xA6").expect(&rt, "memory");
+fn the_tokens_of_an_expression_are_left(rt: HostRuntime) {
+    let mut row = Record::ModuleEnd;
+    let mut tokens = ExpressionTokens::new();
+    let input = b"\xE2\xD0\x00\xD8\x0B\xD0\x01\xA6\xE1";
+    let read = read_record(input, Mode::Body, &mut row, &mut tokens);
+    assert_eq!(rt; read, Ok(8));
+    let want = [
+        Token::Var(Letter::X, 11),
+        Token::Var(Letter::P, 1),
+        Token::Fun(Function::Minus),
+    ];
+    assert_eq!(rt; tokens.as_slice(), want.as_slice());
+}
+
+#[test]
+fn an_expression_is_built_from_its_tokens(rt: HostRuntime) {
     let tokens = [
         Token::Var(Letter::X, 11),
         Token::Var(Letter::P, 1),
         Token::Fun(Function::Minus),
     ];
+    let difference = postfix_of(rt.alloc(), &tokens).expect(&rt, "memory");
     assert_eq!(rt; difference.tokens(), tokens.as_slice());
 }

@@ -80,7 +80,7 @@ first-drop zero (suc end) (b ∷ input) more below within = refl
 first-drop (suc used) zero (b ∷ input) more below within = absurd (omega (arith, below))
 first-drop (suc used) (suc end) (b ∷ input) more below within = first-drop used end input more (omega (arith, below)) (omega (arith, within))
 
-take-closed : (used end : ℕ) (input more : List ℕ) → used ≤ end → used ≤ length input → take used (take end input ++ more) ≡ take used input
+pub take-closed : (used end : ℕ) (input more : List ℕ) → used ≤ end → used ≤ length input → take used (take end input ++ more) ≡ take used input
 take-closed zero end input more below within = refl
 take-closed (suc used) end [] more below within = absurd (omega (arith, within))
 take-closed (suc used) zero (b ∷ input) more below within = absurd (omega (arith, below))

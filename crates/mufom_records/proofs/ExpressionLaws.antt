@@ -272,7 +272,7 @@ some_token : (tokens : List Token) → leaves tokens ≡ Some 1 → 0 < length t
 some_token [] one = let no_one : ◌≡◌ {A = Option ℕ} (Some 0) (Some 1) = one in absurd cc
 some_token (t ∷ tokens) one = omega arith
 
-stops_end : (bytes : List ℕ) → Stops begins_token (first_of bytes None) → EndsTokens bytes
+pub stops_end : (bytes : List ℕ) → Stops begins_token (first_of bytes None) → EndsTokens bytes
 stops_end [] stops = stops
 stops_end (b ∷ bytes) stops = stops
 

@@ -10,8 +10,11 @@ pub mod ExpressionLaws
 pub mod SizedLaws
 pub mod RecordLaws
 pub mod SameBytes
+pub mod KeptTokens
+pub mod OwnParts
 pub mod PostfixLaws
 mod Worked
 pub mod ShortLaws
 pub mod EndLaws
 pub mod BeforeLaws
+pub mod OwnTokens

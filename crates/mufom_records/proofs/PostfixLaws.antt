@@ -1,129 +1,70 @@
--- Tokens are taken from the bytes of an expression, one after the other.
-use Rattle.std.proofs.Common.{◌≡◌, ℕ, zero, suc, ◌<◌, ◌≤◌, ◌==◌, Bool, true, false, List, [], ◌∷◌, ◌++◌, length, drop, Some}
-use Rattle.std.proofs.Common.{refl, sym, ap, subst, ◌∙◌, arith, append_assoc}
-use Rattle.std.proofs.Common.{Result, Ok, Err, IfOk}
-use Rattle.std.proofs.lemmas.List.{append-nil, length-append, drop_at}
-use Rattle.mufom_numbers.specs.declared.taken.Taken.{Taken}
-use Rattle.mufom_numbers.specs.declared.taken.Taken.TheVariants as taken
+-- The tokens of a tree that bytes spell make one expression.
+use Rattle.std.proofs.Common.{◌≡◌, ℕ, zero, suc, ◌+◌, ◌*◌, ◌^◌, ◌<◌, ◌≤◌, List, [], ◌∷◌, length, refl, sym, ap, subst, inl, inr, arith}
+use Rattle.std.specs.Prelude.{slice_index_or}
+use Rattle.std.specs.List.{AllByRecursion}
+use Rattle.mufom_numbers.specs.Spelling.{AreBytes, SpellsNumber, value_after, big_endian}
 use Rattle.mufom_expr.specs.declared.token.Token.{Token}
-use Rattle.mufom_expr.specs.Tree.{Tree, tokens_of}
-use Rattle.mufom_expr.specs.Terms.{leaves, the_term, FindsTooFew}
-use Rattle.mufom_expr.specs.Spelled.{SpellsTokens, SpellsTree}
-use Rattle.mufom_expr.specs.TokenAt.{token_at}
+use Rattle.mufom_expr.specs.declared.token.Token.TheVariants.{Number, Var, Fun}
+use Rattle.mufom_expr.specs.Tree.{Tree, tokens_of, IsInRange}
+use Rattle.mufom_expr.specs.Terms.{the_term, LeaveOneTerm}
+use Rattle.mufom_expr.specs.TreeCode.{the_term-tokens_of}
+use Rattle.mufom_expr.specs.Spelled.{SpellsToken, SpellsTokens, SpellsTree}
 use Rattle.mufom_expr.proofs.Leaves.{leaves-one}
-use Rattle.mufom_expr.proofs.TermsLemmas.{tokens_of-the_term}
-use Rattle.mufom_expr.proofs.TokensBack.{leaves-tokens_of, finds_enough}
-use Rattle.mufom_expr.proofs.TokenLaws.{token_at-spelling}
-use Rattle.mufom_records.specs.Faults.{BeginsWithToken}
-use Rattle.mufom_records.proofs.TokenSteps.{token_first}
+use Rattle.mufom_expr.proofs.TokensBack.{leaves-tokens_of}
 
--- the input spells a tree: these tokens of it were taken, and the rest of the input spells the others
-pub record IsLeft (input rest : List ℕ) (built : List Token) : Type 0 where
-  pub tree : Tree
-  pub tokens : List Token
-  pub whole : SpellsTree tree input
-  pub spells : SpellsTokens tokens rest
-  pub split : tokens_of tree ≡ built ++ tokens
+-- ---- spelled numbers are below 2^64
 
-pub left_first : (input rest : List ℕ) (built : List Token) → IsLeft input rest built → 0 < length rest → BeginsWithToken (λ token. Unit {0}) rest
-left_first input rest built is some = by_tokens is.tokens is.spells where
-  by_tokens : (tokens : List Token) → SpellsTokens tokens rest → BeginsWithToken (λ token. Unit {0}) rest
-  by_tokens [] none = absurd (omega (arith, some, ap length none))
-  by_tokens (token ∷ tokens) (text, back, spelled, spells, parts) = (token, text, back, spelled, tt, parts)
+-- the number with k further digits in base 256, all of which are 0
+abbrev widened : ℕ → ℕ → ℕ
+widened zero m = m
+widened (suc k) m = widened k (256 * m)
 
-pub record Next (input rest : List ℕ) (built : List Token) (token : Token) (used : ℕ) : Type 0 where
-  pub room : length built < 255
-  pub found : FindsTooFew built token → ⊥
-  pub some : 0 < used
-  pub left : IsLeft input (drop used rest) (built ++ token ∷ [])
+grown : (k n m : ℕ) → n < m → n < widened k m
+grown zero n m below = below
+grown (suc k) n m below = grown k n (256 * m) (omega (arith, below))
 
-abbrev got_token : Token → ℕ → Taken Token
-got_token token used = taken.Got token used
+value-below : (k n m : ℕ) (bytes : List ℕ) → AreBytes bytes → length bytes ≤ k → n < m → value_after n bytes < widened k m
+value-below k n m [] fits few below = grown k n m below
+value-below zero n m (b ∷ bytes) fits few below = absurd (omega (arith, few))
+value-below (suc k) n m (b ∷ bytes) fits few below =
+    value-below k (256 * n + b) (256 * m) bytes fits.1 (omega (arith, few)) (omega (arith, below, fits.0))
 
-pub left_next : (input rest : List ℕ) (built : List Token) (token : Token) (used : ℕ) → IsLeft input rest built → 0 < length rest → token_at rest
-    ≡ taken.Got token used → Next input rest built token used
-left_next input rest built token used is some got = by_tokens is.tokens is.spells is.split where
-  by_tokens : (tokens : List Token) → SpellsTokens tokens rest → tokens_of is.tree ≡ built ++ tokens → Next input rest built token used
-  by_tokens [] none split = absurd (omega (arith, some, ap length none))
-  by_tokens (first ∷ tokens) (text, back, spelled, spells, parts) split =
-      let e : got_token first (length text) ≡ got_token token used = sym (ap token_at parts ∙ token_at-spelling first text back spelled) ∙ got in
-      let same : first ≡ token = cc in
-      let count : length text ≡ used = cc in
-      let begins = token_first first text [] spelled in
-      let longer : 0 < length text = omega (arith, ap length begins.2, length-append text []) in
-      let after : drop used rest ≡ back = ap (drop used) parts ∙ drop_at text back used count in
-      let split_there : tokens_of is.tree ≡ built ++ token ∷ tokens = split ∙ ap (λ (t : Token). built ++ t ∷ tokens) same in
-      record {
-        room = omega (arith, is.whole.0, ap length split, length-append built (first ∷ tokens));
-        found = finds_enough is.tree built tokens token split_there;
-        some = omega (arith, longer, count);
-        left = record {
-          tree = is.tree;
-          tokens = tokens;
-          whole = is.whole;
-          spells = subst (λ (l : List ℕ). SpellsTokens tokens l) (sym after) spells;
-          split = split_there ∙ sym (append_assoc built (token ∷ []) tokens);
-        };
-      }
+number-below : (n : ℕ) (bytes : List ℕ) → SpellsNumber n bytes → n < 2 ^ 64
+number-below n [] spells = absurd spells
+number-below n (lead ∷ bytes) (inl (low, none, same)) = omega (arith, low, same)
+number-below n (lead ∷ bytes) (inr (is, few, fits, same)) =
+    let below : big_endian bytes < 2 ^ 64 = value-below 8 0 1 bytes fits few (omega arith) in
+    subst (λ (k : ℕ). k < 2 ^ 64) (sym same) below
 
-pub record Whole (input : List ℕ) (built : List Token) : Type 0 where
-  pub one : leaves built ≡ Some 1
-  pub spells : SpellsTree (the_term built) input
-  pub count : length built ≡ length (tokens_of (the_term built))
+-- ---- the tokens of a tree
 
-pub left_none : (input rest : List ℕ) (built : List Token) → IsLeft input rest built → length rest ≡ 0 → Whole input built
-left_none input rest built is none = by_tokens is.tokens is.spells is.split where
-  by_tokens : (tokens : List Token) → SpellsTokens tokens rest → tokens_of is.tree ≡ built ++ tokens → Whole input built
-  by_tokens (first ∷ tokens) (text, back, spelled, spells, parts) split =
-      let begins = token_first first text [] spelled in
-      absurd (omega (arith, none, ap length parts, length-append text back, ap length begins.2, length-append text []))
-  by_tokens [] spells split =
-      let same : tokens_of is.tree ≡ built = split ∙ append-nil built in
-      let one : leaves built ≡ Some 1 = ap leaves (sym same) ∙ leaves-tokens_of is.tree in
-      let tokens_are : tokens_of is.tree ≡ tokens_of (the_term built) = same ∙ tokens_of-the_term built (leaves-one built one) in
-      record {
-        one = one;
-        count = ap length (sym same ∙ tokens_are);
-        spells = (subst (λ (l : List Token). length l ≤ 255) tokens_are is.whole.0, subst (λ (l : List Token). SpellsTokens l input) tokens_are is.whole.1);
-      }
+token-in_range : (token : Token) (text : List ℕ) → SpellsToken token text → IsInRange token
+token-in_range (Number n) text spells = number-below n text spells
+token-in_range (Var letter index) text spells = spells.0
+token-in_range (Fun f) text spells = tt
 
-pub left_start : (input : List ℕ) (built : List Token) → (tree : Tree) × SpellsTree tree input → built ≡ [] → IsLeft input input built
-left_start input built spells none = record {
-  tree = spells.0;
-  tokens = tokens_of spells.0;
-  whole = spells.1;
-  spells = spells.1.1;
-  split =
-      ap (λ (l : List Token). l ++ tokens_of spells.0) (sym none);
-}
+tokens-in_range : (tokens : List Token) (text : List ℕ) → SpellsTokens tokens text → AllByRecursion IsInRange tokens
+tokens-in_range [] text spells = tt
+tokens-in_range (token ∷ tokens) text (first, back, spelled, spells, parts) = (token-in_range token first spelled, tokens-in_range tokens back spells)
 
--- the bytes of a tree are not empty
-pub some_bytes : (input : List ℕ) → (tree : Tree) × SpellsTree tree input → 0 < length input
-some_bytes (b ∷ bytes) spells = omega arith
-some_bytes [] spells = let whole = left_none [] [] [] (left_start [] [] spells refl) refl in absurd (no_terms whole.one) where
-  no_terms : leaves [] ≡ Some 1 → ⊥
-  no_terms e = cc
+-- what is required of an expression's tokens
+pub record OneExpression (tokens : List Token) : Type 0 where
+  pub one : LeaveOneTerm tokens
+  pub few : length tokens ≤ 255
+  pub range : AllByRecursion IsInRange tokens
+  pub back : tokens ≡ tokens_of (the_term tokens)
 
--- one more token is taken
-pub left_more : (input rest later : List ℕ) (built : List Token) (token : Token) → IsLeft input rest built → 0 < length rest
-    → (used : ℕ) × (token_at rest ≡ taken.Got token used) × (later ≡ drop used rest) → IsLeft input later (built ++ token ∷ [])
-left_more input rest later built token is some (used, got, same) =
-    subst (λ (l : List ℕ). IsLeft input l (built ++ token ∷ [])) (sym same) (left_next input rest built token used is some got).left
+pub one-expression : (tokens : List Token) → (tree : Tree) × (bytes : List ℕ) × SpellsTree tree bytes × (tokens ≡ tokens_of tree) → OneExpression tokens
+one-expression tokens (tree, bytes, spells, same) =
+    subst (λ (l : List Token). OneExpression l) (sym same) (record {
+      one = leaves-one (tokens_of tree) (leaves-tokens_of tree);
+      few = spells.0;
+      range = tokens-in_range (tokens_of tree) bytes spells.1;
+      back = sym (ap tokens_of (the_term-tokens_of tree));
+    })
 
--- the first token is taken
-pub left_one : (input later : List ℕ) (token : Token) → (tree : Tree) × SpellsTree tree input
-    → (used : ℕ) × (token_at input ≡ taken.Got token used) × (later ≡ drop used input) → IsLeft input later (token ∷ [])
-left_one input later token spells taken = left_more input input later [] token (left_start input [] spells refl) (some_bytes input spells) taken
-
--- a copy of a tree has the same bytes
-pub copy_spells : {E : Type 0} (copy : Result Tree E) (tree : Tree) (input : List ℕ) → SpellsTree tree input → IfOk copy (λ t. t ≡ tree)
-    → IfOk copy (λ t. SpellsTree t input)
-copy_spells (Ok t) tree input spells same = subst (λ (u : Tree). SpellsTree u input) (sym same) spells
-copy_spells (Err e) tree input spells same = tt
-
--- a list that is not empty has at least one byte
-pub some_left : (n : ℕ) (empty : Bool) → empty ≡ (n == 0) → empty ≡ false → 0 < n
-some_left zero empty is other = absurd (none (sym is ∙ other)) where
-  none : true ≡ false → ⊥
-  none e = cc
-some_left (suc n) empty is other = omega arith
+-- a list of one token
+pub one-token : (tokens : List Token) (other : Token) → 1 ≤ length tokens → length tokens < 2 → tokens ≡ slice_index_or tokens 0 other ∷ []
+one-token [] other some few = absurd (omega (arith, some))
+one-token (token ∷ []) other some few = refl
+one-token (token ∷ second ∷ tokens) other some few = absurd (omega (arith, few))

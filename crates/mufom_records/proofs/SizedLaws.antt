@@ -245,7 +245,7 @@ closes-first : (bytes : List ℕ) → closes bytes ≡ true → Closes (first_of
 closes-first [] h = cc
 closes-first (b ∷ bytes) h = h
 
-first-closes : (bytes : List ℕ) → Closes (first_of bytes None) → closes bytes ≡ true
+pub first-closes : (bytes : List ℕ) → Closes (first_of bytes None) → closes bytes ≡ true
 first-closes [] h = absurd h
 first-closes (b ∷ bytes) h = h
 
@@ -364,7 +364,7 @@ sized-got input at fits x after (Err (Bad end reason)) is gives = by_reason (is_
 leaves_two : (tree : Tree) (n : ℕ) → leaves (tokens_of tree ++ Number n ∷ []) ≡ Some 2
 leaves_two tree n = leaves-push (tokens_of tree) (Number n) 1 (leaves-tokens_of tree) (omega arith)
 
-spells-push : (tokens : List Token) (token : Token) (text last : List ℕ) → SpellsTokens tokens text → SpellsToken token last
+pub spells-push : (tokens : List Token) (token : Token) (text last : List ℕ) → SpellsTokens tokens text → SpellsToken token last
     → SpellsTokens (tokens ++ token ∷ []) (text ++ last)
 spells-push [] token text last none spelled = (last, [], spelled, refl, ap (λ (l : List ℕ). l ++ last) none ∙ sym (append-nil last))
 spells-push (t ∷ tokens) token text last (first, back, one, spells, parts) spelled = (
@@ -375,7 +375,7 @@ spells-push (t ∷ tokens) token text last (first, back, one, spells, parts) spe
   ap (λ (l : List ℕ). l ++ last) parts ∙ append_assoc first back last,
 )
 
-closing_ends : (bytes : List ℕ) → closes bytes ≡ true → EndsTokens bytes
+pub closing_ends : (bytes : List ℕ) → closes bytes ≡ true → EndsTokens bytes
 closing_ends [] h = cc
 closing_ends (b ∷ bytes) h = grind (arith, h)
 

@@ -39,7 +39,7 @@ number_begins b h = rw h refl
 function_begins : (b : ℕ) → 0xA0 ≤ b → b ≤ 0xB9 → begins_token b ≡ true
 function_begins b low high = grind (arith, low, high)
 
-letter_begins : (l : Letter) → begins_token (letter_byte l) ≡ true
+pub letter_begins : (l : Letter) → begins_token (letter_byte l) ≡ true
 letter_begins letters.I = refl
 letter_begins letters.L = refl
 letter_begins letters.P = refl

@@ -2,9 +2,11 @@
 
 ghost use Rattle.std.specs.Prelude.{◌≡◌, ◌<◌, ◌≤◌, ◌+◌, length, take, replicate, IfOk};
 ghost use Rattle.mufom_numbers.specs.declared.codes.TheConstants.{MODULE_END};
-ghost use Rattle.mufom_records.specs.Layouts.{IsWholeRecord};
-ghost use Rattle.mufom_records.specs.Reading.{in_place, as_taken, closed_at, record_within, next_seen, record_before};
+ghost use Rattle.mufom_records.specs.Layouts.{IsWholeRecord, layout_of};
+ghost use Rattle.mufom_records.specs.Parts.{HasTokens};
+ghost use Rattle.mufom_records.specs.Reading.{in_place, as_taken, closed_at, read as read_layout, record_within, next_seen, record_before};
 
+use crate::expression_tokens::ExpressionTokens;
 use crate::next::read_record;
 use crate::record::{Mode, Record};
 use crate::rows::Read;
@@ -33,49 +35,79 @@ fn put_before(input: &[u8], end: usize, bytes: &mut [u8])
     bytes[..end].copy_from_slice(first(input, end));
 }
 
+// Reads a record, whose expression is within its own bytes.
+fn own_record(input: &[u8], mode: Mode, row: &mut Record, tokens: &mut ExpressionTokens) -> Read
+    ensures exact { in_place row.new result ≡ read_layout (layout_of mode) input.now 0 }
+    ensures tokens { IfOk result (λ used. HasTokens (take used input.now) row.new tokens.new) }
+    ensures within { IfOk result (λ used. used ≤ length input.now) }
+{
+    read_record(input, mode, row, tokens)
+}
+
 // Reads the record as if the code of the module's end were at `end`.
 #[inline(never)]
-fn closed(input: &[u8], end: usize, mode: Mode, row: &mut Record) -> Read
+fn closed(
+    input: &[u8],
+    end: usize,
+    mode: Mode,
+    row: &mut Record,
+    tokens: &mut ExpressionTokens,
+) -> Read
     requires within { end < length input.now }
     requires short { end < 131077 }
     ensures exact { as_taken (in_place row.new result) ≡ record_before end mode input.now }
+    ensures tokens { IfOk result (λ used. HasTokens (take used input.now) row.new tokens.new) }
 {
     let mut bytes = [codes::MODULE_END; FEWEST_BYTES];
     put_before(input, end, &mut bytes);
-    match read_record(first(&bytes, end + 1), mode, row) {
+    match own_record(first(&bytes, end + 1), mode, row, tokens) {
         Ok(used) => {
             if used <= end {
                 Ok(used)
             } else {
-                read_record(input, mode, row)
+                own_record(input, mode, row, tokens)
             }
         }
-        Err(Stop::More) => read_record(input, mode, row),
+        Err(Stop::More) => own_record(input, mode, row, tokens),
         Err(Stop::Bad { offset, reason }) => Err(Stop::Bad { offset, reason }),
     }
 }
 
-fn before(input: &[u8], end: usize, mode: Mode, row: &mut Record) -> Read
+fn before(
+    input: &[u8],
+    end: usize,
+    mode: Mode,
+    row: &mut Record,
+    tokens: &mut ExpressionTokens,
+) -> Read
     requires within { end < length input.now }
     ensures exact { as_taken (in_place row.new result) ≡ record_before end mode input.now }
+    ensures tokens { IfOk result (λ used. HasTokens (take used input.now) row.new tokens.new) }
 {
-    match read_record(first(input, end), mode, row) {
+    match own_record(first(input, end), mode, row, tokens) {
         Ok(used) => Ok(used),
-        Err(Stop::More) => closed(input, end, mode, row),
+        Err(Stop::More) => closed(input, end, mode, row, tokens),
         Err(Stop::Bad { offset, reason }) => Err(Stop::Bad { offset, reason }),
     }
 }
 
-fn within(input: &[u8], end: Option<usize>, mode: Mode, row: &mut Record) -> Read
+fn within(
+    input: &[u8],
+    end: Option<usize>,
+    mode: Mode,
+    row: &mut Record,
+    tokens: &mut ExpressionTokens,
+) -> Read
     ensures exact { as_taken (in_place row.new result) ≡ record_within end mode input.now }
+    ensures tokens { IfOk result (λ used. HasTokens (take used input.now) row.new tokens.new) }
 {
     match end {
-        None => read_record(input, mode, row),
+        None => own_record(input, mode, row, tokens),
         Some(end) => {
             if end < input.len() {
-                before(input, end, mode, row)
+                before(input, end, mode, row, tokens)
             } else {
-                read_record(input, mode, row)
+                own_record(input, mode, row, tokens)
             }
         }
     }
@@ -91,11 +123,14 @@ pub fn read_record_before(
     end: Option<usize>,
     mode: Mode,
     row: &mut Record,
+    tokens: &mut ExpressionTokens,
 ) -> Result<usize, Stop>
     // The bytes read are a prefix of the input, and form a complete record, given the byte that follows or the code in its place.
     ensures whole { IfOk result (λ used. (used ≤ length input.now)
         × IsWholeRecord mode row.new (take used input.now) (next_seen end used input.now)) }
+    // The tokens are those of the record's expression, which is within the bytes read.
+    ensures tokens { IfOk result (λ used. HasTokens (take used input.now) row.new tokens.new) }
     ensures exact { as_taken (in_place row.new result) ≡ record_within end mode input.now }
 {
-    within(input, end, mode, row)
+    within(input, end, mode, row, tokens)
 }

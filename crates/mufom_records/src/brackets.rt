@@ -1,13 +1,15 @@
 //! Reads what may be in brackets: a field of an LR, and a start address.
 
-ghost use Rattle.std.specs.Prelude.{◌≡◌, ◌≤◌, length, IfOk, Some};
+ghost use Rattle.std.specs.Prelude.{◌≡◌, ◌≤◌, List, length, IfOk, Some};
+ghost use Rattle.mufom_expr.specs.declared.token.Token.{Token};
 ghost use Rattle.mufom_records.specs.declared.record.Record.{Record};
 ghost use Rattle.mufom_records.specs.declared.record.Record.TheVariants as r;
 ghost use Rattle.mufom_records.specs.Layouts as layouts;
-ghost use Rattle.mufom_records.specs.Parts.{HasParts, IsExpressionIn};
+ghost use Rattle.mufom_records.specs.Parts.{AreTokensIn, HasParts, HasTokens, IsExpressionIn};
 ghost use Rattle.mufom_records.specs.Reading.{in_place, read};
 
 use crate::expression::{expression, sized_expression};
+use crate::expression_tokens::ExpressionTokens;
 use crate::fields::{bad, byte, count, field_size, letter, run};
 use crate::record::Record;
 use crate::rows::Read;
@@ -44,6 +46,7 @@ fn sized_field(opening: u8, value: Span, input: &[u8], at: usize, row: &mut Reco
     requires part { IsExpressionIn input.now value }
     ensures exact { in_place row.new result ≡ read (layouts.item_by_comma opening value (Some layouts.comma)) input.now at }
     ensures parts { IfOk result (λ _. HasParts input.now row.new) }
+    ensures tokens { (any : List Token) → AreTokensIn input.now value any → IfOk result (λ _. HasTokens input.now row.new any) }
 {
     let (size, at) = field_size(input, at)?;
     *row = Record::FieldItem(kind_of(opening), value, Some(size));
@@ -62,6 +65,7 @@ fn field_by_comma(
     requires part { IsExpressionIn input.now value }
     ensures exact { in_place row.new result ≡ read (layouts.item_by_comma opening value comma) input.now at }
     ensures parts { IfOk result (λ _. HasParts input.now row.new) }
+    ensures tokens { (any : List Token) → AreTokensIn input.now value any → IfOk result (λ _. HasTokens input.now row.new any) }
 {
     match comma {
         None => {
@@ -72,12 +76,19 @@ fn field_by_comma(
     }
 }
 
-fn field_item(opening: u8, input: &[u8], at: usize, row: &mut Record) -> Read
+fn field_item(
+    opening: u8,
+    input: &[u8],
+    at: usize,
+    row: &mut Record,
+    tokens: &mut ExpressionTokens,
+) -> Read
     requires { at ≤ length input.now }
     ensures exact { in_place row.new result ≡ read (layouts.item_by_bracket (Some opening)) input.now at }
     ensures parts { IfOk result (λ _. HasParts input.now row.new) }
+    ensures tokens { IfOk result (λ _. HasTokens input.now row.new tokens.new) }
 {
-    let (value, at) = expression(input, at)?;
+    let (value, at) = expression(input, at, tokens)?;
     let (comma, at) = letter(&[codes::COMMA], input, at)?;
     field_by_comma(opening, value, comma, input, at, row)
 }
@@ -86,6 +97,7 @@ fn constant_item(input: &[u8], at: usize, row: &mut Record) -> Read
     requires { at ≤ length input.now }
     ensures exact { in_place row.new result ≡ read (layouts.constant r.ConstantItem) input.now at }
     ensures parts { IfOk result (λ _. HasParts input.now row.new) }
+    ensures tokens { (any : List Token) → IfOk result (λ _. HasTokens input.now row.new any) }
 {
     let (length, at) = count(input, at)?;
     let (bytes, at) = run(length, input, at)?;
@@ -93,29 +105,37 @@ fn constant_item(input: &[u8], at: usize, row: &mut Record) -> Read
     Ok(at)
 }
 
-fn item_by_bracket(opening: Option<u8>, input: &[u8], at: usize, row: &mut Record) -> Read
+fn item_by_bracket(
+    opening: Option<u8>,
+    input: &[u8],
+    at: usize,
+    row: &mut Record,
+    tokens: &mut ExpressionTokens,
+) -> Read
     requires { at ≤ length input.now }
     ensures exact { in_place row.new result ≡ read (layouts.item_by_bracket opening) input.now at }
     ensures parts { IfOk result (λ _. HasParts input.now row.new) }
+    ensures tokens { IfOk result (λ _. HasTokens input.now row.new tokens.new) }
 {
     match opening {
         None => constant_item(input, at, row),
-        Some(opening) => field_item(opening, input, at, row),
+        Some(opening) => field_item(opening, input, at, row, tokens),
     }
 }
 
 /// Reads an item of an LR: literal bytes, or a field in brackets.
-pub(crate) fn item(input: &[u8], at: usize, row: &mut Record) -> Read
+pub(crate) fn item(input: &[u8], at: usize, row: &mut Record, tokens: &mut ExpressionTokens) -> Read
     requires { at ≤ length input.now }
     ensures exact { in_place row.new result ≡ read layouts.item input.now at }
     ensures parts { IfOk result (λ _. HasParts input.now row.new) }
+    ensures tokens { IfOk result (λ _. HasTokens input.now row.new tokens.new) }
 {
     let (opening, at) = letter(
         &[codes::OPEN_SIGNED, codes::OPEN_UNSIGNED, codes::OPEN_EITHER],
         input,
         at,
     )?;
-    item_by_bracket(opening, input, at, row)
+    item_by_bracket(opening, input, at, row, tokens)
 }
 
 // The kind of a field whose size has no comma.
@@ -141,6 +161,7 @@ fn item_by_size(
     requires part { IsExpressionIn input.now value }
     ensures exact { in_place row.new result ≡ read (layouts.item_by_size opening value size) input.now at }
     ensures parts { IfOk result (λ _. HasParts input.now row.new) }
+    ensures tokens { (any : List Token) → AreTokensIn input.now value any → IfOk result (λ _. HasTokens input.now row.new any) }
 {
     match size {
         None => {
@@ -155,46 +176,73 @@ fn item_by_size(
     }
 }
 
-fn gnu_field_item(opening: u8, input: &[u8], at: usize, row: &mut Record) -> Read
+fn gnu_field_item(
+    opening: u8,
+    input: &[u8],
+    at: usize,
+    row: &mut Record,
+    tokens: &mut ExpressionTokens,
+) -> Read
     requires { at ≤ length input.now }
     ensures exact { in_place row.new result ≡ read (layouts.gnu_item_by_bracket (Some opening)) input.now at }
     ensures parts { IfOk result (λ _. HasParts input.now row.new) }
+    ensures tokens { IfOk result (λ _. HasTokens input.now row.new tokens.new) }
 {
-    let ((value, size), at) = sized_expression(input, at)?;
+    let ((value, size), at) = sized_expression(input, at, tokens)?;
     item_by_size(opening, value, size, input, at, row)
 }
 
-fn gnu_item_by_bracket(opening: Option<u8>, input: &[u8], at: usize, row: &mut Record) -> Read
+fn gnu_item_by_bracket(
+    opening: Option<u8>,
+    input: &[u8],
+    at: usize,
+    row: &mut Record,
+    tokens: &mut ExpressionTokens,
+) -> Read
     requires { at ≤ length input.now }
     ensures exact { in_place row.new result ≡ read (layouts.gnu_item_by_bracket opening) input.now at }
     ensures parts { IfOk result (λ _. HasParts input.now row.new) }
+    ensures tokens { IfOk result (λ _. HasTokens input.now row.new tokens.new) }
 {
     match opening {
         None => constant_item(input, at, row),
-        Some(opening) => gnu_field_item(opening, input, at, row),
+        Some(opening) => gnu_field_item(opening, input, at, row, tokens),
     }
 }
 
 /// Reads an item of an LR, in whose fields the comma before the size is optional.
-pub(crate) fn gnu_item(input: &[u8], at: usize, row: &mut Record) -> Read
+pub(crate) fn gnu_item(
+    input: &[u8],
+    at: usize,
+    row: &mut Record,
+    tokens: &mut ExpressionTokens,
+) -> Read
     requires { at ≤ length input.now }
     ensures exact { in_place row.new result ≡ read layouts.gnu_item input.now at }
     ensures parts { IfOk result (λ _. HasParts input.now row.new) }
+    ensures tokens { IfOk result (λ _. HasTokens input.now row.new tokens.new) }
 {
     let (opening, at) = letter(
         &[codes::OPEN_SIGNED, codes::OPEN_UNSIGNED, codes::OPEN_EITHER],
         input,
         at,
     )?;
-    gnu_item_by_bracket(opening, input, at, row)
+    gnu_item_by_bracket(opening, input, at, row, tokens)
 }
 
-fn start_by_bracket(opening: Option<u8>, input: &[u8], at: usize, row: &mut Record) -> Read
+fn start_by_bracket(
+    opening: Option<u8>,
+    input: &[u8],
+    at: usize,
+    row: &mut Record,
+    tokens: &mut ExpressionTokens,
+) -> Read
     requires { at ≤ length input.now }
     ensures exact { in_place row.new result ≡ read (layouts.start_by_bracket opening) input.now at }
     ensures parts { IfOk result (λ _. HasParts input.now row.new) }
+    ensures tokens { IfOk result (λ _. HasTokens input.now row.new tokens.new) }
 {
-    let (value, at) = expression(input, at)?;
+    let (value, at) = expression(input, at, tokens)?;
     *row = Record::Start(value);
     match opening {
         None => Ok(at),
@@ -203,15 +251,21 @@ fn start_by_bracket(opening: Option<u8>, input: &[u8], at: usize, row: &mut Reco
 }
 
 /// Reads a start address, with or without brackets.
-pub(crate) fn start_address(input: &[u8], at: usize, row: &mut Record) -> Read
+pub(crate) fn start_address(
+    input: &[u8],
+    at: usize,
+    row: &mut Record,
+    tokens: &mut ExpressionTokens,
+) -> Read
     requires { at ≤ length input.now }
     ensures exact { in_place row.new result ≡ read layouts.start_address input.now at }
     ensures parts { IfOk result (λ _. HasParts input.now row.new) }
+    ensures tokens { IfOk result (λ _. HasTokens input.now row.new tokens.new) }
 {
     let (opening, at) = letter(
         &[codes::OPEN_SIGNED, codes::OPEN_UNSIGNED, codes::OPEN_EITHER],
         input,
         at,
     )?;
-    start_by_bracket(opening, input, at, row)
+    start_by_bracket(opening, input, at, row, tokens)
 }

@@ -1,14 +1,15 @@
-//! Reads expressions in one pass: only the number of terms on the stack is kept.
+//! Reads expressions in one pass, which keeps their tokens and the number of terms on the stack.
 
 ghost use Rattle.std.specs.Prelude.{◌≡◌, ◌+◌, ◌-◌, ◌<◌, ◌≤◌, ◌==◌, ℕ, List, length, drop, IfOk};
 ghost use Rattle.mufom_expr.specs.Codes.{operands_of};
-ghost use Rattle.mufom_expr.specs.TokenAt.{begins_token as token_begins, token_at};
+ghost use Rattle.mufom_expr.specs.TokenAt.{begins_token as token_begins, token_at, tokens_at};
 ghost use Rattle.mufom_numbers.specs.declared.taken.Taken.TheVariants as taken;
 ghost use Rattle.mufom_records.specs.Fields.{expression as an_expression, optional_expression as an_optional_expression};
 ghost use Rattle.mufom_records.specs.Fields.{sized_expression as a_sized_expression, is_one_of, closing_brackets, closes};
-ghost use Rattle.mufom_records.specs.Parts.{IsExpressionIn, IsOptionalExpressionIn};
+ghost use Rattle.mufom_records.specs.Parts.{IsExpressionIn, IsOptionalExpressionIn, AreTokensIn, AreOptionalTokensIn, without_size};
 ghost use Rattle.mufom_records.specs.Reading.{field_at, terms_with, expression_end, tokens_from, without_token, sized_by};
 
+use crate::expression_tokens::{ExpressionTokens, MOST_TOKENS};
 use crate::fields::{bad, byte};
 use crate::size::{PlainSize, SizeSoFar};
 use crate::stop::Stop;
@@ -61,18 +62,6 @@ fn counted_token(
     }
 }
 
-// The same without the token.
-#[inline(always)]
-fn terms_at(room: usize, terms: usize, input: &[u8], at: usize) -> Result<(usize, usize), Stop>
-    requires at { at ≤ length input.now }
-    requires terms { terms ≤ 255 }
-    ensures exact { result ≡ terms_with room terms at (token_at (drop at input.now)) }
-    ensures within { IfOk result (λ r. (at ≤ r.1) × (r.1 ≤ length input.now) × (0 < room) × (r.0 ≤ terms + 1)) }
-{
-    let (left, after, _) = counted_token(room, terms, input, at)?;
-    Ok((left, after))
-}
-
 // Checks the end of an expression that leaves `terms` terms.
 fn end_of(is_empty: bool, terms: usize, at: usize) -> Result<((), usize), Stop>
     ensures exact { result ≡ expression_end is_empty terms at }
@@ -87,38 +76,47 @@ fn end_of(is_empty: bool, terms: usize, at: usize) -> Result<((), usize), Stop>
     }
 }
 
-// Reads tokens from an offset on, at most `room`, up to the end of the expression, and returns the offset after them.
-fn tokens(
-    mut room: usize,
-    mut terms: usize,
+// Reads the tokens of an expression and puts them in the place of those in the buffer. Returns the offset after the expression.
+fn read_tokens(
     input: &[u8],
-    mut at: usize,
+    start: usize,
+    tokens: &mut ExpressionTokens,
 ) -> Result<((), usize), Stop>
-    requires at { at ≤ length input.now }
-    requires few { room + terms ≤ 255 }
-    ensures exact { result ≡ tokens_from room terms input.now at }
-    ensures within { IfOk result (λ r. (at ≤ r.1) × (r.1 ≤ length input.now)) }
+    requires { start ≤ length input.now }
+    ensures exact { result ≡ tokens_from 255 0 input.now start }
+    ensures tokens { IfOk result (λ _. tokens_at 255 (drop start input.now) ≡ tokens.new) }
+    ensures within { IfOk result (λ r. (start ≤ r.1) × (r.1 ≤ length input.now)) }
 {
+    tokens.clear();
+    let mut room = MOST_TOKENS;
+    let mut terms = 0;
+    let mut at = start;
     loop {
         let (b, _) = byte(input, at)?;
         if !begins_token(b) {
-            return end_of(room == 255, terms, at);
+            return end_of(room == MOST_TOKENS, terms, at);
         }
-        let (left, after) = terms_at(room, terms, input, at)?;
+        let (left, after, token) = counted_token(room, terms, input, at)?;
+        tokens.push(token);
         room -= 1;
         terms = left;
         at = after;
     }
 }
 
-/// Reads an expression: the position of all its bytes, and the offset after it.
-pub(crate) fn expression(input: &[u8], start: usize) -> Result<(Span, usize), Stop>
+/// Reads an expression: the position of all its bytes, and the offset after it. Its tokens are left in the buffer.
+pub(crate) fn expression(
+    input: &[u8],
+    start: usize,
+    tokens: &mut ExpressionTokens,
+) -> Result<(Span, usize), Stop>
     requires { start ≤ length input.now }
     ensures exact { result ≡ field_at an_expression input.now start }
     ensures part { IfOk result (λ r. IsExpressionIn input.now r.0) }
+    ensures tokens { IfOk result (λ r. AreTokensIn input.now r.0 tokens.new) }
     ensures within { IfOk result (λ r. r.1 ≤ length input.now) }
 {
-    let (_, at) = tokens(255, 0, input, start)?;
+    let (_, at) = read_tokens(input, start, tokens)?;
     let span = Span {
         start,
         len: at - start,
@@ -126,16 +124,21 @@ pub(crate) fn expression(input: &[u8], start: usize) -> Result<(Span, usize), St
     Ok((span, at))
 }
 
-/// Reads an optional expression: none if the next byte cannot begin one.
-pub(crate) fn optional_expression(input: &[u8], at: usize) -> Result<(Option<Span>, usize), Stop>
+/// Reads an optional expression: none if the next byte cannot begin one. Its tokens are left in the buffer.
+pub(crate) fn optional_expression(
+    input: &[u8],
+    at: usize,
+    tokens: &mut ExpressionTokens,
+) -> Result<(Option<Span>, usize), Stop>
     requires { at ≤ length input.now }
     ensures exact { result ≡ field_at an_optional_expression input.now at }
     ensures part { IfOk result (λ r. IsOptionalExpressionIn input.now r.0) }
+    ensures tokens { IfOk result (λ r. AreOptionalTokensIn input.now r.0 tokens.new) }
     ensures within { IfOk result (λ r. r.1 ≤ length input.now) }
 {
     let (b, _) = byte(input, at)?;
     if begins_token(b) {
-        let (span, after) = expression(input, at)?;
+        let (span, after) = expression(input, at, tokens)?;
         Ok((Some(span), after))
     } else {
         Ok((None, at))
@@ -151,18 +154,21 @@ fn is_closing(b: u8) -> bool
     }
 }
 
-// Checks the end of an expression that may be followed by a size, before the byte `b` at this offset.
+// Checks the end of an expression that may be followed by a size, before the byte `b` at this offset. The token that is the
+// size is removed from the buffer.
 fn sized_end(
     room: usize,
     start: usize,
     so_far: SizeSoFar,
     b: u8,
     at: usize,
+    tokens: &mut ExpressionTokens,
 ) -> Result<((Span, Option<PlainSize>), usize), Stop>
     requires order { (start ≤ so_far.last) × (so_far.last ≤ at) }
     requires some { room ≡ 255 → so_far.terms ≡ 0 }
     ensures exact { (input : List ℕ) → closes (drop at input) ≡ is_one_of closing_brackets b
         → result ≡ sized_by input start so_far (expression_end (room == 255) so_far.terms at) }
+    ensures tokens { IfOk result (λ r. tokens.new ≡ without_size r.0.1 tokens.old) }
     ensures within { IfOk result (λ r. r.1 ≡ at) }
 {
     if so_far.terms == 2 && is_closing(b) {
@@ -172,10 +178,11 @@ fn sized_end(
                 len: so_far.last - start,
             };
             let uses_pc = so_far.uses_pc;
+            tokens.remove_last();
             return Ok(((value, Some(PlainSize { size, uses_pc })), at));
         }
     }
-    end_of(room == 255, so_far.terms, at)?;
+    end_of(room == MOST_TOKENS, so_far.terms, at)?;
     let value = Span {
         start,
         len: at - start,
@@ -184,25 +191,29 @@ fn sized_end(
 }
 
 /// Reads an expression and the size of a field after it, if there is one without a comma: the position of the
-/// expression's bytes, the size, and the offset after both.
+/// expression's bytes, the size, and the offset after both. The tokens of the expression are left in the buffer.
 pub(crate) fn sized_expression(
     input: &[u8],
     start: usize,
+    tokens: &mut ExpressionTokens,
 ) -> Result<((Span, Option<PlainSize>), usize), Stop>
     requires { start ≤ length input.now }
     ensures exact { result ≡ field_at a_sized_expression input.now start }
     ensures part { IfOk result (λ r. IsExpressionIn input.now r.0.0) }
+    ensures tokens { IfOk result (λ r. AreTokensIn input.now r.0.0 tokens.new) }
     ensures within { IfOk result (λ r. r.1 ≤ length input.now) }
 {
-    let mut room = 255;
+    tokens.clear();
+    let mut room = MOST_TOKENS;
     let mut at = start;
     let mut so_far = SizeSoFar::new(start);
     loop {
         let (b, _) = byte(input, at)?;
         if !begins_token(b) {
-            return sized_end(room, start, so_far, b, at);
+            return sized_end(room, start, so_far, b, at, tokens);
         }
         let (_, after, token) = counted_token(room, so_far.terms, input, at)?;
+        tokens.push(token);
         room -= 1;
         so_far = so_far.with(token, at);
         at = after;

@@ -8,11 +8,13 @@ ghost use Rattle.mufom_records.specs.declared.record.Record.{Record};
 ghost use Rattle.mufom_records.specs.Fields.{first_of};
 ghost use Rattle.mufom_records.specs.Layouts.{IsWholeRecord};
 ghost use Rattle.mufom_records.specs.Layouts as layouts;
-ghost use Rattle.mufom_records.specs.Parts.{HasParts};
+ghost use Rattle.mufom_expr.specs.declared.token.Token.{Token};
+ghost use Rattle.mufom_records.specs.Parts.{HasParts, HasTokens};
 ghost use Rattle.mufom_records.specs.Reading.{in_place, read, record_at};
 ghost use Rattle.mufom_records.specs.Faults.{IsFaulty, IsCutOffRecord};
 
 use crate::brackets::{gnu_item, item, start_address};
+use crate::expression_tokens::ExpressionTokens;
 use crate::fields::{bad, byte};
 use crate::record::{Mode, Record};
 use crate::rows::{
@@ -25,21 +27,22 @@ use crate::stop::Stop;
 use mufom_numbers::{Reason, Taken, codes};
 
 // The record after the byte E2, which a second byte selects.
-fn assigned(input: &[u8], at: usize, row: &mut Record) -> Read
+fn assigned(input: &[u8], at: usize, row: &mut Record, tokens: &mut ExpressionTokens) -> Read
     requires low { 1 ≤ at }
     requires within { at ≤ length input.now }
     ensures exact { in_place row.new result ≡ read layouts.assigned input.now at }
     ensures parts { IfOk result (λ _. HasParts input.now row.new) }
+    ensures tokens { IfOk result (λ _. HasTokens input.now row.new tokens.new) }
 {
     let (second, at) = byte(input, at)?;
     match second {
         codes::LETTER_W => offset(input, at, row),
         codes::LETTER_S => section_size(input, at, row),
         codes::LETTER_L => section_base(input, at, row),
-        codes::LETTER_I => public_value(input, at, row),
-        codes::LETTER_N => debug_value(input, at, row),
-        codes::LETTER_P => set_counter(input, at, row),
-        codes::LETTER_G => start_address(input, at, row),
+        codes::LETTER_I => public_value(input, at, row, tokens),
+        codes::LETTER_N => debug_value(input, at, row, tokens),
+        codes::LETTER_P => set_counter(input, at, row, tokens),
+        codes::LETTER_G => start_address(input, at, row, tokens),
         codes::LETTER_A | codes::LETTER_B | codes::LETTER_F | codes::LETTER_M | codes::LETTER_R =>
             Err(bad(at - 2, Reason::UnsupportedRecord)),
         _ => Err(bad(at - 1, Reason::BadRecord)),
@@ -51,6 +54,7 @@ fn note(input: &[u8], at: usize, row: &mut Record) -> Read
     requires { at ≤ length input.now }
     ensures exact { in_place row.new result ≡ read layouts.any_note input.now at }
     ensures parts { IfOk result (λ _. HasParts input.now row.new) }
+    ensures tokens { (any : List Token) → IfOk result (λ _. HasTokens input.now row.new any) }
 {
     let (second, at) = byte(input, at)?;
     match second {
@@ -62,11 +66,12 @@ fn note(input: &[u8], at: usize, row: &mut Record) -> Read
 }
 
 // The record after its first byte, which is this code.
-fn coded(code: u8, input: &[u8], at: usize, row: &mut Record) -> Read
+fn coded(code: u8, input: &[u8], at: usize, row: &mut Record, tokens: &mut ExpressionTokens) -> Read
     requires low { 1 ≤ at }
     requires within { at ≤ length input.now }
     ensures exact { in_place row.new result ≡ read (layouts.coded code) input.now at }
     ensures parts { IfOk result (λ _. HasParts input.now row.new) }
+    ensures tokens { IfOk result (λ _. HasTokens input.now row.new tokens.new) }
 {
     match code {
         codes::MODULE_BEGIN => module_begin(input, at, row),
@@ -74,7 +79,7 @@ fn coded(code: u8, input: &[u8], at: usize, row: &mut Record) -> Read
             *row = Record::ModuleEnd;
             Ok(at)
         }
-        codes::ASSIGNMENT => assigned(input, at, row),
+        codes::ASSIGNMENT => assigned(input, at, row, tokens),
         codes::RELOCATE => {
             *row = Record::Relocate;
             Ok(at)
@@ -91,8 +96,8 @@ fn coded(code: u8, input: &[u8], at: usize, row: &mut Record) -> Read
         codes::TYPE => Err(bad(at - 1, Reason::UnsupportedRecord)),
         codes::WEAK_REFERENCE => weak_reference(input, at, row),
         codes::REPEAT => repeat(input, at, row),
-        codes::BLOCK_BEGIN => block_begin(input, at, row),
-        codes::BLOCK_END => block_end(input, at, row),
+        codes::BLOCK_BEGIN => block_begin(input, at, row, tokens),
+        codes::BLOCK_END => block_end(input, at, row, tokens),
         _ => Err(bad(at - 1, Reason::BadRecord)),
     }
 }
@@ -101,6 +106,7 @@ fn coded(code: u8, input: &[u8], at: usize, row: &mut Record) -> Read
 fn header_begin(input: &[u8], row: &mut Record) -> Read
     ensures exact { in_place row.new result ≡ read (layouts.begins_with 1 MODULE_BEGIN layouts.module_begin) input.now 0 }
     ensures parts { IfOk result (λ _. HasParts input.now row.new) }
+    ensures tokens { (any : List Token) → IfOk result (λ _. HasTokens input.now row.new any) }
 {
     let (code, at) = byte(input, 0)?;
     if code == codes::MODULE_BEGIN {
@@ -114,6 +120,7 @@ fn header_begin(input: &[u8], row: &mut Record) -> Read
 fn header_descriptor(input: &[u8], row: &mut Record) -> Read
     ensures exact { in_place row.new result ≡ read (layouts.begins_with 1 DESCRIPTOR layouts.descriptor) input.now 0 }
     ensures parts { IfOk result (λ _. HasParts input.now row.new) }
+    ensures tokens { (any : List Token) → IfOk result (λ _. HasTokens input.now row.new any) }
 {
     let (code, at) = byte(input, 0)?;
     if code == codes::DESCRIPTOR {
@@ -128,6 +135,7 @@ fn header_letter(part: u8, input: &[u8], at: usize, row: &mut Record) -> Read
     requires within { at ≤ length input.now }
     ensures exact { in_place row.new result ≡ read (layouts.begins_with 2 LETTER_W (layouts.numbered_offset part)) input.now at }
     ensures parts { IfOk result (λ _. HasParts input.now row.new) }
+    ensures tokens { (any : List Token) → IfOk result (λ _. HasTokens input.now row.new any) }
 {
     let (second, after) = byte(input, at)?;
     if second == codes::LETTER_W {
@@ -142,6 +150,7 @@ fn header_offset(part: u8, input: &[u8], row: &mut Record) -> Read
     ensures exact { let layout = layouts.begins_with 1 ASSIGNMENT (layouts.begins_with 2 LETTER_W (layouts.numbered_offset part)) in
         in_place row.new result ≡ read layout input.now 0 }
     ensures parts { IfOk result (λ _. HasParts input.now row.new) }
+    ensures tokens { (any : List Token) → IfOk result (λ _. HasTokens input.now row.new any) }
 {
     let (code, at) = byte(input, 0)?;
     if code == codes::ASSIGNMENT {
@@ -151,9 +160,10 @@ fn header_offset(part: u8, input: &[u8], row: &mut Record) -> Read
     }
 }
 
-fn record(input: &[u8], mode: Mode, row: &mut Record) -> Read
+fn record(input: &[u8], mode: Mode, row: &mut Record, tokens: &mut ExpressionTokens) -> Read
     ensures exact { in_place row.new result ≡ read (layouts.layout_of mode) input.now 0 }
     ensures parts { IfOk result (λ _. HasParts input.now row.new) }
+    ensures tokens { IfOk result (λ _. HasTokens input.now row.new tokens.new) }
 {
     match mode {
         Mode::Begin => header_begin(input, row),
@@ -161,20 +171,26 @@ fn record(input: &[u8], mode: Mode, row: &mut Record) -> Read
         Mode::Offset(part) => header_offset(part, input, row),
         Mode::Body => {
             let (code, at) = byte(input, 0)?;
-            coded(code, input, at, row)
+            coded(code, input, at, row, tokens)
         }
-        Mode::Items => item(input, 0, row),
-        Mode::GnuItems => gnu_item(input, 0, row),
+        Mode::Items => item(input, 0, row, tokens),
+        Mode::GnuItems => gnu_item(input, 0, row, tokens),
     }
 }
 
 /// Reads the record at the start of the input that is expected in this mode, stores it through `row`, and
-/// returns its length in bytes. Does not allocate.
+/// returns its length in bytes. If the record has an expression, the tokens of that expression replace those
+/// in `tokens`. Does not allocate.
 ///
 /// This is [`next_record`] for callers that use the record at once. A record is large; storing it through
 /// `row` avoids moving it. The error is `More` if the input ends too early, and otherwise the first error
-/// from the left with its offset. After an error, `row` may hold any record.
-pub fn read_record(input: &[u8], mode: Mode, row: &mut Record) -> Result<usize, Stop>
+/// from the left with its offset. After an error, `row` may hold any record, and `tokens` any tokens.
+pub fn read_record(
+    input: &[u8],
+    mode: Mode,
+    row: &mut Record,
+    tokens: &mut ExpressionTokens,
+) -> Result<usize, Stop>
     // The bytes read are a prefix of the input, and form a complete record, given the byte that follows.
     ensures whole { IfOk result (λ used. (used ≤ length input.now)
         × IsWholeRecord mode row.new (take used input.now) (first_of (drop used input.now) None)) }
@@ -185,9 +201,11 @@ pub fn read_record(input: &[u8], mode: Mode, row: &mut Record) -> Result<usize, 
     ensures more { (result ≡ Err Stop.More) ↔ IsCutOffRecord mode input.now }
     // The positions in the record are within the input, and those of expressions are positions of expressions.
     ensures parts { IfOk result (λ _. HasParts input.now row.new) }
+    // The tokens are those of the record's expression.
+    ensures tokens { IfOk result (λ _. HasTokens input.now row.new tokens.new) }
     ensures exact { in_place row.new result ≡ read (layouts.layout_of mode) input.now 0 }
 {
-    record(input, mode, row)
+    record(input, mode, row, tokens)
 }
 
 fn next(input: &[u8], mode: Mode) -> Taken<Record>
@@ -196,7 +214,8 @@ fn next(input: &[u8], mode: Mode) -> Taken<Record>
 {
     // Any record: `read_record` stores the one that it reads here.
     let mut row = Record::ModuleEnd;
-    match read_record(input, mode, &mut row) {
+    let mut tokens = ExpressionTokens::new();
+    match read_record(input, mode, &mut row, &mut tokens) {
         Ok(used) => Taken::Got(row, used),
         Err(Stop::More) => Taken::More,
         Err(Stop::Bad { offset, reason }) => Taken::Bad { offset, reason },

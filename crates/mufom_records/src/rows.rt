@@ -1,12 +1,14 @@
 //! Reads the fields of each kind of record, which follow its code.
 
-ghost use Rattle.std.specs.Prelude.{◌≡◌, ◌≤◌, length, IfOk};
+ghost use Rattle.std.specs.Prelude.{◌≡◌, ◌≤◌, List, length, IfOk};
+ghost use Rattle.mufom_expr.specs.declared.token.Token.{Token};
 ghost use Rattle.mufom_records.specs.declared.record.Record.TheVariants as r;
 ghost use Rattle.mufom_records.specs.Layouts as layouts;
-ghost use Rattle.mufom_records.specs.Parts.{HasParts, LiesIn};
+ghost use Rattle.mufom_records.specs.Parts.{HasParts, HasTokens, LiesIn};
 ghost use Rattle.mufom_records.specs.Reading.{in_place, read};
 
 use crate::expression::{expression, optional_expression};
+use crate::expression_tokens::ExpressionTokens;
 use crate::fields::{
     bad, block_kind, byte, count, debug_attribute, index, letter, number, numbers, offset_number,
     optional_number, run, string,
@@ -22,6 +24,7 @@ pub(crate) fn module_begin(input: &[u8], at: usize, row: &mut Record) -> Read
     requires { at ≤ length input.now }
     ensures exact { in_place row.new result ≡ read layouts.module_begin input.now at }
     ensures parts { IfOk result (λ _. HasParts input.now row.new) }
+    ensures tokens { (any : List Token) → IfOk result (λ _. HasTokens input.now row.new any) }
 {
     let (processor, at) = string(input, at)?;
     let (name, at) = string(input, at)?;
@@ -33,6 +36,7 @@ pub(crate) fn descriptor(input: &[u8], at: usize, row: &mut Record) -> Read
     requires { at ≤ length input.now }
     ensures exact { in_place row.new result ≡ read layouts.descriptor input.now at }
     ensures parts { IfOk result (λ _. HasParts input.now row.new) }
+    ensures tokens { (any : List Token) → IfOk result (λ _. HasTokens input.now row.new any) }
 {
     let (bits, at) = number(input, at)?;
     let (maus, at) = number(input, at)?;
@@ -45,6 +49,7 @@ pub(crate) fn offset(input: &[u8], at: usize, row: &mut Record) -> Read
     requires { at ≤ length input.now }
     ensures exact { in_place row.new result ≡ read layouts.offset input.now at }
     ensures parts { IfOk result (λ _. HasParts input.now row.new) }
+    ensures tokens { (any : List Token) → IfOk result (λ _. HasTokens input.now row.new any) }
 {
     let (part, at) = number(input, at)?;
     let (value, at) = number(input, at)?;
@@ -56,6 +61,7 @@ pub(crate) fn numbered_offset(part: u8, input: &[u8], at: usize, row: &mut Recor
     requires { at ≤ length input.now }
     ensures exact { in_place row.new result ≡ read (layouts.numbered_offset part) input.now at }
     ensures parts { IfOk result (λ _. HasParts input.now row.new) }
+    ensures tokens { (any : List Token) → IfOk result (λ _. HasTokens input.now row.new any) }
 {
     let (part, at) = offset_number(part, input, at)?;
     let (value, at) = number(input, at)?;
@@ -67,6 +73,7 @@ fn named_section(i: u32, absolute: bool, input: &[u8], at: usize, row: &mut Reco
     requires { at ≤ length input.now }
     ensures exact { in_place row.new result ≡ read (layouts.named_section i absolute) input.now at }
     ensures parts { IfOk result (λ _. HasParts input.now row.new) }
+    ensures tokens { (any : List Token) → IfOk result (λ _. HasTokens input.now row.new any) }
 {
     let (purpose, at) = letter(
         &[codes::LETTER_P, codes::LETTER_D, codes::LETTER_R],
@@ -86,6 +93,7 @@ fn absolute_section(i: u32, input: &[u8], at: usize, row: &mut Record) -> Read
     requires within { at ≤ length input.now }
     ensures exact { in_place row.new result ≡ read (layouts.absolute_section i) input.now at }
     ensures parts { IfOk result (λ _. HasParts input.now row.new) }
+    ensures tokens { (any : List Token) → IfOk result (λ _. HasTokens input.now row.new any) }
 {
     let (second, after) = byte(input, at)?;
     if second == codes::LETTER_S {
@@ -99,6 +107,7 @@ pub(crate) fn section_type(input: &[u8], at: usize, row: &mut Record) -> Read
     requires { at ≤ length input.now }
     ensures exact { in_place row.new result ≡ read layouts.section_type input.now at }
     ensures parts { IfOk result (λ _. HasParts input.now row.new) }
+    ensures tokens { (any : List Token) → IfOk result (λ _. HasTokens input.now row.new any) }
 {
     let (i, at) = index(input, at)?;
     let (first, after) = byte(input, at)?;
@@ -113,6 +122,7 @@ pub(crate) fn alignment(input: &[u8], at: usize, row: &mut Record) -> Read
     requires { at ≤ length input.now }
     ensures exact { in_place row.new result ≡ read layouts.alignment input.now at }
     ensures parts { IfOk result (λ _. HasParts input.now row.new) }
+    ensures tokens { (any : List Token) → IfOk result (λ _. HasTokens input.now row.new any) }
 {
     let (i, at) = index(input, at)?;
     let (value, at) = number(input, at)?;
@@ -125,6 +135,7 @@ pub(crate) fn section_size(input: &[u8], at: usize, row: &mut Record) -> Read
     requires { at ≤ length input.now }
     ensures exact { in_place row.new result ≡ read (layouts.index_and_number r.SectionSize) input.now at }
     ensures parts { IfOk result (λ _. HasParts input.now row.new) }
+    ensures tokens { (any : List Token) → IfOk result (λ _. HasTokens input.now row.new any) }
 {
     let (i, at) = index(input, at)?;
     let (size, at) = number(input, at)?;
@@ -136,6 +147,7 @@ pub(crate) fn section_base(input: &[u8], at: usize, row: &mut Record) -> Read
     requires { at ≤ length input.now }
     ensures exact { in_place row.new result ≡ read (layouts.index_and_number r.SectionBase) input.now at }
     ensures parts { IfOk result (λ _. HasParts input.now row.new) }
+    ensures tokens { (any : List Token) → IfOk result (λ _. HasTokens input.now row.new any) }
 {
     let (i, at) = index(input, at)?;
     let (base, at) = number(input, at)?;
@@ -147,6 +159,7 @@ pub(crate) fn public_name(input: &[u8], at: usize, row: &mut Record) -> Read
     requires { at ≤ length input.now }
     ensures exact { in_place row.new result ≡ read (layouts.index_and_string r.PublicName) input.now at }
     ensures parts { IfOk result (λ _. HasParts input.now row.new) }
+    ensures tokens { (any : List Token) → IfOk result (λ _. HasTokens input.now row.new any) }
 {
     let (i, at) = index(input, at)?;
     let (name, at) = string(input, at)?;
@@ -158,6 +171,7 @@ pub(crate) fn reference_name(input: &[u8], at: usize, row: &mut Record) -> Read
     requires { at ≤ length input.now }
     ensures exact { in_place row.new result ≡ read (layouts.index_and_string r.ReferenceName) input.now at }
     ensures parts { IfOk result (λ _. HasParts input.now row.new) }
+    ensures tokens { (any : List Token) → IfOk result (λ _. HasTokens input.now row.new any) }
 {
     let (i, at) = index(input, at)?;
     let (name, at) = string(input, at)?;
@@ -169,6 +183,7 @@ pub(crate) fn debug_name(input: &[u8], at: usize, row: &mut Record) -> Read
     requires { at ≤ length input.now }
     ensures exact { in_place row.new result ≡ read (layouts.index_and_string r.DebugName) input.now at }
     ensures parts { IfOk result (λ _. HasParts input.now row.new) }
+    ensures tokens { (any : List Token) → IfOk result (λ _. HasTokens input.now row.new any) }
 {
     let (i, at) = index(input, at)?;
     let (name, at) = string(input, at)?;
@@ -176,35 +191,53 @@ pub(crate) fn debug_name(input: &[u8], at: usize, row: &mut Record) -> Read
     Ok(at)
 }
 
-pub(crate) fn public_value(input: &[u8], at: usize, row: &mut Record) -> Read
+pub(crate) fn public_value(
+    input: &[u8],
+    at: usize,
+    row: &mut Record,
+    tokens: &mut ExpressionTokens,
+) -> Read
     requires { at ≤ length input.now }
     ensures exact { in_place row.new result ≡ read (layouts.index_and_expression r.PublicValue) input.now at }
     ensures parts { IfOk result (λ _. HasParts input.now row.new) }
+    ensures tokens { IfOk result (λ _. HasTokens input.now row.new tokens.new) }
 {
     let (i, at) = index(input, at)?;
-    let (value, at) = expression(input, at)?;
+    let (value, at) = expression(input, at, tokens)?;
     *row = Record::PublicValue(i, value);
     Ok(at)
 }
 
-pub(crate) fn debug_value(input: &[u8], at: usize, row: &mut Record) -> Read
+pub(crate) fn debug_value(
+    input: &[u8],
+    at: usize,
+    row: &mut Record,
+    tokens: &mut ExpressionTokens,
+) -> Read
     requires { at ≤ length input.now }
     ensures exact { in_place row.new result ≡ read (layouts.index_and_expression r.DebugValue) input.now at }
     ensures parts { IfOk result (λ _. HasParts input.now row.new) }
+    ensures tokens { IfOk result (λ _. HasTokens input.now row.new tokens.new) }
 {
     let (i, at) = index(input, at)?;
-    let (value, at) = expression(input, at)?;
+    let (value, at) = expression(input, at, tokens)?;
     *row = Record::DebugValue(i, value);
     Ok(at)
 }
 
-pub(crate) fn set_counter(input: &[u8], at: usize, row: &mut Record) -> Read
+pub(crate) fn set_counter(
+    input: &[u8],
+    at: usize,
+    row: &mut Record,
+    tokens: &mut ExpressionTokens,
+) -> Read
     requires { at ≤ length input.now }
     ensures exact { in_place row.new result ≡ read (layouts.index_and_expression r.SetPc) input.now at }
     ensures parts { IfOk result (λ _. HasParts input.now row.new) }
+    ensures tokens { IfOk result (λ _. HasTokens input.now row.new tokens.new) }
 {
     let (i, at) = index(input, at)?;
-    let (value, at) = expression(input, at)?;
+    let (value, at) = expression(input, at, tokens)?;
     *row = Record::SetPc(i, value);
     Ok(at)
 }
@@ -213,6 +246,7 @@ pub(crate) fn public_note(input: &[u8], at: usize, row: &mut Record) -> Read
     requires { at ≤ length input.now }
     ensures exact { in_place row.new result ≡ read (layouts.note r.PublicNote) input.now at }
     ensures parts { IfOk result (λ _. HasParts input.now row.new) }
+    ensures tokens { (any : List Token) → IfOk result (λ _. HasTokens input.now row.new any) }
 {
     let (i, at) = index(input, at)?;
     let (type_index, at) = number(input, at)?;
@@ -226,6 +260,7 @@ pub(crate) fn reference_note(input: &[u8], at: usize, row: &mut Record) -> Read
     requires { at ≤ length input.now }
     ensures exact { in_place row.new result ≡ read (layouts.note r.ReferenceNote) input.now at }
     ensures parts { IfOk result (λ _. HasParts input.now row.new) }
+    ensures tokens { (any : List Token) → IfOk result (λ _. HasTokens input.now row.new any) }
 {
     let (i, at) = index(input, at)?;
     let (type_index, at) = number(input, at)?;
@@ -239,6 +274,7 @@ pub(crate) fn debug_note(input: &[u8], at: usize, row: &mut Record) -> Read
     requires { at ≤ length input.now }
     ensures exact { in_place row.new result ≡ read layouts.debug_note input.now at }
     ensures parts { IfOk result (λ _. HasParts input.now row.new) }
+    ensures tokens { (any : List Token) → IfOk result (λ _. HasTokens input.now row.new any) }
 {
     let (i, at) = index(input, at)?;
     let (type_index, at) = number(input, at)?;
@@ -252,6 +288,7 @@ pub(crate) fn weak_reference(input: &[u8], at: usize, row: &mut Record) -> Read
     requires { at ≤ length input.now }
     ensures exact { in_place row.new result ≡ read layouts.weak_reference input.now at }
     ensures parts { IfOk result (λ _. HasParts input.now row.new) }
+    ensures tokens { (any : List Token) → IfOk result (λ _. HasTokens input.now row.new any) }
 {
     let (i, at) = index(input, at)?;
     let (size, at) = number(input, at)?;
@@ -260,15 +297,24 @@ pub(crate) fn weak_reference(input: &[u8], at: usize, row: &mut Record) -> Read
     Ok(at)
 }
 
-fn scope_begin(kind: u64, size: u64, name: Span, input: &[u8], at: usize, row: &mut Record) -> Read
+fn scope_begin(
+    kind: u64,
+    size: u64,
+    name: Span,
+    input: &[u8],
+    at: usize,
+    row: &mut Record,
+    tokens: &mut ExpressionTokens,
+) -> Read
     requires within { at ≤ length input.now }
     requires name { LiesIn input.now name }
     ensures exact { in_place row.new result ≡ read (layouts.scope_begin kind size name) input.now at }
     ensures parts { IfOk result (λ _. HasParts input.now row.new) }
+    ensures tokens { IfOk result (λ _. HasTokens input.now row.new tokens.new) }
 {
     let (stack, at) = number(input, at)?;
     let (type_index, at) = number(input, at)?;
-    let (offset, at) = expression(input, at)?;
+    let (offset, at) = expression(input, at, tokens)?;
     let tail = BlockTail::Scope {
         stack,
         type_index,
@@ -283,6 +329,7 @@ fn source_begin(kind: u64, size: u64, name: Span, input: &[u8], at: usize, row: 
     requires name { LiesIn input.now name }
     ensures exact { in_place row.new result ≡ read (layouts.source_begin kind size name) input.now at }
     ensures parts { IfOk result (λ _. HasParts input.now row.new) }
+    ensures tokens { (any : List Token) → IfOk result (λ _. HasTokens input.now row.new any) }
 {
     let (more, at) = numbers::<6>(input, at)?;
     *row = Record::BlockBegin(kind, size, name, BlockTail::Source(more));
@@ -296,15 +343,17 @@ fn section_begin(
     input: &[u8],
     at: usize,
     row: &mut Record,
+    tokens: &mut ExpressionTokens,
 ) -> Read
     requires within { at ≤ length input.now }
     requires name { LiesIn input.now name }
     ensures exact { in_place row.new result ≡ read (layouts.section_begin kind size name) input.now at }
     ensures parts { IfOk result (λ _. HasParts input.now row.new) }
+    ensures tokens { IfOk result (λ _. HasTokens input.now row.new tokens.new) }
 {
     let (section_type, at) = number(input, at)?;
     let (section, at) = index(input, at)?;
-    let (offset, at) = expression(input, at)?;
+    let (offset, at) = expression(input, at, tokens)?;
     let tail = BlockTail::Section {
         section_type,
         section,
@@ -321,11 +370,13 @@ fn block_by_kind(
     input: &[u8],
     at: usize,
     row: &mut Record,
+    tokens: &mut ExpressionTokens,
 ) -> Read
     requires within { at ≤ length input.now }
     requires name { LiesIn input.now name }
     ensures exact { in_place row.new result ≡ read (layouts.block_by_kind kind size name) input.now at }
     ensures parts { IfOk result (λ _. HasParts input.now row.new) }
+    ensures tokens { IfOk result (λ _. HasTokens input.now row.new tokens.new) }
 {
     match kind {
         3 => {
@@ -333,28 +384,40 @@ fn block_by_kind(
             Ok(at)
         }
         5 => source_begin(kind, size, name, input, at, row),
-        11 => section_begin(kind, size, name, input, at, row),
-        _ => scope_begin(kind, size, name, input, at, row),
+        11 => section_begin(kind, size, name, input, at, row, tokens),
+        _ => scope_begin(kind, size, name, input, at, row, tokens),
     }
 }
 
-pub(crate) fn block_begin(input: &[u8], at: usize, row: &mut Record) -> Read
+pub(crate) fn block_begin(
+    input: &[u8],
+    at: usize,
+    row: &mut Record,
+    tokens: &mut ExpressionTokens,
+) -> Read
     requires { at ≤ length input.now }
     ensures exact { in_place row.new result ≡ read layouts.block_begin input.now at }
     ensures parts { IfOk result (λ _. HasParts input.now row.new) }
+    ensures tokens { IfOk result (λ _. HasTokens input.now row.new tokens.new) }
 {
     let (kind, at) = block_kind(input, at)?;
     let (size, at) = number(input, at)?;
     let (name, at) = string(input, at)?;
-    block_by_kind(kind, size, name, input, at, row)
+    block_by_kind(kind, size, name, input, at, row, tokens)
 }
 
-pub(crate) fn block_end(input: &[u8], at: usize, row: &mut Record) -> Read
+pub(crate) fn block_end(
+    input: &[u8],
+    at: usize,
+    row: &mut Record,
+    tokens: &mut ExpressionTokens,
+) -> Read
     requires { at ≤ length input.now }
     ensures exact { in_place row.new result ≡ read layouts.block_end input.now at }
     ensures parts { IfOk result (λ _. HasParts input.now row.new) }
+    ensures tokens { IfOk result (λ _. HasTokens input.now row.new tokens.new) }
 {
-    let (value, at) = optional_expression(input, at)?;
+    let (value, at) = optional_expression(input, at, tokens)?;
     *row = Record::BlockEnd(value);
     Ok(at)
 }
@@ -363,6 +426,7 @@ pub(crate) fn set_section(input: &[u8], at: usize, row: &mut Record) -> Read
     requires { at ≤ length input.now }
     ensures exact { in_place row.new result ≡ read layouts.set_section input.now at }
     ensures parts { IfOk result (λ _. HasParts input.now row.new) }
+    ensures tokens { (any : List Token) → IfOk result (λ _. HasTokens input.now row.new any) }
 {
     let (i, at) = index(input, at)?;
     *row = Record::SetSection(i);
@@ -373,6 +437,7 @@ pub(crate) fn constant(input: &[u8], at: usize, row: &mut Record) -> Read
     requires { at ≤ length input.now }
     ensures exact { in_place row.new result ≡ read (layouts.constant r.Constant) input.now at }
     ensures parts { IfOk result (λ _. HasParts input.now row.new) }
+    ensures tokens { (any : List Token) → IfOk result (λ _. HasTokens input.now row.new any) }
 {
     let (length, at) = count(input, at)?;
     let (bytes, at) = run(length, input, at)?;
@@ -384,6 +449,7 @@ fn repeat_constant(times: u64, input: &[u8], at: usize, row: &mut Record) -> Rea
     requires { at ≤ length input.now }
     ensures exact { in_place row.new result ≡ read (layouts.constant (r.RepeatConstant times)) input.now at }
     ensures parts { IfOk result (λ _. HasParts input.now row.new) }
+    ensures tokens { (any : List Token) → IfOk result (λ _. HasTokens input.now row.new any) }
 {
     let (length, at) = count(input, at)?;
     let (bytes, at) = run(length, input, at)?;
@@ -395,6 +461,7 @@ pub(crate) fn repeat(input: &[u8], at: usize, row: &mut Record) -> Read
     requires { at ≤ length input.now }
     ensures exact { in_place row.new result ≡ read layouts.repeat input.now at }
     ensures parts { IfOk result (λ _. HasParts input.now row.new) }
+    ensures tokens { (any : List Token) → IfOk result (λ _. HasTokens input.now row.new any) }
 {
     let (times, at) = number(input, at)?;
     let (code, after) = byte(input, at)?;

@@ -13,11 +13,12 @@ use Rattle.mufom_expr.specs.Tree.{Tree, number, variable, one, two}
 use Rattle.mufom_expr.specs.Value.{variables_of}
 use Rattle.mufom_expr.specs.Terms.{the_term}
 use Rattle.mufom_expr.specs.TokenAt.{tokens_in}
+use Rattle.mufom_records.specs.Parts.{expression_of}
 use Rattle.mufom_debug.specs.Marks.{joined}
 use Rattle.mufom_module.specs.declared.module.Parts.{Parts}
 use Rattle.mufom_module.specs.Contents.{any_of}
 use Rattle.mufom_module.specs.SpelledRecords.{SpelledRecord, Kind, FileIndex, section, public, reference, declared, declared_by, of_kind, is_declared}
-use Rattle.mufom_module.specs.SpelledRecords.{expression_of, tree_in, text_in, named_in_expression, named_at_once, index_of_variable, kind_of_letter}
+use Rattle.mufom_module.specs.SpelledRecords.{tree_in, text_in, named_in_expression, named_at_once, index_of_variable, kind_of_letter}
 use Rattle.mufom_module.specs.SpelledRecords.{Once, is_same_statement, assigned_by, is_assigned}
 use Rattle.mufom_module.specs.Grammar.{Follows, has_no_section}
 use Rattle.mufom_module.specs.Written.{shortest, index_of}

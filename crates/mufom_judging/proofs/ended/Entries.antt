@@ -9,6 +9,7 @@ use Rattle.mufom_expr.specs.Tree.{number}
 use Rattle.mufom_expr.specs.Spelled.{Indexes}
 use Rattle.mufom_records.specs.declared.record.Record.{Record}
 use Rattle.mufom_records.specs.declared.record.Record.TheVariants as r
+use Rattle.mufom_records.specs.Parts.{expression_of}
 use Rattle.mufom_sections.specs.declared.section.Section.{Section}
 use Rattle.mufom_names.specs.declared.name.Public.{Public}
 use Rattle.mufom_names.specs.declared.name.Reference.{Reference}
@@ -16,7 +17,7 @@ use Rattle.mufom_module.specs.declared.module.Parts.{Parts}
 use Rattle.mufom_module.specs.Contents.{any_of}
 use Rattle.mufom_module.specs.Defects as d
 use Rattle.mufom_module.specs.SpelledRecords.{SpelledRecord, section, public, reference, declared_by, of_kind, declared, is_declared}
-use Rattle.mufom_module.specs.SpelledRecords.{named_in_expression, expression_of, tree_in, is_public_value, Once, section_base, is_same_statement}
+use Rattle.mufom_module.specs.SpelledRecords.{named_in_expression, tree_in, is_public_value, Once, section_base, is_same_statement}
 use Rattle.mufom_module.specs.SpelledRecords.{assigned_by, is_assigned}
 use Rattle.mufom_module.specs.RecordParts.{Part}
 use Rattle.mufom_module.specs.Gathered.{answers, first_answer, alignment_for, base_for, section_by, sections_of, value_for, public_by, publics_of}

@@ -12,7 +12,7 @@ use Rattle.mufom_records.specs.Layouts.{IsWholeRecord}
 use Rattle.mufom_module.specs.declared.module.Parts.{Parts}
 use Rattle.mufom_module.specs.Contents.{any_of}
 use Rattle.mufom_module.specs.Defects.{is_long, counts_of, names_outside, has_other_counter}
-use Rattle.mufom_module.specs.SpelledRecords.{SpelledRecord, bytes_of, text_in, section, named_by, expression_of, tree_in, is_public_value}
+use Rattle.mufom_module.specs.SpelledRecords.{SpelledRecord, bytes_of, text_in, section, named_by, tree_in, is_public_value}
 use Rattle.mufom_module.specs.SpelledRecords.{position_in, positioned}
 use Rattle.mufom_module.specs.RecordParts.{Part, number_of, stands_in, opens_items, begins_item, items_mode}
 use Rattle.mufom_module.specs.Gathered.{for_index}
@@ -25,6 +25,7 @@ use Rattle.mufom_judging.proofs.ended.Parts.{IsKept, KeptFrom, own_of, not_end}
 use Rattle.mufom_judging.proofs.ended.Trees.{IsKnown, AreCounts, inside, placed_section, own_counter, known-append, named_known, tree_known}
 use Rattle.mufom_judging.proofs.ended.Trees.{tree_counter, declared_below}
 use Rattle.mufom_records.specs.declared.options.ReadOptions.{ReadOptions}
+use Rattle.mufom_records.specs.Parts.{expression_of}
 
 -- ---- trees
 

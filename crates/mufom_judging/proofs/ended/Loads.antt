@@ -9,6 +9,7 @@ use Rattle.mufom_expr.specs.Tree.{Tree}
 use Rattle.mufom_expr.specs.Spelled.{Indexes}
 use Rattle.mufom_records.specs.declared.record.Record.{Record}
 use Rattle.mufom_records.specs.declared.record.Record.TheVariants as r
+use Rattle.mufom_records.specs.Parts.{expression_of}
 use Rattle.mufom_loads.specs.declared.load.Item.{Item}
 use Rattle.mufom_loads.specs.declared.load.Item.TheVariants.{Literal}
 use Rattle.mufom_loads.specs.declared.load.Load.{Load}
@@ -16,7 +17,7 @@ use Rattle.mufom_loads.specs.declared.load.Load.TheVariants.{One, Repeat}
 use Rattle.mufom_module.specs.declared.module.Parts.{Parts}
 use Rattle.mufom_module.specs.Contents.{any_of, any_item, item_any, current_after, placed_from}
 use Rattle.mufom_module.specs.Defects as d
-use Rattle.mufom_module.specs.SpelledRecords.{SpelledRecord, text_in, tree_in, named_by, expression_of, is_public_value, position_in}
+use Rattle.mufom_module.specs.SpelledRecords.{SpelledRecord, text_in, tree_in, named_by, is_public_value, position_in}
 use Rattle.mufom_module.specs.RecordParts.{is_set_section, is_loading}
 use Rattle.mufom_module.specs.Gathered.{item_by, items_at_prefix, loads_by, loads_of, start_by, starts_of}
 use Rattle.mufom_module.specs.Grammar.{has_no_section}

@@ -12,7 +12,7 @@ use Rattle.mufom_records.specs.declared.record.Record.{Record}
 use Rattle.mufom_records.specs.declared.record.Record.TheVariants as r
 use Rattle.mufom_module.specs.Contents.{any_of}
 use Rattle.mufom_module.specs.SpelledRecords.{SpelledRecord, Kind, public, FileIndex, declared_by, of_kind, declared, is_declared}
-use Rattle.mufom_module.specs.SpelledRecords.{named_in_expression, named_at_once, index_of_variable, expression_of, tree_in, is_public_value, Once}
+use Rattle.mufom_module.specs.SpelledRecords.{named_in_expression, named_at_once, index_of_variable, tree_in, is_public_value, Once}
 use Rattle.mufom_module.specs.SpelledRecords.{value_of_public, is_same_statement, assigned_by, is_assigned}
 use Rattle.mufom_module.specs.RecordParts.{Part, section_part, external_part, debug_part, data_part, trailer_part, part_of, stands_in, is_set_section}
 use Rattle.mufom_module.specs.RecordParts.{is_loading}
@@ -22,6 +22,7 @@ use Rattle.mufom_judging.specs.Faults.{public_declared, has_unknown_variable}
 use Rattle.mufom_judging.proofs.ended.Parts.{IsKept, KeptFrom, own_of}
 use Rattle.mufom_judging.proofs.ended.Sliced.{IsGiven, Sliced}
 use Rattle.mufom_records.specs.declared.options.ReadOptions.{ReadOptions}
+use Rattle.mufom_records.specs.Parts.{expression_of}
 
 -- ---- cut
 

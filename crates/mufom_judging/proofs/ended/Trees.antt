@@ -13,12 +13,13 @@ use Rattle.mufom_expr.specs.declared.token.Letter.TheVariants.{I, L, P, R, S, X}
 use Rattle.mufom_expr.specs.Tree.{Tree, number, variable, one, two}
 use Rattle.mufom_expr.specs.Value.{variables_of, with_variables}
 use Rattle.mufom_expr.specs.Spelled.{Indexes}
+use Rattle.mufom_records.specs.Parts.{expression_of}
 use Rattle.mufom_debug.specs.Marks.{joined}
 use Rattle.mufom_module.specs.declared.module.Parts.{Parts}
 use Rattle.mufom_module.specs.Contents.{any_of}
 use Rattle.mufom_module.specs.Defects.{counts_of, is_outside, names_outside, is_this, is_other_counter, has_other_counter}
 use Rattle.mufom_module.specs.SpelledRecords.{SpelledRecord, Kind, section, public, reference, FileIndex, kind_of_letter, of_kind, declared_by}
-use Rattle.mufom_module.specs.SpelledRecords.{declared, is_declared, tree_in, named_by, expression_of, index_of_variable, named_in_expression}
+use Rattle.mufom_module.specs.SpelledRecords.{declared, is_declared, tree_in, named_by, index_of_variable, named_in_expression}
 use Rattle.mufom_module.specs.SpelledRecords.{is_public_value, named_at_once, position_in, positioned_variable, positioned}
 use Rattle.mufom_module.specs.Grammar.{names_unknown}
 use Rattle.mufom_judging.specs.Faults.{counter_allowed, misplaces_counter}

@@ -14,11 +14,12 @@ use Rattle.mufom_expr.specs.Value.{variables_of}
 use Rattle.mufom_expr.specs.Spelled.{Indexes, list_of}
 use Rattle.mufom_records.specs.declared.record.Record.{Record}
 use Rattle.mufom_records.specs.declared.record.Record.TheVariants as r
+use Rattle.mufom_records.specs.Parts.{expression_of}
 use Rattle.mufom_names.specs.declared.name.Public.{Public}
 use Rattle.mufom_module.specs.Contents.{any_of}
 use Rattle.mufom_module.specs.Defects as d
 use Rattle.mufom_module.specs.SpelledRecords.{SpelledRecord, Kind, section, public, of_kind, declared_by, declared, is_declared, named_by}
-use Rattle.mufom_module.specs.SpelledRecords.{expression_of, tree_in, position_in, positioned_variable, positioned, are_listed, Once, alignment}
+use Rattle.mufom_module.specs.SpelledRecords.{tree_in, position_in, positioned_variable, positioned, are_listed, Once, alignment}
 use Rattle.mufom_module.specs.SpelledRecords.{section_base, value_of_public, is_same_statement, assigned_by, is_assigned}
 use Rattle.mufom_module.specs.RecordParts.{section_part, external_part, trailer_part, stands_in}
 use Rattle.mufom_module.specs.Gathered.{answers, first_answer, alignment_for, base_for, section_by, sections_of, value_for, value_of, public_by}

@@ -12,13 +12,14 @@ use Rattle.mufom_records.specs.declared.record.BlockTail.{BlockTail}
 use Rattle.mufom_records.specs.declared.record.BlockTail.TheVariants as tail
 use Rattle.mufom_records.specs.declared.record.Record.{Record}
 use Rattle.mufom_records.specs.declared.record.Record.TheVariants as r
+use Rattle.mufom_records.specs.Parts.{offset_of_block, expression_of}
 use Rattle.mufom_names.specs.declared.name.Public.{Public}
 use Rattle.mufom_debug.specs.declared.item.BlockHead.TheVariants as heads
 use Rattle.mufom_debug.specs.Marks.{offset_of}
 use Rattle.mufom_module.specs.Contents.{any_of, any_expression}
 use Rattle.mufom_module.specs.Defects as d
 use Rattle.mufom_module.specs.SpelledRecords.{SpelledRecord, public, declared_by, declared, is_declared, named_at_once, named_in_expression}
-use Rattle.mufom_module.specs.SpelledRecords.{is_public_value, offset_of_block, expression_of, tree_in, tree_of_record, positioned, value_of_public}
+use Rattle.mufom_module.specs.SpelledRecords.{is_public_value, tree_in, tree_of_record, positioned, value_of_public}
 use Rattle.mufom_module.specs.SpelledRecords.{assigned_by, is_assigned}
 use Rattle.mufom_module.specs.RecordParts.{Part, section_part, external_part, debug_part, trailer_part, number_of, part_of, stands_in, is_loading}
 use Rattle.mufom_module.specs.Gathered.{sections_of, publics_of, head_by, mark_by, marks, start_by, starts_of}

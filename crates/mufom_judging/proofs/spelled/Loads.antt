@@ -21,7 +21,7 @@ use Rattle.mufom_loads.specs.declared.load.Load.TheVariants.{One}
 use Rattle.mufom_module.specs.Contents.{any_of, item_any, current_after, placed_from}
 use Rattle.mufom_module.specs.Defects as d
 use Rattle.mufom_module.specs.SpelledRecords.{SpelledRecord, bytes_of, Kind, section, public, reference, of_kind, declared_by, declared, is_declared}
-use Rattle.mufom_module.specs.SpelledRecords.{kind_of_letter, index_of_variable, named_by, expression_of, is_public_value, text_in, tree_in}
+use Rattle.mufom_module.specs.SpelledRecords.{kind_of_letter, index_of_variable, named_by, is_public_value, text_in, tree_in}
 use Rattle.mufom_module.specs.SpelledRecords.{position_in, positioned, are_listed}
 use Rattle.mufom_module.specs.RecordParts.{data_part, stands_in, opens_items, mode_of}
 use Rattle.mufom_module.specs.Gathered.{item_by, items_at_prefix, loads_by, loads_of}
@@ -32,6 +32,7 @@ use Rattle.mufom_judging.proofs.ended.Loads.{after_one, same_section, after_all,
 use Rattle.mufom_judging.proofs.spelled.Plain.{is_item, body_plain}
 use Rattle.mufom_judging.proofs.spelled.Entries.{IsListed, tree_back}
 use Rattle.mufom_records.specs.declared.options.ReadOptions.{ReadOptions}
+use Rattle.mufom_records.specs.Parts.{expression_of}
 
 -- ---- the index lists
 

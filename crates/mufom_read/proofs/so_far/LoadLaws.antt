@@ -11,8 +11,9 @@ use Rattle.mufom_expr.specs.Tree.{Tree}
 use Rattle.mufom_expr.specs.Spelled.{Indexes}
 use Rattle.mufom_records.specs.declared.record.Record.{Record}
 use Rattle.mufom_records.specs.declared.record.Record.TheVariants as r
+use Rattle.mufom_records.specs.Parts.{expression_of}
 use Rattle.mufom_loads.specs.declared.load.Item.TheVariants.{Field}
-use Rattle.mufom_module.specs.SpelledRecords.{SpelledRecord, expression_of, tree_in, tree_of_record, positioned}
+use Rattle.mufom_module.specs.SpelledRecords.{SpelledRecord, tree_in, tree_of_record, positioned}
 use Rattle.mufom_module.specs.RecordParts.{data_part, stands_in}
 use Rattle.mufom_module.specs.Gathered.{item_by}
 use Rattle.mufom_read.specs.declared.header.Addressing.{Addressing}

@@ -8,11 +8,12 @@ use Rattle.mufom_numbers.specs.declared.taken.Span.{Span}
 use Rattle.mufom_expr.specs.Tree.{Tree, number}
 use Rattle.mufom_records.specs.declared.record.Record.{Record}
 use Rattle.mufom_records.specs.declared.record.Record.TheVariants as r
+use Rattle.mufom_records.specs.Parts.{expression_of}
 use Rattle.mufom_names.specs.declared.name.Note.{Note}
 use Rattle.mufom_names.specs.declared.name.Public.{Public}
 use Rattle.mufom_names.specs.declared.name.Reference.{Reference}
 use Rattle.mufom_names.specs.declared.name.Weak.{Weak}
-use Rattle.mufom_module.specs.SpelledRecords.{SpelledRecord, text_in, tree_in, tree_of_record, expression_of, named_by, public, reference, is_declared}
+use Rattle.mufom_module.specs.SpelledRecords.{SpelledRecord, text_in, tree_in, tree_of_record, named_by, public, reference, is_declared}
 use Rattle.mufom_module.specs.Grammar.{declares_again, states_again}
 use Rattle.mufom_module.specs.Gathered.{note_of, value_for, public_note_for, weak_for, reference_note_for, references_of}
 use Rattle.mufom_read.specs.declared.publics.PublicMark.TheVariants.{Declared, Valued}

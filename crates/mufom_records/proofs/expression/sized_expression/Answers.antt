@@ -1,10 +1,12 @@
-use Rattle.std.proofs.Common.{rules, ◌≡◌, ◌∙◌, ◌==◌, ◌<◌, refl, sym, true, false, arith}
+use Rattle.std.proofs.Common.{rules, ◌≡◌, ◌∙◌, ◌==◌, ◌<◌, [], ◌∷◌, refl, sym, true, false, arith}
+use Rattle.std.proofs.lemmas.List.{length-append}
 use Rattle.mufom_numbers.proofs.SpellingLaws.{are_bytes}
 use Rattle.mufom_expr.specs.TokenAt.{begins_token}
 use Rattle.mufom_records.specs.Reading.{sizes_from, no_tokens, tokens_from, expression_end}
 use Rattle.mufom_records.proofs.Tokens.{tokens-byte, tokens-last, tokens-stop, tokens-got}
 use Rattle.mufom_records.proofs.Sizes.{first-closes, sizes-last, sizes-got}
 use Rattle.mufom_records.proofs.SizedLaws.{sized-part-of, byte-passed, token-passed}
+use Rattle.mufom_records.proofs.KeptTokens.{kept-next, kept-last, sized-tokens-of}
 use Rattle.mufom_records.proofs.expression.sized_expression.Goals as goal
 
 pub loop-b-init : goal.loop-b-init
@@ -13,8 +15,10 @@ loop-b-init c = let new = c.new-so_far.ensures in record {
   order = rw new (omega arith);
   within = c.requires;
   few = rw new (omega arith);
+  count = rw c.clear.ensures refl;
   same = rw new refl;
   says = rw new refl;
+  kept = rw c.clear.ensures refl;
 }
 
 pub returns-in_err-b-clause-exact : goal.returns-in_err-b-clause-exact
@@ -43,6 +47,15 @@ pub returns-then-not-begins_token-clause-part : goal.returns-then-not-begins_tok
 returns-then-not-begins_token-clause-part c =
     let fits = are_bytes c.args.input.now (λ i. omega (arith, c.type_inv.input i)) in
     sized-part-of c.args.input.now c.args.start fits c.sized_end.result (returns-then-not-begins_token-clause-exact c) c.requires
+
+pub returns-then-not-begins_token-clause-tokens : goal.returns-then-not-begins_token-clause-tokens
+returns-then-not-begins_token-clause-tokens c =
+    let fits = are_bytes c.args.input.now (λ i. omega (arith, c.type_inv.input i)) in
+    let ends : begins_token c.in_ok-b.b ≡ false = search rules in
+    let all = kept-last c.loop-b.room c.args.input.now c.loop-b.at c.in_ok-b.b c.in_ok-b.field-0-1 c.loop-b.tokens _
+    (sym c.in_ok-b.ensures.exact) ends c.loop-b.invariant.kept in
+    sized-tokens-of c.args.input.now c.args.start fits c.sized_end.result (returns-then-not-begins_token-clause-exact c) c.loop-b.tokens _ all
+    c.sized_end.ensures.tokens
 
 pub returns-in_err-after-clause-exact : goal.returns-in_err-after-clause-exact
 returns-in_err-after-clause-exact c =
@@ -73,6 +86,9 @@ loop-b-preserved c =
       order = rw with_is (omega (arith, got.2));
       within = search rules;
       few = rw with_is (omega (arith, c.loop-b.invariant.few, some));
+      count = rw c.push.ensures (omega (arith, some, c.loop-b.invariant.count, length-append c.loop-b.tokens (c.in_ok-after.token ∷ [])));
       same = rw (with_is, ← left) (sym e ∙ c.loop-b.invariant.same);
       says = rw with_is (sym f ∙ c.loop-b.invariant.says);
+      kept = rw c.push.ensures (kept-next c.loop-b.room input c.loop-b.at got.0 c.in_ok-after.after c.in_ok-after.token c.loop-b.tokens _
+          some got.1 got.2 c.loop-b.invariant.kept);
     }

@@ -1,4 +1,5 @@
-use Rattle.std.proofs.Common.{◌≡◌, ◌+◌, ◌≤◌, length}
+use Rattle.std.proofs.Common.{◌≡◌, ◌+◌, ◌≤◌, ◌++◌, length, drop}
+use Rattle.mufom_expr.specs.TokenAt.{tokens_at}
 use Rattle.mufom_records.specs.Reading.{tokens_from, sizes_from, no_tokens}
 use Rattle.mufom_records.proofs.expression.sized_expression.Given as goal
 
@@ -9,8 +10,10 @@ invariant-loop-b l = record {
   order : l.so_far.last ≤ l.at;
   within : l.at ≤ length l.input;
   few : l.room + l.so_far.terms ≤ 255;
+  count : length l.tokens + l.room ≡ 255;
   same : tokens_from l.room l.so_far.terms l.input l.at ≡ tokens_from 255 0 l.input l.start;
   says : sizes_from l.room l.so_far l.input l.at ≡ sizes_from 255 (no_tokens l.start) l.input l.start;
+  kept : tokens_at 255 (drop l.start l.input) ≡ l.tokens ++ tokens_at l.room (drop l.at l.input);
 }
 
 abbrev pub decreases-loop-b : goal.decreases-loop-b

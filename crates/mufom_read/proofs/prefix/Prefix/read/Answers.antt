@@ -2,16 +2,18 @@ use Rattle.std.proofs.Common.{◌≡◌, ℕ, List, ◌+◌, ◌∙◌, ap, sym,
 use Rattle.mufom_records.specs.declared.record.Mode.{Mode}
 use Rattle.mufom_records.specs.declared.stop.Stop.{Stop}
 use Rattle.mufom_records.specs.Layouts.{IsWholeRecord}
-use Rattle.mufom_records.specs.Parts.{HasParts}
+use Rattle.mufom_records.specs.Parts.{HasParts, HasTokens}
+use Rattle.mufom_records.proofs.OwnParts.{own_parts}
 use Rattle.mufom_records.specs.Reading.{as_taken, in_place, record_within, next_seen}
 use Rattle.mufom_numbers.specs.declared.taken.Taken.TheVariants as results
+use Rattle.mufom_expr.specs.declared.token.Token.{Token}
 use Rattle.mufom_numbers.proofs.SpellingLaws.{are_bytes}
 use Rattle.mufom_judging.specs.Prefixes.{size_of, as_step}
 use Rattle.mufom_judging.specs.Faults.{step_fault}
 use Rattle.mufom_read.specs.Kept.{as_record}
 use Rattle.mufom_read.specs.PrefixOfCode.{as_location, mode_at, end_at}
 use Rattle.mufom_read.proofs.WholeLaws.{if_ok}
-use Rattle.mufom_read.proofs.RecordFacts.{got-own, got-placed}
+use Rattle.mufom_read.proofs.RecordFacts.{got-placed}
 use Rattle.mufom_judging.proofs.RecordSizes.{got-some}
 use Rattle.mufom_read.proofs.NearFaults.{within-bad}
 use Rattle.mufom_read.proofs.stepping.Judge.{taken-judged, taken_length}
@@ -19,7 +21,13 @@ use Rattle.mufom_read.proofs.prefix.Prefix.read.Goals as goal
 
 pub take-requires-clause-own : goal.take-requires-clause-own
 take-requires-clause-own c =
-    subst (λ (b : List ℕ). HasParts b c.read_record_before.new.row) (sym c.prefix_of.ensures) (got-own _ _ _ _ c.in-Ok.ensures.whole.1)
+    subst (λ (b : List ℕ). HasParts b c.read_record_before.new.row) (sym c.prefix_of.ensures) (own_parts _ _ _ _ c.in-Ok.ensures.whole.1)
+
+pub take-requires-clause-tokens : goal.take-requires-clause-tokens
+take-requires-clause-tokens c =
+    let row = c.read_record_before.new.row in
+    subst (λ (b : List ℕ). HasTokens b row c.as_slice.result.now) (sym c.prefix_of.ensures)
+    (subst (λ (l : List Token). HasTokens (take c.in-Ok.used c.args.rest.now) row l) (sym c.as_slice.ensures.tokens) c.in-Ok.ensures.tokens)
 
 pub take-requires-clause-placed : goal.take-requires-clause-placed
 take-requires-clause-placed c =

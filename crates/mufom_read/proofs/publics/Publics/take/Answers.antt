@@ -1,6 +1,7 @@
 use Rattle.std.proofs.Common.{sym, ap, refl, ◌∙◌}
 use Rattle.std.specs.Prelude.{option_map}
-use Rattle.mufom_module.specs.SpelledRecords.{is_public_value, tree_in, expression_of}
+use Rattle.mufom_records.specs.Parts.{expression_of}
+use Rattle.mufom_module.specs.SpelledRecords.{is_public_value, tree_in}
 use Rattle.mufom_read.specs.Kept.{record_of_seen}
 use Rattle.mufom_read.proofs.so_far.PublicLaws.{on_ok, on_ok_both, list-within, marks-within, value-named, note-named, name-taken, value-taken}
 use Rattle.mufom_read.proofs.so_far.PublicLaws.{note-taken, no-public-row, other-taken}

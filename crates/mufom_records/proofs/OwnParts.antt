@@ -5,6 +5,8 @@ use Rattle.std.specs.Prelude.{slice_range}
 use Rattle.mufom_numbers.specs.declared.taken.Span.{Span}
 use Rattle.mufom_expr.specs.Tree.{Tree}
 use Rattle.mufom_expr.specs.Spelled.{SpellsTree}
+use Rattle.mufom_records.specs.declared.record.Mode.{Mode}
+use Rattle.mufom_records.specs.declared.record.Mode.TheVariants as mode
 use Rattle.mufom_records.specs.declared.record.Record.{Record}
 use Rattle.mufom_records.specs.declared.record.Record.TheVariants as r
 use Rattle.mufom_records.specs.Fields.{Field, ValueOf, byte, number, string, run, letter, optional_number, numbers, expression, optional_expression}
@@ -175,17 +177,24 @@ coded_owned text b =
     (by_test text (b == 0xF8) Layouts.block_begin _ (block_owned text)
     (by_test text (b == 0xF9) Layouts.block_end _ (λ (v : Option Span) x. x) tt)))))))))))))))))
 
--- each record of the body has its parts in its bytes, and so has each item
-pub body_owned : (it : Record) (bytes : List ℕ) (next : Option ℕ) → Layouts.SpellsRecord Layouts.body it 0 bytes next → HasParts bytes it
-body_owned it bytes next is = owned bytes [] bytes Layouts.body it next refl is (λ (b : ℕ) _. coded_owned bytes b)
+descriptor_owned : (text : List ℕ) → Owns text (Layouts.begins_with 1 0xEC Layouts.descriptor)
+descriptor_owned text = λ (b : ℕ) _. by_test text (b == 0xEC) Layouts.descriptor _ (λ _ _ _ _ _ _. tt) tt
 
-pub item_owned : (it : Record) (bytes : List ℕ) (next : Option ℕ) → Layouts.SpellsRecord Layouts.item it 0 bytes next → HasParts bytes it
-item_owned it bytes next is = owned bytes [] bytes Layouts.item it next refl is (λ (o : Option ℕ) _. bracket_owned bytes o)
+offset_owned : (text : List ℕ) (k : ℕ) → Owns text (Layouts.begins_with 1 0xE2 (Layouts.begins_with 2 0xD7 (Layouts.numbered_offset k)))
+offset_owned text k = λ (b : ℕ) _. by_test text (b == 0xE2) (Layouts.begins_with 2 0xD7 (Layouts.numbered_offset k)) _
+    (λ (c : ℕ) _. by_test text (c == 0xD7) (Layouts.numbered_offset k) _ (λ _ _ _ _. tt) tt) tt
 
-pub gnu_item_owned : (it : Record) (bytes : List ℕ) (next : Option ℕ) → Layouts.SpellsRecord Layouts.gnu_item it 0 bytes next → HasParts bytes it
-gnu_item_owned it bytes next is = owned bytes [] bytes Layouts.gnu_item it next refl is (λ (o : Option ℕ) _. gnu_bracket_owned bytes o)
+begin_owned : (text : List ℕ) → Owns text (Layouts.begins_with 1 0xE0 Layouts.module_begin)
+begin_owned text = λ (b : ℕ) _. by_test text (b == 0xE0) Layouts.module_begin _ (λ (p : Span) x (n : Span) y. (x, y)) tt
 
-pub begin_owned : (it : Record) (bytes : List ℕ) (next : Option ℕ)
-    → Layouts.SpellsRecord (Layouts.begins_with 1 0xE0 Layouts.module_begin) it 0 bytes next → HasParts bytes it
-begin_owned it bytes next is = owned bytes [] bytes (Layouts.begins_with 1 0xE0 Layouts.module_begin) it next refl is
-    (λ (b : ℕ) _. by_test bytes (b == 0xE0) Layouts.module_begin _ (λ (p : Span) x (n : Span) y. (x, y)) tt)
+mode_owned : (text : List ℕ) (m : Mode) → Owns text (Layouts.layout_of m)
+mode_owned text mode.Begin = begin_owned text
+mode_owned text mode.Descriptor = descriptor_owned text
+mode_owned text (mode.Offset k) = offset_owned text k
+mode_owned text mode.Body = λ (b : ℕ) _. coded_owned text b
+mode_owned text mode.Items = λ (o : Option ℕ) _. bracket_owned text o
+mode_owned text mode.GnuItems = λ (o : Option ℕ) _. gnu_bracket_owned text o
+
+-- each record has its parts in its bytes
+pub own_parts : (m : Mode) (it : Record) (bytes : List ℕ) (next : Option ℕ) → Layouts.IsWholeRecord m it bytes next → HasParts bytes it
+own_parts m it bytes next is = owned bytes [] bytes (Layouts.layout_of m) it next refl is (mode_owned bytes m)
