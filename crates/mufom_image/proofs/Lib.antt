@@ -6,3 +6,4 @@ pub mod MetLaws
 pub mod ReadyLaws
 pub mod EntryLaws
 pub mod PlannedLaws
+pub mod CounterLaws

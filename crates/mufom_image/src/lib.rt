@@ -8,7 +8,6 @@
 #![tactic(auto)]
 
 mod commons;
-mod counter_values;
 mod entries;
 mod locating;
 mod names;

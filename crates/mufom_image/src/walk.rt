@@ -11,7 +11,6 @@ ghost use Rattle.mufom_image.specs.Entries.{AreRuns};
 ghost use Rattle.mufom_image.specs.Refusals.{IsMet};
 ghost use Rattle.mufom_image.specs.Stages.{public_division, start_division, debug_division, bases_of, valuation_of, MayBeWalked};
 
-use crate::counter_values::AtCounter;
 use mufom_copies::copy_bytes;
 use mufom_image_bytes::{ImageStop, LoadRefusal, image_of_module};
 use mufom_image_entries::{ValuedModule, divides_at_start, first_debug_division};
@@ -74,10 +73,7 @@ fn runs_of(alloc: Global, valued: &ValuedModule<'_>) -> Result<List<Run>, Locate
     ensures refused { IfErr result (IsMet (steps_fact (setting_of valued.now.placed.now) [] (steps (parts_of valued.now ∷ [])))) }
 {
     let placed = valued.placed;
-    let values = AtCounter {
-        placed,
-        values: valued.values,
-    };
+    let values = placed.surroundings(valued.values, None);
     match image_of_module(alloc, placed.graph.parts, placed.bases, &values) {
         Ok(runs) => Ok(runs),
         Err(ImageStop::Refused(stop)) => Err(refusal_of(stop)),

@@ -1,5 +1,6 @@
 pub mod Stops
 pub mod Chunks
+pub mod Counted
 pub mod Outcomes
 pub mod Walked
 pub mod Loaded

@@ -5,6 +5,7 @@ ghost use Rattle.std.specs.List.{All};
 ghost use Rattle.std.specs.List.Sorted.{IsPermutation};
 ghost use Rattle.mufom_meaning.specs.AddressMap.{run_cells, AreApart};
 ghost use Rattle.mufom_image_bytes.specs.Stops.{fact_of};
+ghost use Rattle.mufom_image_bytes.specs.Counted.{value_with};
 ghost use Rattle.mufom_image_bytes.specs.Chunks.{cells_of_chunks};
 ghost use Rattle.mufom_image_bytes.specs.Loaded.{loaded_cells, IsTiled};
 ghost use Rattle.mufom_image_bytes.specs.Shared.{shares_from, AreRisingFrom, EndsFirst};
@@ -20,8 +21,8 @@ use crate::loads::walk_loads;
 use crate::refusal::LoadRefusal;
 use crate::runs::maximal_runs;
 use crate::stop::ImageStop;
-use crate::values::Values;
 use crate::walk::Walk;
+use mufom_expr::Env;
 use mufom_loads::Load;
 use mufom_meaning::Run;
 use mufom_numbers::{Bytes, List, NoMemory};
@@ -91,18 +92,18 @@ pub fn runs_of_loaded(
 /// Returns the image of the loads of a module, in maximal runs of consecutive addresses, or the first error
 /// in the order of the loads.
 ///
-/// The fields of the loads must have at most eight bytes each.
-pub fn image_of<V: Values>(
+/// The fields of the loads must have at most eight bytes each. `values` gives all variables but P their values.
+pub fn image_of<E: Env>(
     alloc: Global,
     layout: &Layout<'_>,
-    values: &V,
+    values: &E,
     loads: &[Load],
 ) -> Result<List<Run>, ImageStop>
     requires low { 8 ≤ layout.now.width }
     requires high { layout.now.width ≤ 64 }
     requires narrow { All HasNarrowItems loads.now }
-    ensures image { IfOk result (λ runs. IsImageOf layout.now (V.meaning values.now layout.now.width) loads.now runs) }
-    ensures refusal { IfErr result (λ refusal. IsRefusalOf layout.now (V.meaning values.now layout.now.width) loads.now refusal) }
+    ensures image { IfOk result (λ runs. IsImageOf layout.now (value_with (E.meaning values.now) layout.now.width) loads.now runs) }
+    ensures refusal { IfErr result (λ refusal. IsRefusalOf layout.now (value_with (E.meaning values.now) layout.now.width) loads.now refusal) }
 {
     let (walk, stop) = walk_loads(alloc, layout, values, loads)?;
     let Walk {

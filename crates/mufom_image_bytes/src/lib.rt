@@ -2,11 +2,13 @@
 //!
 //! [`image_of_module`] walks the loads once. It returns the runs, or the first error on the walk: a byte
 //! outside its section, an address that is loaded twice, a division by 0, or a value that does not fit its
-//! field. The caller provides the values of expressions, through [`Values`]. The crate depends on the crates
-//! of a module's values, and on `mufom_meaning`, whose definitions its contracts cite.
+//! field. The caller provides the values of all variables but P, the program counter, as an
+//! [`Env`](mufom_expr::Env). The crate depends on the crates of a module's values, and on `mufom_meaning`, whose
+//! definitions its contracts cite.
 #![tactic(auto)]
 
 mod chunk;
+mod counted;
 mod doubles;
 mod field;
 mod image;
@@ -18,7 +20,6 @@ mod places;
 mod refusal;
 mod runs;
 mod stop;
-mod values;
 mod walk;
 
 pub use image::{image_of, runs_of_loaded};
@@ -27,4 +28,3 @@ pub use loaded::{Loaded, nothing_loaded};
 pub use module_image::image_of_module;
 pub use refusal::LoadRefusal;
 pub use stop::ImageStop;
-pub use values::Values;

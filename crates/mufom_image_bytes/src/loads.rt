@@ -2,26 +2,27 @@
 
 ghost use Rattle.std.specs.Prelude.{◌≡◌, ◌≤◌, ◌<◌, ◌^◌, map, filter, length, option_map, None, IfOk, OnOk};
 ghost use Rattle.std.specs.List.{All};
+ghost use Rattle.mufom_image_bytes.specs.Counted.{value_with};
 ghost use Rattle.mufom_image_bytes.specs.Chunks.{cells_of_chunks, AreConsecutive};
 ghost use Rattle.mufom_image_bytes.specs.Loaded.{IsTiled};
 ghost use Rattle.mufom_image_bytes.specs.Walks.{has_bytes, first_counters as base_residues, IsNarrow, HasNarrowItems};
 ghost use Rattle.mufom_image_bytes.specs.Walks.{LoadsItems, Copies, LoadsOne, LoadsAll};
 
+use crate::counted::value_at_counter;
 use crate::layout::Layout;
 use crate::loaded::nothing_loaded;
 use crate::refusal::LoadRefusal;
-use crate::values::Values;
 use crate::walk::{Walk, counter_of, load_item, set_counter};
-use mufom_expr::Postfix;
+use mufom_expr::{Env, Postfix};
 use mufom_loads::{Item, Load, item_length};
 use mufom_module::current_after;
 use mufom_numbers::NoMemory;
 use std::alloc::Global;
 
 // Loads items, one after another.
-fn load_items<V: Values>(
+fn load_items<E: Env>(
     layout: &Layout<'_>,
-    values: &V,
+    values: &E,
     section: u32,
     items: &[&Item],
     walk: &mut Walk,
@@ -31,7 +32,8 @@ fn load_items<V: Values>(
     requires narrow { All (λ item. IsNarrow item.now) items.now }
     requires tiled { IsTiled walk.old.loaded }
     ensures tiled { OnOk result (IsTiled walk.new.loaded) }
-    ensures outcome { LoadsItems layout.now (V.meaning values.now layout.now.width) section (map (λ i. i.now) items.now) walk.old walk.new result }
+    ensures outcome { LoadsItems layout.now (value_with (E.meaning values.now) layout.now.width)
+        section (map (λ i. i.now) items.now) walk.old walk.new result }
 {
     for item in items {
         let stop = load_item(layout, values, section, *item, walk)?;
@@ -43,9 +45,9 @@ fn load_items<V: Values>(
 }
 
 // Loads items `count` times.
-fn load_copies<V: Values>(
+fn load_copies<E: Env>(
     layout: &Layout<'_>,
-    values: &V,
+    values: &E,
     section: u32,
     count: u64,
     items: &[&Item],
@@ -56,7 +58,8 @@ fn load_copies<V: Values>(
     requires narrow { All (λ item. IsNarrow item.now) items.now }
     requires tiled { IsTiled walk.old.loaded }
     ensures tiled { OnOk result (IsTiled walk.new.loaded) }
-    ensures outcome { Copies layout.now (V.meaning values.now layout.now.width) section count (map (λ i. i.now) items.now) walk.old walk.new result }
+    ensures outcome { Copies layout.now (value_with (E.meaning values.now) layout.now.width)
+        section count (map (λ i. i.now) items.now) walk.old walk.new result }
 {
     if items.is_empty() {
         return Ok(None);
@@ -86,10 +89,10 @@ fn with_bytes<'a>(alloc: Global, items: &'a [Item]) -> Result<Vec<&'a Item>, NoM
 }
 
 // Loads the items of a repeat.
-fn load_repeat<V: Values>(
+fn load_repeat<E: Env>(
     alloc: Global,
     layout: &Layout<'_>,
-    values: &V,
+    values: &E,
     section: u32,
     count: u64,
     items: &[Item],
@@ -100,16 +103,16 @@ fn load_repeat<V: Values>(
     requires narrow { All IsNarrow items.now }
     requires tiled { IsTiled walk.old.loaded }
     ensures tiled { OnOk result (IsTiled walk.new.loaded) }
-    ensures outcome { Copies layout.now (V.meaning values.now layout.now.width) section count items.now walk.old walk.new result }
+    ensures outcome { Copies layout.now (value_with (E.meaning values.now) layout.now.width) section count items.now walk.old walk.new result }
 {
     let items = with_bytes(alloc, items)?;
     load_copies(layout, values, section, count, &items, walk)
 }
 
 // Sets the counter of a section to the value of an expression there.
-fn load_counter<V: Values>(
+fn load_counter<E: Env>(
     layout: &Layout<'_>,
-    values: &V,
+    values: &E,
     section: u32,
     value: &Postfix,
     walk: &mut Walk,
@@ -118,10 +121,11 @@ fn load_counter<V: Values>(
     requires high { layout.now.width ≤ 64 }
     requires tiled { IsTiled walk.old.loaded }
     ensures tiled { IsTiled walk.new.loaded }
-    ensures outcome { LoadsOne layout.now (V.meaning values.now layout.now.width) None (Load.SetPc section value.now) walk.old walk.new result }
+    ensures outcome { LoadsOne layout.now (value_with (E.meaning values.now) layout.now.width)
+        None (Load.SetPc section value.now) walk.old walk.new result }
 {
     let at = counter_of(&walk.counters, section);
-    match values.value(layout.width, at, value) {
+    match value_at_counter(values, layout.width, at, value) {
         Some(next) => {
             set_counter(&mut walk.counters, section, next);
             None
@@ -131,10 +135,10 @@ fn load_counter<V: Values>(
 }
 
 // One load, if this section is the current one.
-fn load_one<V: Values>(
+fn load_one<E: Env>(
     alloc: Global,
     layout: &Layout<'_>,
-    values: &V,
+    values: &E,
     current: Option<u32>,
     load: &Load,
     walk: &mut Walk,
@@ -144,7 +148,8 @@ fn load_one<V: Values>(
     requires narrow { HasNarrowItems load.now }
     requires tiled { IsTiled walk.old.loaded }
     ensures tiled { OnOk result (IsTiled walk.new.loaded) }
-    ensures outcome { IfOk result (λ stop. LoadsOne layout.now (V.meaning values.now layout.now.width) current load.now walk.old walk.new stop) }
+    ensures outcome { IfOk result (λ stop. LoadsOne layout.now (value_with (E.meaning values.now) layout.now.width)
+        current load.now walk.old walk.new stop) }
 {
     match load {
         Load::SetSection(_) => Ok(None),
@@ -180,19 +185,19 @@ fn first_counters(alloc: Global, layout: &Layout<'_>) -> Result<Vec<u64>, NoMemo
     Ok(counters)
 }
 
-/// Walks the loads in order. Returns the state that was reached, and the error that stopped the walk, if one
-/// did.
-pub fn walk_loads<V: Values>(
+/// Walks the loads in order, with values for all variables but P. Returns the state that was reached, and the
+/// error that stopped the walk, if one did.
+pub fn walk_loads<E: Env>(
     alloc: Global,
     layout: &Layout<'_>,
-    values: &V,
+    values: &E,
     loads: &[Load],
 ) -> Result<(Walk, Option<LoadRefusal>), NoMemory>
     requires low { 8 ≤ layout.now.width }
     requires high { layout.now.width ≤ 64 }
     requires narrow { All HasNarrowItems loads.now }
     ensures tiled { IfOk result (λ r. IsTiled r.0.loaded) }
-    ensures outcome { IfOk result (λ r. LoadsAll layout.now (V.meaning values.now layout.now.width) loads.now r.0 r.1) }
+    ensures outcome { IfOk result (λ r. LoadsAll layout.now (value_with (E.meaning values.now) layout.now.width) loads.now r.0 r.1) }
 {
     let mut walk = Walk {
         counters: first_counters(alloc, layout)?,

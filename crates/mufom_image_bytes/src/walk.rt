@@ -1,20 +1,20 @@
 //! The walk over the loads, up to the first error.
 
 ghost use Rattle.std.specs.Prelude.{◌≡◌, ◌+◌, ◌≤◌, ◌^◌, ◌<◌, None, option_map, slice_index, slice_set, IfOk, IfSome, OnOk};
-ghost use Rattle.mufom_expr.specs.Value.{value_at};
 ghost use Rattle.mufom_loads.specs.declared.load.Item.TheVariants.{Field};
 ghost use Rattle.mufom_loads.specs.Lengths.{byte_count, repeated};
+ghost use Rattle.mufom_image_bytes.specs.Counted.{value_with};
 ghost use Rattle.mufom_image_bytes.specs.Stops.{fact_of};
 ghost use Rattle.mufom_image_bytes.specs.Loaded.{IsTiled};
 ghost use Rattle.mufom_image_bytes.specs.Outcomes.{field_outcome, with_bytes};
 ghost use Rattle.mufom_image_bytes.specs.Walks.{progress_of, PutsItem, LoadsItem, IsNarrow};
 
+use crate::counted::value_at_counter;
 use crate::field::{field_number, fits, spelled};
 use crate::layout::Layout;
 use crate::loaded::Loaded;
 use crate::refusal::LoadRefusal;
-use crate::values::Values;
-use mufom_expr::{FieldKind, Postfix};
+use mufom_expr::{Env, FieldKind};
 use mufom_loads::{Item, item_length};
 use mufom_numbers::NoMemory;
 
@@ -97,9 +97,9 @@ impl Walk {
 }
 
 // Loads an item, no byte of which lies outside its section.
-fn put_item<V: Values>(
+fn put_item<E: Env>(
     layout: &Layout<'_>,
-    values: &V,
+    values: &E,
     section: u32,
     at: u64,
     item: &Item,
@@ -110,7 +110,8 @@ fn put_item<V: Values>(
     requires narrow { IsNarrow item.now }
     requires tiled { IsTiled walk.old.loaded }
     ensures tiled { OnOk result (IsTiled walk.new.loaded) }
-    ensures outcome { IfOk result (λ stop. PutsItem layout.now (V.meaning values.now layout.now.width) section at item.now walk.old walk.new stop) }
+    ensures outcome { IfOk result (λ stop. PutsItem layout.now (value_with (E.meaning values.now) layout.now.width)
+        section at item.now walk.old walk.new stop) }
 {
     match item {
         Item::Literal(bytes) => {
@@ -118,7 +119,7 @@ fn put_item<V: Values>(
             Ok(None)
         }
         Item::Field { kind, value, size } => {
-            let found = values.value(layout.width, at, value);
+            let found = value_at_counter(values, layout.width, at, value);
             let (number, stop) = field_at(layout, section, at, *kind, *size, found);
             let bytes = spelled(layout.order, *size, number);
             walk.put(layout, section, at, bytes.as_slice(), *size as u64)?;
@@ -128,9 +129,9 @@ fn put_item<V: Values>(
 }
 
 /// Loads an item at the counter of a section. Returns the error that stops the walk there, if there is one.
-pub fn load_item<V: Values>(
+pub fn load_item<E: Env>(
     layout: &Layout<'_>,
-    values: &V,
+    values: &E,
     section: u32,
     item: &Item,
     walk: &mut Walk,
@@ -140,7 +141,8 @@ pub fn load_item<V: Values>(
     requires narrow { IsNarrow item.now }
     requires tiled { IsTiled walk.old.loaded }
     ensures tiled { OnOk result (IsTiled walk.new.loaded) }
-    ensures outcome { IfOk result (λ stop. LoadsItem layout.now (V.meaning values.now layout.now.width) section item.now walk.old walk.new stop) }
+    ensures outcome { IfOk result (λ stop. LoadsItem layout.now (value_with (E.meaning values.now) layout.now.width)
+        section item.now walk.old walk.new stop) }
 {
     let count = item_length(item);
     if count == 0 {

@@ -5,36 +5,21 @@ use crate::located::COUNTER;
 use mufom_drafts::{Data, Draft};
 use mufom_expr::FieldKind::Unsigned;
 use mufom_expr::Token::Number;
-use mufom_expr::{Env, Letter, Postfix};
-use mufom_image_bytes::{ImageStop, LoadRefusal, Values, image_of_module};
+use mufom_expr::{Env, Letter};
+use mufom_image_bytes::{ImageStop, LoadRefusal, image_of_module};
 use std::alloc::Global;
 
-// The program counter, which each variable means.
+// An environment in which no variable has a value.
 #[derive(Drop)]
-struct Counter(u64);
+struct Empty;
 
-impl Env for Counter {
-    ghost use Rattle.std.specs.Prelude.{Some};
+impl Env for Empty {
+    ghost use Rattle.std.specs.Prelude.{None};
 
-    ghost meaning = { λ counter letter n. Some counter.0 };
+    ghost meaning = { λ _ letter n. None };
 
     fn lookup(&self, _letter: Letter, _index: u32) -> Option<u64> {
-        Some(self.0)
-    }
-}
-
-// The values if each variable is the program counter.
-#[derive(Drop)]
-struct Counted;
-
-impl Values for Counted {
-    ghost use Rattle.std.specs.Prelude.{◌^◌, Some};
-    ghost use Rattle.mufom_expr.specs.Value.{value_at};
-
-    ghost meaning = { λ _ width at t. value_at (2 ^ width) (λ letter n. Some at) t };
-
-    fn value(&self, width: u32, counter: u64, expression: &Postfix) -> Option<u64> {
-        expression.value(&Counter(counter), width)
+        None
     }
 }
 
@@ -75,7 +60,7 @@ fn doubles(alloc: Global) -> Draft {
 fn copies_of_a_field_have_their_own_counters(rt: HostRuntime) {
     let alloc = rt.alloc();
     let module = copies(alloc).module().expect(&rt, "a module");
-    let Ok(runs) = image_of_module(alloc, module.parts(), &[256], &Counted) else {
+    let Ok(runs) = image_of_module(alloc, module.parts(), &[256], &Empty) else {
         panic!(rt; "no image");
     };
     let [first, second] = runs.as_slice() else {
@@ -91,7 +76,7 @@ fn copies_of_a_field_have_their_own_counters(rt: HostRuntime) {
 fn the_first_double_goes_by_the_order_of_the_loads(rt: HostRuntime) {
     let alloc = rt.alloc();
     let module = doubles(alloc).module().expect(&rt, "a module");
-    match image_of_module(alloc, module.parts(), &[256], &Counted) {
+    match image_of_module(alloc, module.parts(), &[256], &Empty) {
         Err(ImageStop::Refused(LoadRefusal::Twice { address })) => assert_eq!(rt; address, 260),
         _ => panic!(rt; "no double"),
     }

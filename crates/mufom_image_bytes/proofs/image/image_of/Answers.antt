@@ -1,6 +1,7 @@
 use Rattle.std.proofs.Common.{ap}
 use Rattle.std.specs.Prelude.{option_map}
 use Rattle.std.proofs.lemmas.Result.{IfOk-weaker, IfErr-weaker}
+use Rattle.mufom_image_bytes.specs.Counted.{value_with}
 use Rattle.mufom_image_bytes.specs.Stops.{fact_of}
 use Rattle.mufom_image_bytes.specs.Loaded.{loaded_cells}
 use Rattle.mufom_image_bytes.specs.Outcomes.{Outcome}
@@ -9,7 +10,7 @@ use Rattle.mufom_image_bytes.proofs.image.image_of.Goals as goal
 
 pub returns-clause-image : goal.returns-clause-image
 returns-clause-image g c =
-    let valuation = g.V.Values.meaning c.args.values.now c.args.layout.now.width in
+    let valuation = value_with (g.E.Env.meaning c.args.values.now) c.args.layout.now.width in
     let e = c.in_ok-walk.ensures.outcome in
     IfOk-weaker c.runs_of_loaded.result _ _
     (λ runs image. image_there c.args.layout.now valuation c.args.loads.now c.requires.high (loaded_cells c.in_ok-walk.walk.loaded)
@@ -19,7 +20,7 @@ returns-clause-image g c =
 
 pub returns-clause-refusal : goal.returns-clause-refusal
 returns-clause-refusal g c =
-    let valuation = g.V.Values.meaning c.args.values.now c.args.layout.now.width in
+    let valuation = value_with (g.E.Env.meaning c.args.values.now) c.args.layout.now.width in
     let e = c.in_ok-walk.ensures.outcome in
     IfErr-weaker c.runs_of_loaded.result _ _
     (λ refusal there. refusal_there c.args.layout.now valuation c.args.loads.now c.requires.high (loaded_cells c.in_ok-walk.walk.loaded)

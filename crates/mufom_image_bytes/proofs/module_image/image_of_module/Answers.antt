@@ -2,6 +2,7 @@ use Rattle.std.proofs.Common.{◌≡◌, ℕ, ◌*◌, List, refl, ap, subst, sy
 use Rattle.std.specs.List.{All}
 use Rattle.std.proofs.lemmas.Result.{IfOk-weaker, IfErr-weaker}
 use Rattle.mufom_loads.specs.declared.load.Load.{Load}
+use Rattle.mufom_image_bytes.specs.Counted.{value_with}
 use Rattle.mufom_image_bytes.specs.declared.layout.Layout.{Layout}
 use Rattle.mufom_image_bytes.specs.Images.{IsImageOf, IsRefusalOf}
 use Rattle.mufom_image_bytes.specs.Walks.{HasNarrowItems}
@@ -16,8 +17,8 @@ pub returns-clause-image : goal.returns-clause-image
 returns-clause-image g c =
     let m = c.args.parts.now in
     let bases = c.args.bases.now in
-    let valuation = g.V.Values.meaning c.args.values.now in
-    let layout : Layout = record { sections = c.as_slice.result; bases = c.args.bases; width = 8 * c.from.result; order = m.order } in
+    let valuation = value_with (g.E.Env.meaning c.args.values.now) in
+    let layout : Layout = _ in
     let wide : 8 * c.from.result ≡ 8 * m.maus = ap (λ n. 8 * n) c.from.ensures in
     let loads = c.as_slice-2.ensures in
     IfOk-weaker c.image_of.result _ _
@@ -29,8 +30,8 @@ pub returns-clause-refusal : goal.returns-clause-refusal
 returns-clause-refusal g c =
     let m = c.args.parts.now in
     let bases = c.args.bases.now in
-    let valuation = g.V.Values.meaning c.args.values.now in
-    let layout : Layout = record { sections = c.as_slice.result; bases = c.args.bases; width = 8 * c.from.result; order = m.order } in
+    let valuation = value_with (g.E.Env.meaning c.args.values.now) in
+    let layout : Layout = _ in
     let wide : 8 * c.from.result ≡ 8 * m.maus = ap (λ n. 8 * n) c.from.ensures in
     let loads = c.as_slice-2.ensures in
     IfErr-weaker c.image_of.result _ _
