@@ -56,7 +56,7 @@ module _ (old mid : Meaning) (before between : Faults) (err : Option (List ℕ))
     answers-kept outcome.Done (output, is, puts) = (output, is, output-kept output puts)
     answers-kept (outcome.Refused r) (is, nothing) = (is, nothing-kept nothing)
     answers-kept (outcome.Usage f) is = absurd is
-    answers-kept (outcome.ReadFault at) (rose, is, nothing) = (rose, is, nothing-kept nothing)
+    answers-kept (outcome.ReadFault at) (fails, is, nothing) = (fails, is, nothing-kept nothing)
     answers-kept outcome.WriteFault (rose, (output, is, puts)) = (rose, (output, is, prefix-kept output puts))
     answers-kept outcome.NoMemory nothing = nothing-kept nothing
 
@@ -65,7 +65,7 @@ module _ (old mid : Meaning) (before between : Faults) (err : Option (List ℕ))
     nothing-lacked outcome.Done may is = absurd may
     nothing-lacked (outcome.Refused r) may (is, nothing) = nothing-kept nothing
     nothing-lacked (outcome.Usage f) may is = absurd may
-    nothing-lacked (outcome.ReadFault at) may (rose, is, nothing) = nothing-kept nothing
+    nothing-lacked (outcome.ReadFault at) may (fails, is, nothing) = nothing-kept nothing
     nothing-lacked outcome.WriteFault may is = absurd may
     nothing-lacked outcome.NoMemory may is = absurd may
 

@@ -39,7 +39,7 @@ module _ (t : Task) (old mid : Meaning) (before between : Faults) (only : OnlyOp
 
   stopped-answers : (stop : Outcome) → StopsFor t (call_between old mid before between) stop → AnswersFor t (call_between old mid before between) stop
   stopped-answers (outcome.Refused r) why = (why, read-nothing)
-  stopped-answers (outcome.ReadFault at) (rose, reached) = (rose, reached, read-nothing)
+  stopped-answers (outcome.ReadFault at) (fails, reached) = (fails, reached, read-nothing)
   stopped-answers outcome.NoMemory why = read-nothing
   stopped-answers outcome.Done why = absurd why
   stopped-answers (outcome.Usage f) why = absurd why

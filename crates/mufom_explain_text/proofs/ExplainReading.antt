@@ -4,7 +4,8 @@ use Rattle.std.proofs.Common.{◌≡◌, ◌≢◌, ◌⊎◌, ℕ, ◌+◌, ◌
 use Rattle.std.proofs.Common.{IfSome, IsSome, option_to_list, refl, sym, ap, subst, ◌∙◌, inl, inr, arith}
 use Rattle.std.proofs.lemmas.List.{length-append}
 use Rattle.mufom_numbers.specs.declared.limits.TheConstants.{MOST_FILE_BYTES}
-use Rattle.mufom_host.specs.World.{Faults, Meaning, NamedFile, OnlyOpens, OnlyPrints, Rose}
+use Rattle.mufom_host.specs.World.{Faults, Meaning, NamedFile, OnlyOpens, OnlyPrints}
+use Rattle.mufom_host.proofs.Composing.{InputFails-writes}
 use Rattle.mufom_host.specs.declared.cause.Cause.{Cause}
 use Rattle.mufom_plan.specs.declared.plan.Plan.{Plan}
 use Rattle.mufom_plan.specs.declared.refusal.PlanRefusal.{PlanRefusal}
@@ -207,8 +208,8 @@ module _ {A : Type 0} (t : Task) (reading : List NamedFile → Work Stop A) (end
             (subst (λ (o : Outcome). KeepsPlan c.plan old.files text o) why.is keeps) why.cause details
             (subst (λ (o : Outcome). IsUnreadDetail c host_tells text o details) why.is is),
       )
-      reading-ends (outcome.ReadFault at) (rose, reached) opens named memory details keeps is = (
-        subst (λ n. Rose before.reads n) (sym (ap (λ (f : Faults). f.reads) prints.1)) rose,
+      reading-ends (outcome.ReadFault at) (fails, reached) opens named memory details keeps is = (
+        InputFails-writes before between now fails prints.1,
         reached,
         input-line at reached details is,
       )

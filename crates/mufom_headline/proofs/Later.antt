@@ -55,7 +55,7 @@ module _ (files others : List NamedFile) (t u : Task) (call other : Call) (its :
       let there : work_of u others (stops is.stop) = (same (stops is.stop)).0 comes in
       record { same = is.is ∙ sym (answer (stops is.stop) there); output = λ done. absurd cc }
   ends-same (outcome.Usage f) is calm = absurd is
-  ends-same (outcome.ReadFault at) is calm = absurd (calm.none.reads is.0)
+  ends-same (outcome.ReadFault at) is calm = absurd (calm.none.reads is.0.1)
   ends-same outcome.WriteFault is calm = absurd (calm.none.writes is.0)
   ends-same outcome.NoMemory is calm = absurd (calm.memory refl)
 

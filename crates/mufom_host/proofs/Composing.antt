@@ -1,10 +1,12 @@
 -- What holds for several calls in a row, derived from what holds for each.
-use Rattle.std.proofs.Common.{◌≡◌, refl, sym, ◌∙◌, ap, ℕ, ◌+◌, ◌≤◌, min, List, [], ◌++◌, length, take, drop, Option, Some, None, Ok, OnSome}
-use Rattle.std.proofs.Common.{append_assoc, arith}
+use Rattle.std.proofs.Common.{◌≡◌, refl, sym, ◌∙◌, ap, ℕ, ◌+◌, ◌≤◌, min, List, [], ◌++◌, length, take, drop, Option, Some, None, Result, Ok, OnSome}
+use Rattle.std.proofs.Common.{append_assoc, arith, is_err, subst, true}
 use Rattle.std.proofs.Math.Seq.{take-append-add, take-length}
 use Rattle.std.proofs.lemmas.List.{append-nil, take-append-le, take_min, take-append-drop}
 use Rattle.std.proofs.lemmas.Option.{same_Some}
-use Rattle.mufom_host.specs.World.{Meaning, Faults, NamedFile, Rose, GrowsBy, GrowsByPrefix, MakingGrowsBy, MakingGrowsByPrefix, with_bytes, ReadsOff}
+use Rattle.mufom_host.specs.declared.world.Failed.{Failed}
+use Rattle.mufom_host.specs.World.{Meaning, Faults, InputFails, OpenMarks, NamedFile, Rose, GrowsBy, GrowsByPrefix, MakingGrowsBy}
+use Rattle.mufom_host.specs.World.{MakingGrowsByPrefix, with_bytes, ReadsOff}
 use Rattle.mufom_host.specs.World.{Reads, KeepsAllButReads, KeepsAllButWrites, KeepsAllButComplaints, KeepsAllButLeft, KeepsAllButMaking}
 use Rattle.mufom_host.specs.World.{KeepsAllButOpened, KeepsAllButCreated, KeepsAllButMade, KeepsAllButOut, KeepsAllButErr, KeepsAllButFile}
 
@@ -16,8 +18,28 @@ Rose-later a b c rose later = omega arith
 pub later-Rose : (a b c : ℕ) → a ≤ b → Rose b c → Rose a c
 later-Rose a b c later rose = omega arith
 
+-- a failure of the input counts from any earlier state on
+pub later-InputFails : (a b c : Faults) → a.reads ≤ b.reads → InputFails b c → InputFails a c
+later-InputFails a b c later fails = (fails.0, later-Rose a.reads b.reads c.reads later fails.1)
+
+-- what keeps the mark of the input, and lets its count rise at most, keeps its failure
+pub InputFails-later : (a b c : Faults) → InputFails a b → c.input_failed ≡ b.input_failed → b.reads ≤ c.reads → InputFails a c
+InputFails-later a b c fails same later = (same ∙ fails.0, Rose-later a.reads b.reads c.reads fails.1 later)
+
+-- an open that fails is a failure of the input
+pub InputFails-open : (a b : Faults) (result : Result (Unit {0}) Failed) → is_err result ≡ true → OpenMarks b result → Rose a.reads b.reads
+    → InputFails a b
+InputFails-open a b result failed marks rose = (marks ∙ failed, rose)
+
+-- writes, prints and complaints keep a failure of the input
+pub InputFails-writes : (a b c : Faults) → InputFails a b → KeepsAllButWrites b c → InputFails a c
+InputFails-writes a b c fails same = subst (InputFails a) (sym same) fails
+
+pub InputFails-complaints : (a b c : Faults) → InputFails a b → KeepsAllButComplaints b c → InputFails a c
+InputFails-complaints a b c fails same = subst (InputFails a) (sym same) fails
+
 pub KeepsAllButReads-trans : (a b c : Faults) → KeepsAllButReads a b → KeepsAllButReads b c → KeepsAllButReads a c
-KeepsAllButReads-trans a b c p q = q ∙ ap {A = Faults} (λ f. record f { reads = c.reads }) p
+KeepsAllButReads-trans a b c p q = q ∙ ap {A = Faults} (λ f. record f { reads = c.reads; input_failed = c.input_failed }) p
 
 pub KeepsAllButWrites-trans : (a b c : Faults) → KeepsAllButWrites a b → KeepsAllButWrites b c → KeepsAllButWrites a c
 KeepsAllButWrites-trans a b c p q = q ∙ ap {A = Faults} (λ f. record f { writes = c.writes }) p

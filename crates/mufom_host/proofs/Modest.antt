@@ -4,7 +4,7 @@ use Rattle.std.proofs.Common.{arith, length-append}
 use Rattle.std.specs.List.{sum_by}
 use Rattle.std.proofs.lemmas.List.Sums.{sum_by-cons}
 use Rattle.std.proofs.lemmas.Bool.{le-ltb}
-use Rattle.mufom_host.specs.World.{NamedFile, optional, with_bytes}
+use Rattle.mufom_host.specs.World.{NamedFile, Faults, optional, with_bytes}
 use Rattle.mufom_host.specs.Kept.{name_weight, names_with, is_listed, bytes_after, has_any, passes_file}
 use Rattle.mufom_host.specs.Memory.{Memory, fresh, read_called, write_called}
 use Rattle.mufom_host.specs.Script.{Call, reads, opens, writes, creates, finishes, prints, complains, after_call, after_calls, opened_by, created_by}
@@ -34,6 +34,7 @@ record IsReady (m : Memory) (calls : List Call) (opened_names created_names : Li
   printed : length m.out + sum_by printed_by calls ≤ m.room
   complained : length m.err + sum_by complained_by calls ≤ m.room
   one : Begun m.making m.made (sum_by begun_by calls)
+  unmarked : m.faults.input_failed ≡ false
 
 -- after a call the host has counted no further errors and is ready for the calls that follow
 record Step (m : Memory) (call : Call) (calls : List Call) : Type 0 where
@@ -73,12 +74,13 @@ Begun-create : {making : Option NamedFile} {made : List NamedFile} {count : ℕ}
 Begun-create (unbegun h) n e = (refl, omega (arith, h, e))
 Begun-create begun n e = absurd (omega (arith, e))
 
--- what a call leaves unchanged
+-- what a call leaves (same_host refl refl refl refl refl)
 record IsSameHost (m next : Memory) : Type 0 where
   files : next.files ≡ m.files
   room : next.room ≡ m.room
   reads : next.fail_reads ≡ m.fail_reads
   writes : next.fail_writes ≡ m.fail_writes
+  faults : next.faults ≡ m.faults
 
 -- what a call adds to the names, the file that is made and both outputs is within its room
 record AddsLittle (m next : Memory) (call : Call) (o c opened_names created_names : List (List ℕ)) : Type 0 where
@@ -105,11 +107,18 @@ ready-next m next call calls o c opened_names created_names r same adds opened_k
   printed = omega (arith, same.room, adds.printed, less printed_by call calls (length m.out) m.room r.printed);
   complained = omega (arith, same.room, adds.complained, less complained_by call calls (length m.err) m.room r.complained);
   one = one;
+  unmarked = ap {A = Faults} (λ f. f.input_failed) same.faults ∙ r.unmarked;
 }
 
 same_host : {m next : Memory} → next.files ≡ m.files → next.room ≡ m.room → next.fail_reads ≡ m.fail_reads → next.fail_writes ≡ m.fail_writes
-    → IsSameHost m next
-same_host files room no_reads no_writes = record { files = files; room = room; reads = no_reads; writes = no_writes }
+    → next.faults ≡ m.faults → IsSameHost m next
+same_host files room no_reads no_writes no_faults = record {
+  files = files;
+  room = room;
+  reads = no_reads;
+  writes = no_writes;
+  faults = no_faults;
+}
 
 module _ (m : Memory) (calls : List Call) (o c : List (List ℕ)) where
   read_step : (size : ℕ) → IsReady m (reads size ∷ calls) o c → Step m (reads size) calls
@@ -129,7 +138,7 @@ module _ (m : Memory) (calls : List Call) (o c : List (List ℕ)) where
         faults = refl;
         opened_names = o;
         created_names = c;
-        ready = ready-next m next (reads size) calls o c o c r (same_host refl refl refl refl) adds r.opened_known r.created_known r.one;
+        ready = ready-next m next (reads size) calls o c o c r (same_host refl refl refl refl refl) adds r.opened_known r.created_known r.one;
       }
 
   open_step : (name : List ℕ) → IsReady m (opens name ∷ calls) o c → Step m (opens name) calls
@@ -137,16 +146,22 @@ module _ (m : Memory) (calls : List Call) (o c : List (List ℕ)) where
       let fits = names_with-fits m.room o name (omega (arith, less opened_by (opens name) calls (name_weight o) m.room r.opened)) in
       let weight = name_weight-push o name in
       let known : names_with m.room m.opened name ≡ Some (o ++ name ∷ []) = rw r.opened_known fits in
-      let next = record (read_called m) { opened = names_with m.room m.opened name; left = bytes_after name m.files m.left } in
+      let next = record (read_called m) {
+        opened = names_with m.room m.opened name;
+        left = bytes_after name m.files m.left;
+        faults = record m.faults { input_failed = false };
+      } in
+      let unmarked : record m.faults { input_failed = false } ≡ m.faults = ap (λ b. record m.faults { input_failed = b }) (sym r.unmarked) in
       let adds : AddsLittle m next (opens name) o c (o ++ name ∷ []) c =
       record { opened = omega (arith, weight); created = omega arith; written = omega arith; printed = omega arith; complained = omega arith } in
       record {
         next = next;
         is_next = rw (unlisted m.read_number m.fail_reads r.reads_pass, known, r.there.0) refl;
-        faults = refl;
+        faults = unmarked;
         opened_names = o ++ name ∷ [];
         created_names = c;
-        ready = ready-next m next (opens name) calls o c (o ++ name ∷ []) c r (same_host refl refl refl refl) adds known r.created_known r.one;
+        ready = ready-next m next (opens name) calls o c (o ++ name ∷ []) c r
+            (same_host refl refl refl refl unmarked) adds known r.created_known r.one;
       }
 
   write_step : (chunk : List ℕ) → IsReady m (writes chunk ∷ calls) o c → Step m (writes chunk) calls
@@ -166,7 +181,8 @@ module _ (m : Memory) (calls : List Call) (o c : List (List ℕ)) where
         faults = refl;
         opened_names = o;
         created_names = c;
-        ready = ready-next m next (writes chunk) calls o c o c r (same_host refl refl refl refl) adds r.opened_known r.created_known (Begun-write chunk r.one);
+        ready = ready-next m next (writes chunk) calls o c o c r
+            (same_host refl refl refl refl refl) adds r.opened_known r.created_known (Begun-write chunk r.one);
       }
 
   finish_step : IsReady m (finishes ∷ calls) o c → Step m finishes calls
@@ -186,7 +202,8 @@ module _ (m : Memory) (calls : List Call) (o c : List (List ℕ)) where
         faults = refl;
         opened_names = o;
         created_names = c;
-        ready = ready-next m next finishes calls o c o c r (same_host refl refl refl refl) adds r.opened_known r.created_known (Begun-finish r.one);
+        ready = ready-next m next finishes calls o c o c r
+            (same_host refl refl refl refl refl) adds r.opened_known r.created_known (Begun-finish r.one);
       }
 
   print_step : (text : List ℕ) → IsReady m (prints text ∷ calls) o c → Step m (prints text) calls
@@ -208,7 +225,7 @@ module _ (m : Memory) (calls : List Call) (o c : List (List ℕ)) where
         faults = refl;
         opened_names = o;
         created_names = c;
-        ready = ready-next m next (prints text) calls o c o c r (same_host refl refl refl refl) adds r.opened_known r.created_known r.one;
+        ready = ready-next m next (prints text) calls o c o c r (same_host refl refl refl refl refl) adds r.opened_known r.created_known r.one;
       }
 
   complain_step : (text : List ℕ) → IsReady m (complains text ∷ calls) o c → Step m (complains text) calls
@@ -230,7 +247,7 @@ module _ (m : Memory) (calls : List Call) (o c : List (List ℕ)) where
         faults = refl;
         opened_names = o;
         created_names = c;
-        ready = ready-next m next (complains text) calls o c o c r (same_host refl refl refl refl) adds r.opened_known r.created_known r.one;
+        ready = ready-next m next (complains text) calls o c o c r (same_host refl refl refl refl refl) adds r.opened_known r.created_known r.one;
       }
 
   create_step : (name : List ℕ) → IsReady m (creates name ∷ calls) o c → Step m (creates name) calls
@@ -249,7 +266,8 @@ module _ (m : Memory) (calls : List Call) (o c : List (List ℕ)) where
         faults = refl;
         opened_names = o;
         created_names = c ++ name ∷ [];
-        ready = ready-next m next (creates name) calls o c o (c ++ name ∷ []) r (same_host refl refl refl refl) adds r.opened_known known (rw first.1 begun);
+        ready = ready-next m next (creates name) calls o c o (c ++ name ∷ []) r
+            (same_host refl refl refl refl refl) adds r.opened_known known (rw first.1 begun);
       }
 
 step : (m : Memory) (call : Call) (calls : List Call) (o c : List (List ℕ)) → IsReady m (call ∷ calls) o c → Step m call calls
@@ -268,7 +286,7 @@ ready_calls (call ∷ calls) m o c r =
     ap (λ next. (after_calls next calls).faults) s.is_next ∙ (ready_calls calls s.next s.opened_names s.created_names s.ready ∙ s.faults)
 
 pub modest : (files : List NamedFile) (room : ℕ) (calls : List Call) → IsModest files room calls
-    → (after_calls (fresh files [] [] room) calls).faults ≡ record { reads = 0; writes = 0; complaints = 0 }
+    → (after_calls (fresh files [] [] room) calls).faults ≡ record { reads = 0; writes = 0; complaints = 0; input_failed = false }
 modest files room calls q = ready_calls calls (fresh files [] [] room) [] [] record {
   reads_pass = refl;
   writes_pass = refl;
@@ -281,4 +299,5 @@ modest files room calls q = ready_calls calls (fresh files [] [] room) [] [] rec
   printed = omega (arith, q.printed);
   complained = omega (arith, q.complained);
   one = unbegun q.one;
+  unmarked = refl;
 }

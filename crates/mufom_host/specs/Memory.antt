@@ -1,5 +1,5 @@
 -- The host in memory: its state, exactly which of its calls fail, and its state after each call.
-use Rattle.std.specs.Prelude.{ℕ, ◌+◌, min, nat_lt, Bool, not, ◌||◌, if◌then◌else◌, List, [], ◌++◌, length, drop, Option, Some, None, is_some}
+use Rattle.std.specs.Prelude.{ℕ, ◌+◌, min, nat_lt, Bool, true, false, not, ◌||◌, if◌then◌else◌, List, [], ◌++◌, length, drop, Option, Some, None, is_some}
 use Rattle.mufom_host.specs.World.{NamedFile, Meaning, Faults, one_more, optional, with_bytes}
 use Rattle.mufom_host.specs.declared.cause.Cause.{Cause}
 use Rattle.mufom_host.specs.declared.cause.Cause.TheVariants as cause
@@ -41,7 +41,7 @@ fresh files fail_reads fail_writes room = record {
   opened = Some [];
   created = Some [];
   room = room;
-  faults = record { reads = 0; writes = 0; complaints = 0 };
+  faults = record { reads = 0; writes = 0; complaints = 0; input_failed = false };
   fail_reads = fail_reads;
   fail_writes = fail_writes;
   read_number = 0;
@@ -74,7 +74,11 @@ abbrev pub write_called : Memory → Memory
 write_called m = record m { write_number = one_more m.write_number }
 
 abbrev pub read_failed : Memory → Memory
-read_failed m = record m { read_number = one_more m.read_number; faults = record m.faults { reads = one_more m.faults.reads }; cause = cause.Unknown }
+read_failed m = record m {
+  read_number = one_more m.read_number;
+  faults = record m.faults { reads = one_more m.faults.reads; input_failed = true };
+  cause = cause.Unknown;
+}
 
 abbrev pub write_failed : Memory → Memory
 write_failed m = record m { write_number = one_more m.write_number; faults = record m.faults { writes = one_more m.faults.writes }; cause = cause.Unknown }
@@ -110,7 +114,11 @@ abbrev pub after_open : Memory → List ℕ → Memory
 after_open m name =
     if open_fails m name
     then record (read_failed m) { opened = names_with m.room m.opened name; cause = open_cause m name }
-    else record (read_called m) { opened = names_with m.room m.opened name; left = bytes_after name m.files m.left }
+    else record (read_called m) {
+      opened = names_with m.room m.opened name;
+      left = bytes_after name m.files m.left;
+      faults = record m.faults { input_failed = false };
+    }
 
 -- the call is listed to fail, or the file being made has no room for the chunk
 abbrev pub write_fails : Memory → List ℕ → Bool

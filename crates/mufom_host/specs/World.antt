@@ -1,6 +1,6 @@
 -- The state of the outside world, as far as a host reveals it, and the effect of each call on it.
 use Rattle.std.specs.Prelude.{◌≡◌, ◌⊎◌, ℕ, ◌+◌, ◌-◌, ◌^◌, ◌<◌, ◌≤◌, min, List, [], ◌∷◌, ◌++◌, length, take, drop, Option, Some, None, Result, Ok, Err}
-use Rattle.std.specs.Prelude.{OnOk, OnErr, IfOk, IfSome, IsSome, OnSome, option_map, find}
+use Rattle.std.specs.Prelude.{Bool, true, is_err, OnOk, OnErr, IfOk, IfSome, IsSome, OnSome, option_map, find}
 use Rattle.std.specs.Str.{bytes_eq}
 use Rattle.mufom_numbers.specs.Spelling.{AreBytes}
 use Rattle.mufom_host.specs.declared.world.Failed.{Failed}
@@ -42,11 +42,13 @@ pub record RevealsTogether (meaning : Meaning) : Type 0 where
   pub making : IsSome meaning.made → IsSome meaning.making
   pub bytes : IfSome meaning.files HoldBytes
 
--- the number of failed calls of each kind: open and read; create, write, finish and print; prints of error lines
+-- the number of failed calls of each kind (open and read; create, write, finish and print; prints of error lines), and the failure of the input
 pub record Faults : Type 0 where
   pub reads : ℕ
   pub writes : ℕ
   pub complaints : ℕ
+  -- a call on the input that was opened last failed: its open, or a read since
+  pub input_failed : Bool
 
 -- one more than a counter's value, but at most 2^64 - 1
 abbrev pub one_more : ℕ → ℕ
@@ -61,10 +63,23 @@ pub record HasCause {T : Type 0} (before now : ℕ) (result : Result T Failed) :
   pub later : before ≤ now
   pub failed : OnErr result (Rose before now)
 
+-- a call on the input that was opened last failed, and the count of failed opens and reads rose
+abbrev pub InputFails : Faults → Faults → Type 0
+InputFails before now = (now.input_failed ≡ true) × Rose before.reads now.reads
+
+-- a read that fails marks the input as failed, and one that succeeds leaves the mark
+abbrev pub ReadMarks : Faults → Faults → Result ℕ Failed → Type 0
+ReadMarks before now (Ok n) = now.input_failed ≡ before.input_failed
+ReadMarks before now (Err e) = now.input_failed ≡ true
+
+-- after an open, the input is marked as failed if the open failed, and otherwise it is not
+abbrev pub OpenMarks : Faults → Result (Unit {0}) Failed → Type 0
+OpenMarks now result = now.input_failed ≡ is_err result
+
 -- ---- which counts stay
 
 abbrev pub KeepsAllButReads : Faults → Faults → Type 0
-KeepsAllButReads old new = new ≡ record old { reads = new.reads }
+KeepsAllButReads old new = new ≡ record old { reads = new.reads; input_failed = new.input_failed }
 
 abbrev pub KeepsAllButWrites : Faults → Faults → Type 0
 KeepsAllButWrites old new = new ≡ record old { writes = new.writes }

@@ -6,10 +6,10 @@ mod files;
 mod names;
 mod output;
 
-ghost use Rattle.std.specs.Prelude.{◌≡◌, ◌≤◌, ◌||◌, min, length, IfOk, is_err, option_map};
+ghost use Rattle.std.specs.Prelude.{◌≡◌, ◌≤◌, ◌||◌, true, min, length, IfOk, is_err, option_map};
 ghost use Rattle.mufom_host.specs.World.{one_more, optional, HasCause, AtMost, Reads, Opens, Writes, Creates, Finishes, Grows, KeepsAllButLeft};
 ghost use Rattle.mufom_host.specs.World.{KeepsAllButOpened, KeepsAllButMaking, KeepsAllButCreated, KeepsAllButMade, KeepsAllButOut, KeepsAllButErr};
-ghost use Rattle.mufom_host.specs.World.{KeepsAllButReads, KeepsAllButWrites, KeepsAllButComplaints};
+ghost use Rattle.mufom_host.specs.World.{KeepsAllButReads, KeepsAllButWrites, KeepsAllButComplaints, ReadMarks, OpenMarks};
 ghost use Rattle.mufom_host.specs.Memory.{memory_meaning, memory_faults, fresh, is_failing_read, is_failing_write, after_read, open_fails};
 ghost use Rattle.mufom_host.specs.Memory.{after_open, write_fails, after_write, create_fails, after_create, after_finish, passes, after_print};
 ghost use Rattle.mufom_host.specs.Memory.{after_complain};
@@ -36,9 +36,9 @@ use std::marker::Model;
 /// - it opens a name that no file has, or
 /// - it is a `create` after a file was finished.
 ///
-/// Besides the counter of calls, a failed call changes only its count of errors and, for `open` and
-/// `create`, the list of names. Once a name exceeds the room, that list is no longer known, and each
-/// later call of that kind fails.
+/// Besides the counter of calls, a failed call changes only its count of errors, for `open` and `read` also
+/// whether the input failed, and for `open` and `create` the list of names. Once a name exceeds the room, that
+/// list is no longer known, and each later call of that kind fails.
 pub struct MemHost {
     files: Files,
     output: Output,
@@ -134,7 +134,10 @@ impl MemHost {
 
     // Counts a failed open or read, and keeps its cause.
     fn read_failed(&mut self, cause: Cause) -> Failed
-        ensures after { self.new ≡ record self.old { faults = record self.old.faults { reads = one_more self.old.faults.reads }; cause = cause } }
+        ensures after { self.new ≡ record self.old {
+          faults = record self.old.faults { reads = one_more self.old.faults.reads; input_failed = true };
+          cause = cause;
+        } }
         ensures later { self.old.faults.reads ≤ self.new.faults.reads }
     {
         self.cause = cause;
@@ -200,6 +203,7 @@ impl Source for MemHost {
         ensures bytes { Reads (memory_meaning self.old).left (memory_meaning self.new).left result buffer.new }
         ensures stays { KeepsAllButLeft (memory_meaning self.old) (memory_meaning self.new) }
         ensures cause { HasCause (memory_faults self.old).reads (memory_faults self.new).reads result }
+        ensures input { ReadMarks (memory_faults self.old) (memory_faults self.new) result }
         ensures counts { KeepsAllButReads (memory_faults self.old) (memory_faults self.new) }
 
         // Exactly which calls fail, and the state after each.
@@ -240,6 +244,7 @@ impl Host for MemHost {
         ensures opens { Opens (memory_meaning self.old) (memory_meaning self.new) result name.now }
         ensures stays { KeepsAllButOpened (memory_meaning self.old) (memory_meaning self.new) }
         ensures cause { HasCause (memory_faults self.old).reads (memory_faults self.new).reads result }
+        ensures input { OpenMarks (memory_faults self.new) result }
         ensures counts { KeepsAllButReads (memory_faults self.old) (memory_faults self.new) }
 
         // Exactly which calls fail, and the state after each.
@@ -255,6 +260,7 @@ impl Host for MemHost {
             return Err(self.read_failed(Cause::Unknown));
         }
         let _ = self.files.open(name);
+        self.counts.input_opened();
         Ok(())
     }
 

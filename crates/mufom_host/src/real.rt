@@ -1,6 +1,6 @@
 //! The host of the program: files, standard output and standard error of the system.
 
-ghost use Rattle.std.specs.Prelude.{◌≡◌};
+ghost use Rattle.std.specs.Prelude.{◌≡◌, false};
 
 use crate::counts::Counts;
 use crate::streams::{Making, NotWritten, cause_of, pass_on, take_from};
@@ -53,7 +53,7 @@ impl World for RealHost {
 impl RealHost {
     /// A host that has opened no file and counted no errors, over main's access to the system.
     pub fn new(rt: HostRuntime) -> RealHost
-        ensures { result ≡ record { reads = 0; writes = 0; complaints = 0 } }
+        ensures { result ≡ record { reads = 0; writes = 0; complaints = 0; input_failed = false } }
     {
         RealHost {
             rt,
@@ -97,6 +97,7 @@ impl Host for RealHost {
         match fs::open(&self.rt, name) {
             Ok(file) => {
                 self.input = Some(file);
+                self.counts.input_opened();
                 Ok(())
             }
             Err(error) => {

@@ -3,7 +3,7 @@
 ghost use Rattle.std.specs.Prelude.{length};
 ghost use Rattle.mufom_host.specs.World.{Meaning, Faults, RevealsTogether, HasCause, AtMost, Reads, Opens, Writes, Creates, Finishes, Grows};
 ghost use Rattle.mufom_host.specs.World.{WritesAll, KeepsAllButLeft, KeepsAllButOpened, KeepsAllButMaking, KeepsAllButCreated, KeepsAllButMade};
-ghost use Rattle.mufom_host.specs.World.{KeepsAllButOut, KeepsAllButErr, KeepsAllButReads, KeepsAllButWrites, KeepsAllButComplaints};
+ghost use Rattle.mufom_host.specs.World.{KeepsAllButOut, KeepsAllButErr, KeepsAllButReads, KeepsAllButWrites, KeepsAllButComplaints, ReadMarks, OpenMarks};
 
 use crate::Cause;
 use thiserror::Error;
@@ -20,7 +20,8 @@ pub struct Failed;
 /// after `Ok` and after `Failed`. A part that is known stays known, with one exception: the names of
 /// files may become unknown after a failed [`open`](Host::open) or [`create`](Host::create). Files that
 /// are known hold bytes. The counts never fall; a count at the greatest `u64` can't rise, and counts as
-/// risen all the same.
+/// risen all the same. Besides the counts, the faults tell whether a call on the input that was opened last
+/// failed: its open, or a read since. Only opens and reads change that.
 pub trait World {
     ghost meaning: { Self → Meaning };
 
@@ -40,6 +41,7 @@ pub trait Source: World {
         ensures bytes { Reads (Self.meaning self.old).left (Self.meaning self.new).left result buffer.new }
         ensures stays { KeepsAllButLeft (Self.meaning self.old) (Self.meaning self.new) }
         ensures cause { HasCause (Self.faults self.old).reads (Self.faults self.new).reads result }
+        ensures input { ReadMarks (Self.faults self.old) (Self.faults self.new) result }
         ensures counts { KeepsAllButReads (Self.faults self.old) (Self.faults self.new) };
 }
 
@@ -67,6 +69,7 @@ pub trait Host: Source + Sink {
         ensures opens { Opens (Self.meaning self.old) (Self.meaning self.new) result name.now }
         ensures stays { KeepsAllButOpened (Self.meaning self.old) (Self.meaning self.new) }
         ensures cause { HasCause (Self.faults self.old).reads (Self.faults self.new).reads result }
+        ensures input { OpenMarks (Self.faults self.new) result }
         ensures counts { KeepsAllButReads (Self.faults self.old) (Self.faults self.new) };
 
     /// Starts to make a file with this name and no bytes, in place of one that was not finished.

@@ -1,7 +1,7 @@
 //! Reads the modules of a file from a source, such as an open file.
 
 ghost use Rattle.std.specs.Prelude.{◌≡◌, ◌+◌, ◌*◌, ◌<◌, ◌≤◌, ◌++◌, ℕ, List, [], length, take, Option, Err, IfErr, IfOk, IfSome, OnOk};
-ghost use Rattle.mufom_host.specs.World.{OnlyReads, ReadsOff, Rose};
+ghost use Rattle.mufom_host.specs.World.{InputFails, OnlyReads, ReadsOff};
 ghost use Rattle.std.specs.List.{sum_by};
 ghost use Rattle.mufom_module.specs.Grammar.{file_limit};
 ghost use Rattle.mufom_module.specs.Written.{weight};
@@ -37,7 +37,7 @@ fn read_some<S: Source>(source: &mut S, buffer: &mut [u8]) -> Result<usize, Memb
     ensures none { IfOk result (λ n. n ≡ 0 → IfSome (S.meaning source.old).left (λ left. left ≡ [])) }
     ensures failed { IfErr result (λ s. s ≡ MembersStop.Fault) }
     ensures same { length buffer.new ≡ length buffer.old }
-    ensures fault { result ≡ Err MembersStop.Fault → Rose (S.faults source.old).reads (S.faults source.new).reads }
+    ensures fault { result ≡ Err MembersStop.Fault → InputFails (S.faults source.old) (S.faults source.new) }
     ensures only { OnlyReads (S.meaning source.old) (S.meaning source.new) (S.faults source.old) (S.faults source.new) }
 {
     match source.read(buffer) {
@@ -58,7 +58,7 @@ fn read_head<S: Source>(
     ensures short { OnOk result (length head.new.items < 8 → IfSome (S.meaning source.old).left (λ left. left ≡ head.new.items)) }
     ensures failed { IfErr result SaysNothing }
     ensures same { length buffer.new ≡ length buffer.old }
-    ensures fault { result ≡ Err MembersStop.Fault → Rose (S.faults source.old).reads (S.faults source.new).reads }
+    ensures fault { result ≡ Err MembersStop.Fault → InputFails (S.faults source.old) (S.faults source.new) }
     ensures only { OnlyReads (S.meaning source.old) (S.meaning source.new) (S.faults source.old) (S.faults source.new) }
 {
     while head.len() < SIGNATURE {
@@ -90,7 +90,7 @@ fn read_chunk<S: Source>(
         → HasReadChunk (kind_of content.old) room (S.meaning source.old).left (S.meaning source.new).left stream content.new result }
     ensures kind { kind_of content.new ≡ kind_of content.old }
     ensures same { length buffer.new ≡ length buffer.old }
-    ensures fault { result ≡ Err MembersStop.Fault → Rose (S.faults source.old).reads (S.faults source.new).reads }
+    ensures fault { result ≡ Err MembersStop.Fault → InputFails (S.faults source.old) (S.faults source.new) }
     ensures only { OnlyReads (S.meaning source.old) (S.meaning source.new) (S.faults source.old) (S.faults source.new) }
 {
     let count = match read_some(source, buffer) {
@@ -119,7 +119,7 @@ fn read_rest<S: Source>(
     requires begun { HasReadOf content.old head.now }
     ensures read { HasReadRest (kind_of content.old) limit (S.meaning source.old).left (S.meaning source.new).left head.now content.new result }
     ensures kind { kind_of content.new ≡ kind_of content.old }
-    ensures fault { result ≡ Err MembersStop.Fault → Rose (S.faults source.old).reads (S.faults source.new).reads }
+    ensures fault { result ≡ Err MembersStop.Fault → InputFails (S.faults source.old) (S.faults source.new) }
     ensures only { OnlyReads (S.meaning source.old) (S.meaning source.new) (S.faults source.old) (S.faults source.new) }
 {
     let mut size = head.len() as u64;
@@ -150,7 +150,7 @@ fn read_after<S: Source>(
     ensures reads { (before : Option (List ℕ)) → ReadsOff before (S.meaning source.old).left head.now
         → (length head.now < 8 → IfSome before (λ left. left ≡ head.now)) → ReadsMembers options limit before (S.meaning source.new).left result }
     ensures weighs { IfOk result (λ members. (sum_by weight members.modules ≤ 10 * members.length) × (members.length ≤ limit)) }
-    ensures fault { result ≡ Err MembersStop.Fault → Rose (S.faults source.old).reads (S.faults source.new).reads }
+    ensures fault { result ≡ Err MembersStop.Fault → InputFails (S.faults source.old) (S.faults source.new) }
     ensures only { OnlyReads (S.meaning source.old) (S.meaning source.new) (S.faults source.old) (S.faults source.new) }
 {
     let mut content = match Content::new(alloc, is_archive(head), options) {
@@ -188,7 +188,7 @@ pub fn read_members<S: Source>(
     ensures reads { ReadsMembers options limit (S.meaning source.old).left (S.meaning source.new).left result }
     // This holds even if the source does not reveal what it has left.
     ensures weighs { IfOk result (λ members. (sum_by weight members.modules ≤ 10 * members.length) × (members.length ≤ limit)) }
-    ensures fault { result ≡ Err MembersStop.Fault → Rose (S.faults source.old).reads (S.faults source.new).reads }
+    ensures fault { result ≡ Err MembersStop.Fault → InputFails (S.faults source.old) (S.faults source.new) }
     ensures only { OnlyReads (S.meaning source.old) (S.meaning source.new) (S.faults source.old) (S.faults source.new) }
 {
     let Ok(mut buffer) = vec![in alloc; 0u8; BUFFER] else {

@@ -2,7 +2,7 @@
 
 ghost use Rattle.std.specs.Prelude.{◌≡◌, ◌≢◌, ◌↔◌, ◌<◌, ◌≤◌, ◌*◌, ℕ, List, [], length, take, Some, Err, IfOk, IfSome};
 ghost use Rattle.mufom_numbers.specs.declared.reason.Reason.{Reason};
-ghost use Rattle.mufom_host.specs.World.{OnlyReads, Rose};
+ghost use Rattle.mufom_host.specs.World.{OnlyReads, InputFails};
 ghost use Rattle.mufom_module.specs.Grammar.{file_limit};
 ghost use Rattle.mufom_module.specs.Written.{weight};
 ghost use Rattle.mufom_judging.specs.Judging.{IsModule};
@@ -81,7 +81,7 @@ fn read_chunk<S: Source>(
         → HasReadChunk room (S.meaning source.old).left (S.meaning source.new).left stream reader.new result }
     ensures taken { ReadsAtMost (length buffer.old) (S.meaning source.old).left (S.meaning source.new).left }
     ensures options { options_of reader.new ≡ options_of reader.old }
-    ensures fault { result ≡ Err SourceStop.Fault → Rose (S.faults source.old).reads (S.faults source.new).reads }
+    ensures fault { result ≡ Err SourceStop.Fault → InputFails (S.faults source.old) (S.faults source.new) }
     ensures only { OnlyReads (S.meaning source.old) (S.meaning source.new) (S.faults source.old) (S.faults source.new) }
 {
     match source.read(buffer) {
@@ -105,7 +105,7 @@ fn read_all<S: Source>(
     ensures read { HasReadAll limit (S.meaning source.old).left (S.meaning source.new).left reader.new result }
     ensures further { ReadsNoFurther (options_of reader.old) limit (S.meaning source.old).left (S.meaning source.new).left }
     ensures options { options_of reader.new ≡ options_of reader.old }
-    ensures fault { result ≡ Err SourceStop.Fault → Rose (S.faults source.old).reads (S.faults source.new).reads }
+    ensures fault { result ≡ Err SourceStop.Fault → InputFails (S.faults source.old) (S.faults source.new) }
     ensures only { OnlyReads (S.meaning source.old) (S.meaning source.new) (S.faults source.old) (S.faults source.new) }
 {
     let mut length = 0;
@@ -145,7 +145,7 @@ pub fn read_module<S: Source>(
     // Whatever is returned: the chunks before the last one are within the limit and contain no error, and what is left
     // follows the last one.
     ensures further { ReadsNoFurther options limit (S.meaning source.old).left (S.meaning source.new).left }
-    ensures fault { result ≡ Err SourceStop.Fault → Rose (S.faults source.old).reads (S.faults source.new).reads }
+    ensures fault { result ≡ Err SourceStop.Fault → InputFails (S.faults source.old) (S.faults source.new) }
     ensures only { OnlyReads (S.meaning source.old) (S.meaning source.new) (S.faults source.old) (S.faults source.new) }
 {
     let Ok(mut buffer) = vec![in alloc; 0u8; BUFFER] else {

@@ -6,7 +6,8 @@ use Rattle.std.proofs.lemmas.List.{append-nil, drop_more, length-append, length-
 use Rattle.std.proofs.lemmas.List.{take_all, take_more}
 use Rattle.std.proofs.lemmas.List.Sums.{sum_by-append}
 use Rattle.mufom_records.specs.declared.options.ReadOptions.{ReadOptions}
-use Rattle.mufom_host.specs.World.{Faults, Meaning, NamedFile, GrowsBy, KeepsAllButOpened, KeepsAllButReads, Rose, file_named}
+use Rattle.mufom_host.specs.World.{Faults, Meaning, NamedFile, GrowsBy, KeepsAllButOpened, KeepsAllButReads, file_named}
+use Rattle.mufom_host.proofs.Composing.{later-InputFails}
 use Rattle.mufom_module.specs.declared.module.Parts.{Parts}
 use Rattle.mufom_module.specs.Written.{weight}
 use Rattle.mufom_meaning.specs.Staging.{AreValid}
@@ -141,9 +142,6 @@ module _ (options : ReadOptions) (roots : ℕ) where
   pub room-more : (contents : List (List ℕ)) (bytes : List ℕ) → room_after (contents ++ bytes ∷ []) ≡ room_after contents - length bytes
   room-more contents bytes = let sum = sum-more options roots contents bytes in omega (arith, sum)
 
-  rose_since : (before between now : ℕ) → before ≤ between → Rose between now → Rose before now
-  rose_since before between now later rose = omega (arith, later, rose)
-
   -- ---- all files so far
 
   -- these files were accepted, with these modules, the files of these, and this room left
@@ -262,7 +260,7 @@ module _ (options : ReadOptions) (roots : ℕ) where
       opened = subst (λ (l : List (List ℕ)). GrowsBy old.opened new.opened l) (sym next)
           (grows_by_both old.opened mid.opened new.opened (take number names) (name ∷ []) so_far.opened opened);
       stays = stays ∙ ap (λ (m : Meaning). record m { left = new.left; opened = new.opened }) so_far.stays;
-      counts = counts ∙ ap (λ (f : Faults). record f { reads = now.reads }) so_far.counts;
+      counts = counts ∙ ap (λ (f : Faults). record f { reads = now.reads; input_failed = now.input_failed }) so_far.counts;
       later = let first = so_far.later in omega (arith, first, later);
       count = subst (λ (n : ℕ). HaveCounts roots (number + 1) n) (sym (length-append ms read.modules))
           (counts-more number (length ms) (length read.modules) so_far.count one);
@@ -324,7 +322,7 @@ module _ (options : ReadOptions) (roots : ℕ) where
     files_stop (outcome.Usage f) split why = absurd why
     files_stop (outcome.ReadFault input.Plan) split why = absurd why
     files_stop (outcome.ReadFault (input.File i)) split why =
-        (rose_since before.reads between.reads now.reads so_far.later why.1, accepted_before i old.files why.0 so_far.files)
+        (later-InputFails before between now so_far.later why.1, accepted_before i old.files why.0 so_far.files)
     files_stop outcome.WriteFault split why = absurd why
     files_stop outcome.NoMemory split why = tt
 

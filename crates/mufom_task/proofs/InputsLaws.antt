@@ -4,6 +4,7 @@ use Rattle.std.proofs.Common.{IsSome, OnSome}
 use Rattle.std.proofs.Common.{option_to_list, refl, sym, ap, subst, ◌∙◌, inl, inr, arith}
 use Rattle.std.proofs.lemmas.List.{append-nil, length-append}
 use Rattle.mufom_host.specs.World.{Faults, Meaning, NamedFile, GrowsBy, OnlyOpens}
+use Rattle.mufom_host.proofs.Composing.{later-InputFails}
 use Rattle.mufom_module.specs.declared.module.Parts.{Parts}
 use Rattle.mufom_plan.specs.declared.plan.Plan.{Plan}
 use Rattle.mufom_task.specs.declared.task.Inputs.{Inputs}
@@ -48,7 +49,7 @@ pub opens-trans : (old mid new : Meaning) (before between now : Faults) → Only
     → OnlyOpens old new before now
 opens-trans old mid new before between now (first, counts, later) (second, more, latest) = (
   second ∙ ap (λ (m : Meaning). record m { left = new.left; opened = new.opened }) first,
-  more ∙ ap (λ (f : Faults). record f { reads = now.reads }) counts,
+  more ∙ ap (λ (f : Faults). record f { reads = now.reads; input_failed = now.input_failed }) counts,
   omega (arith, later, latest),
 )
 
@@ -82,7 +83,7 @@ module _ (c : Inputs) (old mid : Meaning) (before between : Faults) (only : Only
     of_inputs = memory;
     cause = known-map (λ fs. plan_in fs c.plan (stops (plan_refused r))) (λ fs. inputs_in fs c (stops (plan_refused r))) old.files (λ fs is. inl is) why;
   }
-  plan-stops (outcome.ReadFault input.Plan) (named, rose) = (rose, named)
+  plan-stops (outcome.ReadFault input.Plan) (named, fails) = (fails, named)
   plan-stops (outcome.Refused (refusal.Bin count)) why = absurd why
   plan-stops (outcome.Refused (refusal.Keep kept)) why = absurd why
   plan-stops (outcome.Refused (refusal.SharedName shared)) why = absurd why
@@ -107,7 +108,7 @@ module _ (c : Inputs) (old mid : Meaning) (before between : Faults) (only : Only
 
   plan-count : (stop : Outcome) → PlanStops c.plan (call_between old mid before between) stop → IsOpenedCount c stop (length (option_to_list c.plan))
   plan-count (outcome.Refused (refusal.Plan r)) (named, memory, why) = some-plan c.plan named
-  plan-count (outcome.ReadFault input.Plan) (named, rose) = some-plan c.plan named
+  plan-count (outcome.ReadFault input.Plan) (named, fails) = some-plan c.plan named
   plan-count (outcome.ReadFault (input.File n)) why = absurd why
   plan-count (outcome.Refused (refusal.Bin count)) why = absurd why
   plan-count (outcome.Refused (refusal.Keep kept)) why = absurd why
@@ -234,8 +235,8 @@ module _ (c : Inputs) (old mid : Meaning) (before between : Faults) (only : Only
         record { stop = file_refused n r; is = refl; of_inputs = tt; cause = at-files (file_refused n r) why }
     files-stops (outcome.Refused (refusal.InputLimit n)) why opens =
         record { stop = past_limit n; is = refl; of_inputs = tt; cause = at-files (past_limit n) why }
-    files-stops (outcome.ReadFault (input.File n)) (rose, them) opens = (
-      (let same = ap (λ (f : Faults). f.reads) only.1 in let later = only.2 in omega (arith, rose, later)),
+    files-stops (outcome.ReadFault (input.File n)) (fails, them) opens = (
+      later-InputFails before between now only.2 fails,
       (
         (let exact = opens.exact in let within = opens.within in omega (arith, exact, within)),
         known-map (λ fs. plan_in fs c.plan (gives plan) × ((ms : List Parts) × ComeTo c.options (root_count c) fs (take n c.files) (accepted ms)))

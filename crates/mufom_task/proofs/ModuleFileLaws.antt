@@ -2,7 +2,8 @@
 use Rattle.std.proofs.Common.{◌≡◌, ℕ, ◌≤◌, true, false, List, [], ◌∷◌, length}
 use Rattle.std.proofs.Common.{Option, Some, None, IfSome, Ok, Err, refl, sym, subst, inl, inr, arith}
 use Rattle.mufom_records.specs.declared.options.ReadOptions.{ReadOptions}
-use Rattle.mufom_host.specs.World.{Faults, NamedFile, Rose, file_named}
+use Rattle.mufom_host.specs.World.{Faults, InputFails, NamedFile, file_named}
+use Rattle.mufom_host.proofs.Composing.{later-InputFails}
 use Rattle.mufom_module.specs.declared.module.Parts.{Parts}
 use Rattle.mufom_numbers.specs.declared.reason.Reason.TheVariants as why
 use Rattle.mufom_source.specs.declared.source.SourceStop.{SourceStop}
@@ -17,9 +18,6 @@ use Rattle.mufom_members.specs.Contents.{ReadsFile, ReadsMembers}
 use Rattle.mufom_task.specs.Inputs.{IsFilePast, IsFileRefused}
 use Rattle.mufom_task.specs.FilesRead.{FileHas, FileStops, HasFile, outcome_of_members_stop, outcome_of_source_stop}
 use Rattle.mufom_task.proofs.FileLaws.{verdict-fits, verdict-within}
-
-rose_since : (before between now : ℕ) → before ≤ between → Rose between now → Rose before now
-rose_since before between now later rose = omega (arith, later, rose)
 
 -- ---- what was left is what the file has
 
@@ -46,7 +44,7 @@ module _ (options : ReadOptions) (name : List ℕ) (number limit : ℕ) (files :
       )))
 
   pub root-stops : (before between now : Faults) (s : SourceStop) → ReadsModule options limit left after (Err s)
-      → (s ≡ source.Fault → Rose between.reads now.reads) → before.reads ≤ between.reads
+      → (s ≡ source.Fault → InputFails between now) → before.reads ≤ between.reads
       → FileStops options true name number limit files before now (outcome_of_source_stop number s)
   root-stops before between now (source.Refused r) reads cause later = (
     refl,
@@ -57,7 +55,7 @@ module _ (options : ReadOptions) (name : List ℕ) (number limit : ℕ) (files :
     refl,
     file-left name (λ bytes. IsPastLimit options limit bytes) (λ bytes. IsFilePast options true limit bytes) files left opened reads (λ bytes h. h),
   )
-  root-stops before between now source.Fault reads cause later = (refl, rose_since before.reads between.reads now.reads later (cause refl))
+  root-stops before between now source.Fault reads cause later = (refl, later-InputFails before between now later (cause refl))
   root-stops before between now source.NoMemory reads cause later = tt
 
   -- ---- a file of members
@@ -74,7 +72,7 @@ module _ (options : ReadOptions) (name : List ℕ) (number limit : ℕ) (files :
       ))
 
   pub members-stop : (before between now : Faults) (s : MembersStop) → ReadsMembers options limit left after (Err s)
-      → (s ≡ members_stop.Fault → Rose between.reads now.reads) → before.reads ≤ between.reads
+      → (s ≡ members_stop.Fault → InputFails between now) → before.reads ≤ between.reads
       → FileStops options false name number limit files before now (outcome_of_members_stop number s)
   members-stop before between now (members_stop.Refused r) reads cause later = (
     refl,
@@ -92,5 +90,5 @@ module _ (options : ReadOptions) (name : List ℕ) (number limit : ℕ) (files :
     file-left name (λ bytes. ReadsFile options limit bytes after (Err members_stop.Limit)) (λ bytes. IsFilePast options false limit bytes) files left
         opened reads (λ bytes h. h.0),
   )
-  members-stop before between now members_stop.Fault reads cause later = (refl, rose_since before.reads between.reads now.reads later (cause refl))
+  members-stop before between now members_stop.Fault reads cause later = (refl, later-InputFails before between now later (cause refl))
   members-stop before between now members_stop.NoMemory reads cause later = tt

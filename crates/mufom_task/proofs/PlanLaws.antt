@@ -3,7 +3,7 @@ use Rattle.std.proofs.Common.{◌≡◌, ◌⊎◌, ℕ, ◌<◌, List, [], ◌�
 use Rattle.std.proofs.Common.{◌∙◌, inl, inr, arith}
 use Rattle.std.proofs.lemmas.Bool.{lt-ltb}
 use Rattle.std.proofs.lemmas.List.{length-append}
-use Rattle.mufom_host.specs.World.{Faults, Meaning, NamedFile, GrowsBy, KeepsAllButLeft, Rose, file_named}
+use Rattle.mufom_host.specs.World.{Faults, Meaning, NamedFile, GrowsBy, InputFails, KeepsAllButLeft, file_named}
 use Rattle.mufom_plan.specs.declared.plan.Plan.{Plan}
 use Rattle.mufom_plan.specs.declared.refusal.PlanRefusal.{PlanRefusal}
 use Rattle.mufom_plan.specs.declared.refusal.PlanRefusal.TheVariants.{TooLong, Syntax}
@@ -158,14 +158,14 @@ module _ (name bytes : List ℕ) where
 
 -- an outcome of another kind needs no bytes
 pub keeps-unread : (name : Option (List ℕ)) (files : Option (List NamedFile)) (text : List ℕ) (before now : Faults) (stop : Outcome)
-    → ((stop ≡ outcome.ReadFault input.Plan) × Rose before.reads now.reads) ⊎ (stop ≡ outcome.NoMemory) → KeepsPlan name files text stop
-keeps-unread name files text before now stop (inl (is, rose)) = subst (λ (o : Outcome). KeepsPlan name files text o) (sym is) tt
+    → ((stop ≡ outcome.ReadFault input.Plan) × InputFails before now) ⊎ (stop ≡ outcome.NoMemory) → KeepsPlan name files text stop
+keeps-unread name files text before now stop (inl (is, fails)) = subst (λ (o : Outcome). KeepsPlan name files text o) (sym is) tt
 keeps-unread name files text before now stop (inr is) = subst (λ (o : Outcome). KeepsPlan name files text o) (sym is) tt
 
 -- the file was not read
 pub unread-plan : (name : List ℕ) (old new : Meaning) (before now : Faults) (stop : Outcome)
-    → ((stop ≡ outcome.ReadFault input.Plan) × Rose before.reads now.reads) ⊎ (stop ≡ outcome.NoMemory)
+    → ((stop ≡ outcome.ReadFault input.Plan) × InputFails before now) ⊎ (stop ≡ outcome.NoMemory)
     → PlanStops (Some name) (call_between old new before now) stop
-unread-plan name old new before now stop (inl (is, rose)) = subst (λ (o : Outcome). PlanStops (Some name) (call_between old new before now) o)
-    (sym is) (refl, rose)
+unread-plan name old new before now stop (inl (is, fails)) = subst (λ (o : Outcome). PlanStops (Some name) (call_between old new before now) o)
+    (sym is) (refl, fails)
 unread-plan name old new before now stop (inr is) = subst (λ (o : Outcome). PlanStops (Some name) (call_between old new before now) o) (sym is) tt

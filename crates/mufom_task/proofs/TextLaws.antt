@@ -5,7 +5,7 @@ use Rattle.std.proofs.lemmas.Bool.{lt-ltb, ltb-true}
 use Rattle.std.proofs.lemmas.List.{length-append}
 use Rattle.mufom_records.specs.declared.options.ReadOptions.{ReadOptions}
 use Rattle.mufom_numbers.specs.declared.limits.TheConstants.{MOST_FILE_BYTES}
-use Rattle.mufom_host.specs.World.{Faults, Meaning, NamedFile, GrowsBy, Rose}
+use Rattle.mufom_host.specs.World.{Faults, Meaning, NamedFile, GrowsBy, InputFails}
 use Rattle.mufom_module.specs.declared.module.Parts.{Parts}
 use Rattle.mufom_plan.specs.declared.plan.Plan.{Plan}
 use Rattle.mufom_meaning.specs.Absolute.{no_regions}
@@ -59,9 +59,10 @@ module _ (name bytes : List ℕ) where
 
 -- the file was not read
 pub text-unread : (name : List ℕ) (old new : Meaning) (before now : Faults) (stop : Outcome)
-    → ((stop ≡ outcome.ReadFault (input.File 0)) × Rose before.reads now.reads) ⊎ (stop ≡ outcome.NoMemory)
+    → ((stop ≡ outcome.ReadFault (input.File 0)) × InputFails before now) ⊎ (stop ≡ outcome.NoMemory)
     → TextStops name (call_between old new before now) stop
-text-unread name old new before now stop (inl (is, rose)) = subst (λ (o : Outcome). TextStops name (call_between old new before now) o) (sym is) (refl, rose)
+text-unread name old new before now stop (inl (is, fails)) = subst (λ (o : Outcome). TextStops name (call_between old new before now) o)
+    (sym is) (refl, fails)
 text-unread name old new before now stop (inr is) = subst (λ (o : Outcome). TextStops name (call_between old new before now) o) (sym is) tt
 
 -- ---- the inputs of the task
@@ -99,8 +100,8 @@ module _ (c : Inputs) (name : List ℕ) (no_plan : c.plan ≡ None) (one : c.fil
     of_inputs = tt;
     cause = subst (λ (names : List (List ℕ)). IfSome old.files (λ fs. text_in fs names (stops (past_limit 0)))) (sym one) why;
   }
-  reading-stops (outcome.ReadFault (input.File n)) (zero, rose) = (
-    rose,
+  reading-stops (outcome.ReadFault (input.File n)) (zero, fails) = (
+    fails,
     (
       (let count = ap (λ (l : List (List ℕ)). length l) one in omega (arith, zero, count)),
       to-all (λ (fs : List NamedFile). ((p : Plan) × plan_in fs c.plan (gives p))
@@ -128,7 +129,7 @@ module _ (c : Inputs) (name : List ℕ) (no_plan : c.plan ≡ None) (one : c.fil
 
   text-count : (stop : Outcome) → TextStops name call stop → IsOpenedCount c stop 1
   text-count (outcome.Refused (refusal.InputLimit n)) (zero, why) = omega (arith, zero, no-plan-count)
-  text-count (outcome.ReadFault (input.File n)) (zero, rose) = omega (arith, zero, no-plan-count)
+  text-count (outcome.ReadFault (input.File n)) (zero, fails) = omega (arith, zero, no-plan-count)
   text-count (outcome.ReadFault input.Plan) why = absurd why
   text-count (outcome.Refused (refusal.Read n r)) why = absurd why
   text-count (outcome.Refused (refusal.TooManyModules n)) why = absurd why

@@ -3,7 +3,7 @@ use Rattle.std.specs.Prelude.{◌≡◌, ℕ, ◌+◌, ◌<◌, ◌≤◌, Bool,
 use Rattle.mufom_records.specs.declared.options.ReadOptions.{ReadOptions}
 use Rattle.mufom_numbers.specs.declared.limits.TheConstants.{MOST_MODULES}
 use Rattle.mufom_numbers.specs.declared.reason.Reason.TheVariants as why
-use Rattle.mufom_host.specs.World.{NamedFile, Faults, GrowsBy, Rose, file_named}
+use Rattle.mufom_host.specs.World.{NamedFile, Faults, GrowsBy, InputFails, file_named}
 use Rattle.mufom_module.specs.declared.module.Parts.{Parts}
 use Rattle.mufom_source.specs.declared.source.SourceStop.{SourceStop}
 use Rattle.mufom_source.specs.declared.source.SourceStop.TheVariants as stop
@@ -61,7 +61,7 @@ FileStops options root name number limit files before now (outcome.Refused (refu
     (i ≡ number) × FileHas name files (λ bytes. IsFileRefused options root limit bytes r)
 FileStops options root name number limit files before now (outcome.Refused (refusal.InputLimit i)) =
     (i ≡ number) × FileHas name files (λ bytes. IsFilePast options root limit bytes)
-FileStops options root name number limit files before now (outcome.ReadFault (input.File i)) = (i ≡ number) × Rose before.reads now.reads
+FileStops options root name number limit files before now (outcome.ReadFault (input.File i)) = (i ≡ number) × InputFails before now
 FileStops options root name number limit files before now outcome.NoMemory = Unit {0}
 FileStops options root name number limit files before now _ = ⊥
 
@@ -74,7 +74,7 @@ FilesStop options roots names call (outcome.Refused (refusal.InputLimit n)) =
 FilesStop options roots names call (outcome.Refused (refusal.TooManyModules n)) =
     (MOST_MODULES < n) × IfSome call.old.files (λ files. (ms : List Parts) × ComeTo options roots files names (accepted ms) × (n ≡ length ms))
 FilesStop options roots names call (outcome.ReadFault (input.File n)) =
-    Rose call.before.reads call.now.reads
+    InputFails call.before call.now
     × IfSome call.old.files (λ files. (ms : List Parts) × ComeTo options roots files (take n names) (accepted ms))
 FilesStop options roots names call outcome.NoMemory = Unit {0}
 FilesStop options roots names call _ = ⊥

@@ -1,6 +1,6 @@
 -- The results of reading the inputs of a task: its plan and then the modules of its files, or its text.
 use Rattle.std.specs.Prelude.{◌≡◌, ◌≢◌, ◌⊎◌, ℕ, ◌<◌, List, [], ◌∷◌, ◌++◌, length, Option, Some, Result, Err, IfSome, IsSome, true}
-use Rattle.mufom_host.specs.World.{NamedFile, Rose}
+use Rattle.mufom_host.specs.World.{NamedFile, InputFails}
 use Rattle.mufom_module.specs.declared.module.Parts.{Parts}
 use Rattle.mufom_plan.specs.declared.plan.Plan.{Plan}
 use Rattle.mufom_plan.specs.declared.refusal.PlanRefusal.{PlanRefusal}
@@ -42,7 +42,7 @@ IsPlanAnswer plan _ = ⊥
 abbrev pub PlanStops : Option (List ℕ) → Call → Outcome → Type 0
 PlanStops name call (outcome.Refused (refusal.Plan r)) =
     IsSome name × (r ≢ plan_refusal.NoMemory) × IfSome call.old.files (λ files. plan_in files name (stops (plan_refused r)))
-PlanStops name call (outcome.ReadFault input.Plan) = IsSome name × Rose call.before.reads call.now.reads
+PlanStops name call (outcome.ReadFault input.Plan) = IsSome name × InputFails call.before call.now
 PlanStops name call outcome.NoMemory = Unit {0}
 PlanStops name call _ = ⊥
 
@@ -61,7 +61,7 @@ NamesPlan plan _ = Unit {0}
 -- Why inputs could not all be read; `reading` is the work of reading them.
 abbrev pub ReadingStops : {A : Type 0} → (List NamedFile → Work Stop A) → Inputs → Call → Outcome → Type 0
 ReadingStops reading inputs call (outcome.Refused r) = IsStopped true reading call.old.files (outcome.Refused r)
-ReadingStops reading inputs call (outcome.ReadFault at) = Rose call.before.reads call.now.reads × IsInputReached call.old.files inputs at
+ReadingStops reading inputs call (outcome.ReadFault at) = InputFails call.before call.now × IsInputReached call.old.files inputs at
 ReadingStops reading inputs call outcome.NoMemory = Unit {0}
 ReadingStops reading inputs call _ = ⊥
 
@@ -77,6 +77,6 @@ TextStop inputs call result = ReadingStops (λ files. text_in files inputs.files
 abbrev pub TextStops : List ℕ → Call → Outcome → Type 0
 TextStops name call (outcome.Refused (refusal.InputLimit n)) =
     (n ≡ 0) × IfSome call.old.files (λ files. text_in files (name ∷ []) (stops (past_limit 0)))
-TextStops name call (outcome.ReadFault (input.File n)) = (n ≡ 0) × Rose call.before.reads call.now.reads
+TextStops name call (outcome.ReadFault (input.File n)) = (n ≡ 0) × InputFails call.before call.now
 TextStops name call outcome.NoMemory = Unit {0}
 TextStops name call _ = ⊥

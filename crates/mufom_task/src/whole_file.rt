@@ -1,7 +1,7 @@
 //! Reads a whole file of a limited length.
 
 ghost use Rattle.std.specs.Prelude.{◌≡◌, ◌⊎◌, ◌<◌, ◌∷◌, ◌++◌, [], length, take, IfErr, IfOk, IfSome, OnOk, OnSome, Ok, Err};
-ghost use Rattle.mufom_host.specs.World.{GrowsBy, OnlyOpens, OnlyReads, Reads, Rose};
+ghost use Rattle.mufom_host.specs.World.{GrowsBy, InputFails, OnlyOpens, OnlyReads, Reads};
 ghost use Rattle.mufom_task.specs.FilesRead.{FileHas};
 ghost use Rattle.mufom_task.specs.InputsRead.{IsEnoughOf};
 
@@ -37,7 +37,7 @@ fn read_chunk<S: Source>(
 ) -> Result<usize, Halt>
     ensures added { IfOk result (λ n. bytes.new.items ≡ bytes.old.items ++ take n buffer.new) }
     ensures reads { IfOk result (λ n. Reads (S.meaning source.old).left (S.meaning source.new).left (Ok n) buffer.new) }
-    ensures cause { result ≡ Err Halt.Fault → Rose (S.faults source.old).reads (S.faults source.new).reads }
+    ensures cause { result ≡ Err Halt.Fault → InputFails (S.faults source.old) (S.faults source.new) }
     ensures only { OnlyReads (S.meaning source.old) (S.meaning source.new) (S.faults source.old) (S.faults source.new) }
 {
     match source.read(buffer) {
@@ -59,7 +59,7 @@ fn read_bytes<S: Source>(
     requires room { 0 < length buffer.old }
     requires none_before { bytes.old.items ≡ [] }
     ensures bytes { OnOk result (IfSome (S.meaning source.old).left (λ left. IsEnoughOf limit left bytes.new.items)) }
-    ensures cause { result ≡ Err Halt.Fault → Rose (S.faults source.old).reads (S.faults source.new).reads }
+    ensures cause { result ≡ Err Halt.Fault → InputFails (S.faults source.old) (S.faults source.new) }
     ensures only { OnlyReads (S.meaning source.old) (S.meaning source.new) (S.faults source.old) (S.faults source.new) }
 {
     while bytes.len() <= limit {
@@ -83,7 +83,7 @@ pub(crate) fn read_whole<H: Host>(
 ) -> Result<Vec<u8>, Outcome>
     ensures bytes { IfOk result (λ bytes. FileHas name.now (H.meaning host.old).files (λ all. IsEnoughOf limit all bytes.items)) }
     ensures stops { IfErr result (λ stop. ((stop ≡ Outcome.ReadFault input)
-        × Rose (H.faults host.old).reads (H.faults host.new).reads) ⊎ (stop ≡ Outcome.NoMemory)) }
+        × InputFails (H.faults host.old) (H.faults host.new)) ⊎ (stop ≡ Outcome.NoMemory)) }
     ensures opens { IfOk result (λ bytes. GrowsBy (H.meaning host.old).opened (H.meaning host.new).opened (name.now ∷ [])) }
     ensures opened { OnSome (H.meaning host.new).opened (GrowsBy (H.meaning host.old).opened (H.meaning host.new).opened (name.now ∷ [])) }
     ensures only { OnlyOpens (H.meaning host.old) (H.meaning host.new) (H.faults host.old) (H.faults host.new) }

@@ -1,7 +1,7 @@
 -- The command `explain`. It carries out the arguments after its name, up to the first file that they would create or the first text that they would
 -- print, and prints their outcome: the error line, the things that the line names, and the help text on it.
 use Rattle.std.specs.Prelude.{◌≡◌, ◌≢◌, List, [], ℕ, Some, Result, Ok, Err}
-use Rattle.mufom_host.specs.World.{NamedFile, Rose}
+use Rattle.mufom_host.specs.World.{NamedFile, InputFails, Rose}
 use Rattle.mufom_words.specs.declared.command.Command.{Command}
 use Rattle.mufom_words.specs.declared.stop.WordsStop.{WordsStop}
 use Rattle.mufom_words.specs.Answer.{answer_of}
@@ -52,14 +52,14 @@ explaining words files (stops s) = ⊥
 -- ---- the outcome of the explained arguments in a call
 
 -- The outcome of a task, before it creates a file or prints, and the lines about what the outcome names: the work has an output; or the inputs are
--- refused; or one of them could not be read, and the count of such errors rose.
+-- refused; or the one that was opened last could not be opened or read.
 abbrev pub EndsFor : Task → Call → Outcome → Text → Type 0
 EndsFor t call outcome.Done details = ((output : Output) × IsOutput t call.old.files output) × (details ≡ untried_lines (out_of t))
 EndsFor t call (outcome.Refused r) details =
     (is : IsStopped (reads_files t) (work_of t) call.old.files (outcome.Refused r))
     × HasDetails call.old.files (inputs_of t) (keep_of t) is.stop details
 EndsFor t call (outcome.ReadFault at) details =
-    Rose call.before.reads call.now.reads × IsInputReached call.old.files (inputs_of t) at × HasUnreadLine (inputs_of t) at details
+    InputFails call.before call.now × IsInputReached call.old.files (inputs_of t) at × HasUnreadLine (inputs_of t) at details
 EndsFor t call _ details = ⊥
 
 -- the same of what is asked for; an explanation is not explained, which is an error in the arguments

@@ -1,7 +1,7 @@
 -- The terms of the contract of the top call: the outcome of a task and its cause, the output, the inputs that are opened, and the error line that is
 -- printed.
 use Rattle.std.specs.Prelude.{◌≡◌, ◌⊎◌, ℕ, List, [], ◌∷◌, ◌++◌, take, Option, Some, None, Result, Ok, Err, IfSome, OnSome}
-use Rattle.mufom_host.specs.World.{NamedFile, Rose, GrowsBy, GrowsByPrefix}
+use Rattle.mufom_host.specs.World.{NamedFile, InputFails, Rose, GrowsBy, GrowsByPrefix}
 use Rattle.mufom_words.specs.declared.command.Command.{Command}
 use Rattle.mufom_words.specs.declared.stop.WordsStop.{WordsStop}
 use Rattle.mufom_outcome.specs.declared.outcome.Outcome.{Outcome}
@@ -95,7 +95,7 @@ abbrev pub AnswersFor : Task → Call → Outcome → Type 0
 AnswersFor t call outcome.Done = (output : Output) × IsOutput t call.old.files output × PutsOut output call
 AnswersFor t call (outcome.Refused r) = IsStopped (reads_files t) (work_of t) call.old.files (outcome.Refused r) × PutsOutNothing call
 AnswersFor t call (outcome.Usage f) = ⊥
-AnswersFor t call (outcome.ReadFault at) = Rose call.before.reads call.now.reads × IsInputReached call.old.files (inputs_of t) at × PutsOutNothing call
+AnswersFor t call (outcome.ReadFault at) = InputFails call.before call.now × IsInputReached call.old.files (inputs_of t) at × PutsOutNothing call
 AnswersFor t call outcome.WriteFault =
     Rose call.before.writes call.now.writes × ((output : Output) × IsOutput t call.old.files output × PutsOutPrefix output call)
 AnswersFor t call outcome.NoMemory = PutsOutNothing call
@@ -105,12 +105,12 @@ pub record RefusesWords (stop : WordsStop) (call : Call) (result : Outcome) : Ty
   pub is : (result ≡ stop_answer stop) ⊎ (result ≡ outcome.NoMemory)
   pub stays : call.new ≡ record call.old { err = call.new.err }
 
--- memory ran out, or a call of the host failed
+-- memory ran out, or a call of the host failed, for a read fault one on the input that was opened last
 abbrev pub IsForced : Call → Outcome → Type 0
 IsForced call outcome.Done = ⊥
 IsForced call (outcome.Refused r) = ⊥
 IsForced call (outcome.Usage f) = ⊥
-IsForced call (outcome.ReadFault at) = Rose call.before.reads call.now.reads
+IsForced call (outcome.ReadFault at) = InputFails call.before call.now
 IsForced call outcome.WriteFault = Rose call.before.writes call.now.writes
 IsForced call outcome.NoMemory = Unit {0}
 

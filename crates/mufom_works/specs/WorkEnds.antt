@@ -14,7 +14,7 @@ use Rattle.mufom_outcome.specs.declared.outcome.Outcome.{Outcome}
 use Rattle.mufom_outcome.specs.declared.outcome.Outcome.TheVariants as outcome
 use Rattle.mufom_outcome.specs.Stop.{Stop, link_fact, keep_unknown, name_shared, locate_fact, bytes_refused, text_refused, listing_refused}
 use Rattle.mufom_task.specs.Ends.{stop_outcome, IsInputReached, IsStopped}
-use Rattle.mufom_host.specs.World.{Rose}
+use Rattle.mufom_host.specs.World.{InputFails}
 use Rattle.mufom_task.specs.declared.task.Task.{Task}
 use Rattle.mufom_task.specs.declared.task.Task.TheVariants as task
 use Rattle.mufom_task.specs.Calls.{Call}
@@ -63,6 +63,6 @@ EndsAt work result = (result ≡ outcome.NoMemory) ⊎ ((s : Stop) × IsOfModule
 -- why the task has no output
 abbrev pub StopsFor : Task → Call → Outcome → Type 0
 StopsFor t call (outcome.Refused r) = IsStopped (reads_files t) (work_of t) call.old.files (outcome.Refused r)
-StopsFor t call (outcome.ReadFault at) = Rose call.before.reads call.now.reads × IsInputReached call.old.files (inputs_of t) at
+StopsFor t call (outcome.ReadFault at) = InputFails call.before call.now × IsInputReached call.old.files (inputs_of t) at
 StopsFor t call outcome.NoMemory = Unit {0}
 StopsFor t call _ = ⊥

@@ -1,6 +1,6 @@
 //! A file of limited room that the tests of writing use.
 
-ghost use Rattle.std.specs.Prelude.{◌≤◌, None, length};
+ghost use Rattle.std.specs.Prelude.{◌≤◌, None, false, length};
 ghost use Rattle.mufom_host.specs.World.{HasCause, Rose};
 
 use arrayvec::ArrayVec;
@@ -67,7 +67,7 @@ impl World for Disk {
       created = None;
     } };
 
-    ghost faults = { λ disk. record { reads = 0; writes = disk.faults; complaints = 0 } };
+    ghost faults = { λ disk. record { reads = 0; writes = disk.faults; complaints = 0; input_failed = false } };
 
     ghost together = { λ disk. record { left = λ known. known; making = λ known. known; bytes = tt } };
 }
