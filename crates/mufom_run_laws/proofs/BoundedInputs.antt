@@ -15,8 +15,9 @@ use Rattle.mufom_meaning.specs.Selection.{member_at, members_at}
 use Rattle.mufom_groups.specs.Linked.{IsFlatList, members, roots}
 use Rattle.mufom_task.specs.Inputs.{AreModules, HasFileModules, HaveBytes}
 use Rattle.mufom_task.proofs.RootLaws.{root-module}
-use Rattle.mufom_run_laws.proofs.Bounded.{IsBounded, all-append}
-use Rattle.mufom_run_laws.proofs.BoundedFiles.{file-bounded}
+use Rattle.mufom_bounds.specs.Bounded.{IsBounded}
+use Rattle.mufom_bounds.proofs.Bounded.{all-append}
+use Rattle.mufom_bounds.proofs.BoundedFiles.{file-bounded}
 use Rattle.mufom_run_laws.proofs.Members.{archive-whole}
 
 abbrev pub AreBounded : List Parts → Type 0

@@ -30,8 +30,9 @@ use Rattle.mufom_meaning.proofs.NoDefects.{no_defect}
 use Rattle.mufom_write.proofs.Fitting.{few-entries, few-marks, first-declared, inside_module}
 use Rattle.mufom_write.proofs.Indexed.{AreFew}
 use Rattle.mufom_works.specs.Works.{IsHeld}
-use Rattle.mufom_run_laws.proofs.Bounded.{IsBounded, IsBoundedHead, IsBoundedItem, IsBoundedLoad, IsBoundedMark, IsBoundedPublic, IsBoundedToken}
-use Rattle.mufom_run_laws.proofs.Bounded.{IsBoundedTree, all-append, all-first, all-last}
+use Rattle.mufom_bounds.specs.Bounded.{IsBounded, IsBoundedHead, IsBoundedItem, IsBoundedLoad, IsBoundedMark, IsBoundedPublic, IsBoundedToken}
+use Rattle.mufom_bounds.specs.Bounded.{IsBoundedTree}
+use Rattle.mufom_bounds.proofs.Bounded.{all-append, all-first, all-last}
 
 -- ---- what follows if nothing is outside its list
 

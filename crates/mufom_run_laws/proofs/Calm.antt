@@ -33,7 +33,7 @@ module _ (files : List NamedFile) (call : Call) (t : Task) where
   never-done (outcome.Refused r) (is, nothing) calm never =
       absurd (never is.stop (over-files call files calm.known (reads_files t) (λ fs. work_of t fs (stops is.stop)) is.cause))
   never-done (outcome.Usage f) is calm never = absurd is
-  never-done (outcome.ReadFault at) is calm never = absurd (calm.none.reads is.0)
+  never-done (outcome.ReadFault at) is calm never = absurd (calm.none.reads is.0.1)
   never-done outcome.WriteFault is calm never = absurd (calm.none.writes is.0)
   never-done outcome.NoMemory is calm never = absurd (calm.memory refl)
 

@@ -16,7 +16,7 @@ answers-determined words files call result reached is calm comes =
     forced outcome.Done same bad = bad
     forced (outcome.Refused r) same bad = bad
     forced (outcome.Usage f) same bad = bad
-    forced (outcome.ReadFault at) same bad = calm.none.reads bad
+    forced (outcome.ReadFault at) same bad = calm.none.reads bad.1
     forced outcome.WriteFault same bad = calm.none.writes bad
     forced outcome.NoMemory same bad = calm.memory (sym same)
 

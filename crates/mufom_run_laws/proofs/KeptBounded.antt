@@ -26,9 +26,10 @@ use Rattle.mufom_groups.specs.Linked.{first_name}
 use Rattle.mufom_groups.specs.Work.{gives}
 use Rattle.mufom_works.specs.Roots.{Roots, first_unknown}
 use Rattle.mufom_works.specs.Works.{Kept, kept_of, kept_unless}
-use Rattle.mufom_run_laws.proofs.Bounded.{IsBounded, IsBoundedItem, IsBoundedLoad, IsBoundedPublic, IsBoundedTree, renamed-tree}
+use Rattle.mufom_bounds.specs.Bounded.{IsBounded, IsBoundedItem, IsBoundedLoad, IsBoundedPublic, IsBoundedTree}
+use Rattle.mufom_bounds.proofs.Bounded.{renamed-tree}
 use Rattle.mufom_run_laws.proofs.BoundedInputs.{AreBounded}
-use Rattle.mufom_run_laws.proofs.BoundedLinks.{all-in, in-all, joined-bounded}
+use Rattle.mufom_bounds.proofs.BoundedLinks.{all-in, in-all, joined-bounded}
 use Rattle.mufom_run_laws.proofs.LinkResults.{first-is}
 
 -- ---- lists

@@ -17,7 +17,7 @@ use Rattle.mufom_outcome.specs.Stop.{link_fact}
 use Rattle.mufom_works.specs.Works.{IsHeld, linked_file, made, writes_module}
 use Rattle.mufom_run_laws.specs.Results.{HasResult}
 use Rattle.mufom_run_laws.proofs.BoundedInputs.{AreBounded}
-use Rattle.mufom_run_laws.proofs.BoundedLinks.{joined-bounded}
+use Rattle.mufom_bounds.proofs.BoundedLinks.{joined-bounded}
 use Rattle.mufom_run_laws.proofs.BoundedMade.{bounded-held}
 use Rattle.mufom_run_laws.proofs.Links.{links-exist}
 use Rattle.mufom_run_laws.proofs.Then.{then-result}

@@ -15,7 +15,7 @@ use Rattle.mufom_groups.specs.Work.{gives, stops}
 use Rattle.mufom_outcome.specs.Stop.{plan_refused}
 use Rattle.mufom_task.specs.Reading.{file_in, plan_by, plan_in}
 use Rattle.mufom_run_laws.specs.Results.{HasResult}
-use Rattle.mufom_run_laws.proofs.PlanSizes.{text-within}
+use Rattle.mufom_bounds.proofs.PlanSizes.{text-within}
 use Rattle.mufom_run_laws.proofs.Then.{then-result}
 
 -- the program can hold the plan that bytes state

@@ -78,7 +78,7 @@ use Rattle.mufom_run_laws.proofs.Leaves.{accepted-light}
 use Rattle.mufom_run_laws.proofs.Light.{all-count, flat-some, flat-valid}
 use Rattle.mufom_run_laws.proofs.LinkResults.{linked-file-result}
 use Rattle.mufom_run_laws.proofs.Members.{files-valid}
-use Rattle.mufom_run_laws.proofs.PlanBytes.{plan-named}
+use Rattle.mufom_run_laws.proofs.PlanBytes.{plan-bounded, plan-short}
 use Rattle.mufom_run_laws.proofs.PlanResults.{plan-result}
 use Rattle.mufom_run_laws.proofs.Selections.{flat-lists-exist}
 use Rattle.mufom_run_laws.proofs.TextResults.{from-txt-result}
@@ -248,15 +248,16 @@ module _ (files : List NamedFile) (inputs : Inputs) (bytes : HoldBytes files) (s
   abbrev CanBeHeld : LocatedParts → Type 0
   CanBeHeld r = IsHeld (absolute_of r)
 
-  absolute-result : (keep : List (List ℕ)) (out : List ℕ) → IsPlainTask files (task.Locate inputs keep (product.Absolute out)) → CanBeRead files inputs
+  absolute-result : (keep : List (List ℕ)) (out : List ℕ) → CanBeRead files inputs
       → HasResult (work_of (task.Locate inputs keep (product.Absolute out)) files)
-  absolute-result keep out plain read =
+  absolute-result keep out read =
       locate-with keep (product.Absolute out) CanBeHeld (λ names shown r held. (gives (made out (written (absolute_of r))), (held, refl)))
       (λ plan flat accepts links kept is_kept r is_located.
       let roots = roots_by keep plan in
       let sound_list = valid plan flat accepts links in
-      absolute-held kept.modules plan r (plain plan accepts.planned) (plan-sound files inputs.plan plan accepts.planned).symbols
-      (plan-named files inputs.plan plan bytes accepts.planned) (kept-valid roots flat kept sound_list is_kept)
+      absolute-held kept.modules plan r (plan-sound files inputs.plan plan accepts.planned).symbols
+      (plan-short files inputs.plan plan bytes accepts.planned) (plan-bounded files inputs.plan plan bytes accepts.planned)
+      (kept-valid roots flat kept sound_list is_kept)
       (kept-bounded flat sound_list (bounded plan flat accepts links) (light plan flat accepts links) roots kept is_kept) is_located) read
 
 -- ---- the work of `make`
@@ -268,14 +269,14 @@ make-result count some few =
 
 -- ---- tasks
 
-task-result : (files : List NamedFile) (t : Task) → HoldBytes files → IsSoundTask t → IsPlainTask files t → CanBeRead files (inputs_of t)
+task-result : (files : List NamedFile) (t : Task) → HoldBytes files → IsSoundTask t → IsPlainTask t → CanBeRead files (inputs_of t)
     → HasResult (work_of t files)
 task-result files (task.Show inputs full) bytes sound plain read =
     listing-result (λ ms. flat_map (text_of (form_of full)) ms) files inputs (reading-has-a-result files inputs bytes read.exist)
 task-result files (task.Check inputs) bytes sound plain read =
     listing-result check_text files inputs (reading-has-a-result files inputs bytes read.exist)
 task-result files (task.Link inputs name out) bytes sound plain read = link-result files inputs bytes sound.0 name out sound.1 plain read
-task-result files (task.Locate inputs keep (product.Absolute out)) bytes sound plain read = absolute-result files inputs bytes sound keep out plain read
+task-result files (task.Locate inputs keep (product.Absolute out)) bytes sound plain read = absolute-result files inputs bytes sound keep out read
 task-result files (task.Locate inputs keep (product.Raw fill out)) bytes sound plain read =
     locate-result files inputs bytes sound keep (product.Raw fill out) (raw-result fill out) read
 task-result files (task.Locate inputs keep (product.Region name fill out)) bytes sound plain read =

@@ -1,4 +1,4 @@
--- The law that plain runs have a result: all runs but those that build or explain, or locate into a module by a plan with load regions.
+-- The law that plain runs have a result: all runs but those that build or explain.
 use Rattle.std.specs.Prelude.{ℕ, List, IfSome, IsSome, Result, Ok, Err}
 use Rattle.std.specs.List.{AllByRecursion}
 use Rattle.mufom_numbers.specs.Spelling.{AreBytes}
@@ -6,17 +6,13 @@ use Rattle.mufom_host.specs.World.{HoldBytes, NamedFile, file_named}
 use Rattle.mufom_words.specs.declared.command.Command.{Command}
 use Rattle.mufom_words.specs.declared.stop.WordsStop.{WordsStop}
 use Rattle.mufom_words.specs.Answer.{answer_of}
-use Rattle.mufom_plan.specs.declared.plan.Plan.{Plan}
-use Rattle.mufom_planned.specs.PlanLaws.{AreLoadedInPlace}
-use Rattle.mufom_groups.specs.Work.{Reached, Work, gives}
+use Rattle.mufom_groups.specs.Work.{Reached, Work}
 use Rattle.mufom_outcome.specs.Stop.{Stop}
 use Rattle.mufom_task.specs.declared.task.Inputs.{Inputs}
-use Rattle.mufom_task.specs.declared.task.Product.TheVariants as product
 use Rattle.mufom_task.specs.declared.task.Request.{Request}
 use Rattle.mufom_task.specs.declared.task.Request.TheVariants as request
 use Rattle.mufom_task.specs.declared.task.Task.{Task}
 use Rattle.mufom_task.specs.declared.task.Task.TheVariants as task
-use Rattle.mufom_task.specs.Reading.{plan_in}
 use Rattle.mufom_task.specs.Tasks.{inputs_of, request_of}
 use Rattle.mufom_works.specs.Result.{run_of}
 
@@ -29,18 +25,15 @@ pub record CanBeRead (files : List NamedFile) (inputs : Inputs) : Type 0 where
   pub exist : AllByRecursion (λ name. IsSome (file_named name files)) inputs.files
   pub plan : IfSome inputs.plan (λ name. IsSome (file_named name files))
 
--- The task is not `build`. If it is `link` with a name for the module, the name consists of bytes, as each argument of a real run does. If it is
--- `locate`, its plan loads each region where it is.
-abbrev pub IsPlainTask : List NamedFile → Task → Type 0
-IsPlainTask files (task.Link inputs name out) = IfSome name AreBytes
-IsPlainTask files (task.Locate inputs keep (product.Absolute out)) = (plan : Plan) → plan_in files inputs.plan (gives plan)
-    → AreLoadedInPlace plan.regions
-IsPlainTask files (task.Build inputs out) = ⊥
-IsPlainTask files _ = Unit {0}
+-- The task is not `build`. If it is `link` with a name for the module, the name consists of bytes, as each argument of a real run does.
+abbrev pub IsPlainTask : Task → Type 0
+IsPlainTask (task.Link inputs name out) = IfSome name AreBytes
+IsPlainTask (task.Build inputs out) = ⊥
+IsPlainTask _ = Unit {0}
 
 -- what is asked for is a plain task whose inputs can be read
 abbrev pub IsPlainRequest : List NamedFile → Request → Type 0
-IsPlainRequest files (request.Run t) = IsPlainTask files t × CanBeRead files (inputs_of t)
+IsPlainRequest files (request.Run t) = IsPlainTask t × CanBeRead files (inputs_of t)
 IsPlainRequest files request.Explain = ⊥
 
 -- the arguments ask for such a task, or have an error

@@ -130,8 +130,8 @@ pub fn no_fact_is_decided()
 {}
 
 /// A plain run has a result: one whose arguments have an error, and one of each command but `build` and
-/// `explain`. This holds if the files exist, with that of the plan, and hold bytes; if a name that `link` gives
-/// to its module consists of bytes; and if the plan of `locate` has no load regions.
+/// `explain`. This holds if the files exist, with that of the plan, and hold bytes, and if a name that `link`
+/// gives to its module consists of bytes.
 pub fn plain_runs_have_results()
     ensures { PlainRunsHaveResults }
 {}

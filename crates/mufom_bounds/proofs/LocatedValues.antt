@@ -20,7 +20,7 @@ use Rattle.mufom_meaning.specs.declared.located.LocatedParts.{LocatedParts}
 use Rattle.mufom_meaning.specs.declared.located.PublicValue.{PublicValue}
 use Rattle.mufom_meaning.specs.Absolute.{absolute_public}
 use Rattle.mufom_meaning.specs.Flat.{Sited, SitedPublic, flat_publics, sited, width}
-use Rattle.mufom_meaning.specs.Location.{IsLocation, located_head, located_mark, located_public}
+use Rattle.mufom_meaning.specs.Location.{located_head, located_mark, located_public}
 use Rattle.mufom_meaning.specs.Placed.{planned_bases}
 use Rattle.mufom_meaning.specs.Readings.{PublicReading, head_reading, mark_reading, public_reading, readings}
 use Rattle.mufom_meaning.specs.Staging.{AreValid}
@@ -28,9 +28,10 @@ use Rattle.mufom_meaning.specs.Values.{Setting, setting, value}
 use Rattle.mufom_meaning.proofs.Members.{In, In-map, flat_map-In, map-In}
 use Rattle.mufom_meaning.proofs.NoDefects.{no_defect}
 use Rattle.mufom_meaning.proofs.absolute.Marks.{value_below, width_positive}
+use Rattle.mufom_meaning.proofs.absolute.Sound.{IsSoundLocation}
 use Rattle.mufom_meaning.proofs.values.Named.{site_module}
-use Rattle.mufom_run_laws.proofs.Bounded.{IsBounded, IsBoundedHead, IsBoundedMark, IsBoundedPublic, IsBoundedTree}
-use Rattle.mufom_run_laws.proofs.BoundedLinks.{all-in, in-all}
+use Rattle.mufom_bounds.specs.Bounded.{IsBounded, IsBoundedHead, IsBoundedMark, IsBoundedPublic, IsBoundedTree}
+use Rattle.mufom_bounds.proofs.BoundedLinks.{all-in, in-all}
 
 -- a number is a small expression
 pub one-number : (n : ℕ) → IsNumber n → IsBoundedTree (number n)
@@ -93,7 +94,7 @@ module _ (m : Parts) (more : List Parts) (plan : Plan) (v : AreValid (m ∷ more
       let (n, has, same) = mapped_some (λ n. value_mark (site.first_name + name) (number n)) (value s site None t) mark e in
       subst IsBoundedMark same (one-number n (value-number site t n has))
 
-  module _ (r : LocatedParts) (h : IsLocation (m ∷ more) plan r) where
+  module _ (r : LocatedParts) (h : IsSoundLocation (m ∷ more) plan r) where
     pub marks-bounded : AllByRecursion IsBoundedMark (marks_of r.debug)
     unfolding readings
     marks-bounded = all-in IsBoundedMark (marks_of r.debug) (λ mark k.

@@ -15,7 +15,7 @@ use Rattle.toml_parser.specs.Numbers.{unquoted, word_len, word_value}
 use Rattle.toml_parser.specs.Strings.{after_piece, at_delims, body, escape, escape_char, hex_escape, hex_len, is_plain, is_scalar, key}
 use Rattle.toml_parser.specs.Strings.{key_after, one_line, prepend, quoted, simple_escape, simple_key, special, starts_string, trim_newline}
 use Rattle.toml_parser.specs.declared.scalar.Scalar.{Scalar}
-use Rattle.mufom_run_laws.proofs.Bounded.{all-append}
+use Rattle.mufom_bounds.proofs.Bounded.{all-append}
 
 -- ---- what is read
 

@@ -23,18 +23,18 @@ use Rattle.mufom_meaning.specs.Placed.{base_list, extended_sections, greatest_si
 use Rattle.mufom_meaning.specs.Staging.{AreValid}
 use Rattle.mufom_meaning.proofs.Members.{In, In-append, distinct-In, filter-In, map-In}
 use Rattle.mufom_meaning.proofs.Placed.{common_reference}
-use Rattle.mufom_meaning.proofs.absolute.Rows.{sound}
-use Rattle.mufom_run_laws.proofs.Bounded.{IsBounded}
-use Rattle.mufom_run_laws.proofs.BoundedLinks.{all-in, flat-all, in-all, unresolved-in}
-use Rattle.mufom_run_laws.proofs.LocatedValues.{narrow}
+use Rattle.mufom_meaning.proofs.absolute.Sound.{IsSoundLocation}
+use Rattle.mufom_bounds.specs.Bounded.{IsBounded}
+use Rattle.mufom_bounds.proofs.BoundedLinks.{all-in, flat-all, in-all, unresolved-in}
+use Rattle.mufom_bounds.proofs.LocatedValues.{narrow}
 
 -- ---- what is placed fits
 
-both-none : {A : Type 0} (o p : Option A) → o or_else p ≡ None → (o ≡ None) × (p ≡ None)
+pub both-none : {A : Type 0} (o p : Option A) → o or_else p ≡ None → (o ≡ None) × (p ≡ None)
 both-none None p is = (refl, is)
 both-none (Some x) p is = absurd cc
 
-none-there : {A B : Type 0} (f : A → Option B) (xs : List A) → first_some f xs ≡ None → (x : A) → In x xs → f x ≡ None
+pub none-there : {A B : Type 0} (f : A → Option B) (xs : List A) → first_some f xs ≡ None → (x : A) → In x xs → f x ≡ None
 none-there f [] none x there = absurd there
 none-there f (y ∷ ys) none x (inl same) = subst (λ z. f z ≡ None) same (both-none (f y) (first_some f ys) none).0
 none-there f (y ∷ ys) none x (inr there) = none-there f ys (both-none (f y) (first_some f ys) none).1 x there
@@ -75,11 +75,22 @@ size-number : (weak : Option Weak) → IfSome weak IsMadeWeak → IsNumber (comm
 size-number None is = omega arith
 size-number (Some weak) is = is.0
 
-module _ (m : Parts) (more : List Parts) (plan : Plan) (v : AreValid (m ∷ more)) (are : AllByRecursion IsBounded (m ∷ more)) (r : LocatedParts)
-    (h : IsLocation (m ∷ more) plan r) where
-  abbrev ms : List Parts
-  ms = m ∷ more
+-- what the bounds say of a section, but of its base
+pub record IsMadeButBase (section : Section) : Type 0 where
+  pub name : AreBytes section.name
+  pub size : IsNumber section.size
+  pub align : IsNumber section.align
 
+-- a section with the name, the size and the alignment of another
+pub same-made : (from section : Section) → IsMadeButBase from → from.name ≡ section.name → from.size ≡ section.size → from.align ≡ section.align
+    → IsMadeButBase section
+same-made from section is name size align = record {
+  name = subst AreBytes name is.name;
+  size = subst IsNumber size is.size;
+  align = subst IsNumber align is.align;
+}
+
+module _ (ms : List Parts) (plan : Plan) (are : AllByRecursion IsBounded ms) where
   reference-made : (q : Reference) → In q (flat_references ms) → IsMadeReference q
   reference-made q there =
       in-all IsMadeReference (flat_references ms) (flat-all IsMadeReference (λ n. n.names.references) (λ n is. is.references) ms are) q there
@@ -91,12 +102,6 @@ module _ (m : Parts) (more : List Parts) (plan : Plan) (v : AreValid (m ∷ more
       (distinct-In same_common pair (map (λ (q : Reference). (q.name, common_size q.weak)) asked) k) in
       let made = reference-made own.0 (unresolved-in ms own.0 (filter-In is_common own.0 (unresolved_references ms) own.1)) in
       subst IsNumber (ap (λ (p : List ℕ × ℕ). p.1) own.2) (size-number own.0.weak made.weak))
-
-  -- what the bounds say of a section, but of its base
-  record IsMadeButBase (section : Section) : Type 0 where
-    name : AreBytes section.name
-    size : IsNumber section.size
-    align : IsNumber section.align
 
   own-made : (section : Section) → In section (flat_sections ms) → IsMadeButBase section
   own-made section k =
@@ -110,37 +115,42 @@ module _ (m : Parts) (more : List Parts) (plan : Plan) (v : AreValid (m ∷ more
       subst IsMadeButBase (sym same)
       (record { name = made.name; size = greatest-number (commons ms) q.name commons-numbers; align = omega arith })
 
-  source-made : (section : Section) → In section (extended_sections ms plan) → IsMadeButBase section
+  -- the sections and commons of the list
+  pub source-made : (section : Section) → In section (extended_sections ms plan) → IsMadeButBase section
   source-made section k = by (In-append section (flat_sections ms) (placed_commons ms plan) k) where
     by : In section (flat_sections ms) ⊎ In section (placed_commons ms plan) → IsMadeButBase section
     by (inl k) = own-made section k
     by (inr k) = common-made section k
 
-  placed-made : (t : ℕ × Section) (section : Section) → IsMadeButBase t.1 → placed_section (base_list ms plan) t ≡ section → IsMadeButBase section
-  placed-made t section is same = record {
-    name = subst AreBytes (ap (λ (x : Section). x.name) same) is.name;
-    size = subst IsNumber (ap (λ (x : Section). x.size) same) is.size;
-    align = subst IsNumber (ap (λ (x : Section). x.align) same) is.align;
-  }
+  -- those of a location without copies
+  pub plain-made : (r : LocatedParts) → IsLocation ms plan r → (section : Section) → In section r.sections → IsMadeButBase section
+  plain-made r h section k =
+      let there = map-In (placed_section (base_list ms plan)) section (enumerate_from 0 (extended_sections ms plan))
+      (subst (In section) h.sections k) in
+      let made = source-made there.0.1 (in-numbered 0 (extended_sections ms plan) there.0 there.1) in
+      same-made there.0.1 section made (ap (λ (x : Section). x.name) there.2) (ap (λ (x : Section). x.size) there.2)
+      (ap (λ (x : Section). x.align) there.2)
 
-  -- ---- where sections are
+-- ---- where sections are
+
+module _ (m : Parts) (more : List Parts) (plan : Plan) (v : AreValid (m ∷ more)) (are : AllByRecursion IsBounded (m ∷ more)) (r : LocatedParts)
+    (h : IsSoundLocation (m ∷ more) plan r) where
+  abbrev ms : List Parts
+  ms = m ∷ more
 
   pub section-fits : (section : Section) → In section r.sections → (base : ℕ) → section.base ≡ Some base → Fits (2 ^ width ms) base section.size
   section-fits section k base at =
       let (n, there) = numbered-in 0 r.sections section k in
-      let all = (both-none _ _ (both-none _ _ (sound m more plan r v h).fits).1).0 in
+      let all = (both-none _ _ (both-none _ _ h.fits).1).0 in
       let same : In (n, section) (numbered (r.sections ++ []))
       = subst (λ (l : List Section). In (n, section) (numbered l)) (sym (append-nil r.sections)) there in
       let none = none-there (misfit_at (2 ^ width ms) no_regions r.sections []) (numbered (r.sections ++ [])) all (n, section) same in
       site-fits (2 ^ width ms) n section.size base
       (subst (λ (o : Option ℕ). misfit_with (2 ^ width ms) [] n section.size (site_with o None) ≡ None) at none)
 
-  pub section-made : (section : Section) → In section r.sections → IsMadeSection section
-  section-made section k =
-      let there = map-In (placed_section (base_list ms plan)) section (enumerate_from 0 (extended_sections ms plan))
-      (subst (In section) h.sections k) in
-      let made = placed-made there.0 section (source-made there.0.1 (in-numbered 0 (extended_sections ms plan) there.0 there.1)) there.2 in
-      let own = (sound m more plan r v h).absolute section k in
+  section-made : (section : Section) → In section r.sections → IsMadeButBase section → IsMadeSection section
+  section-made section k made =
+      let own = h.absolute section k in
       let begins = (section-fits section k own.base own.based).begins in
       let most = narrow m more plan v are in
       record {
@@ -150,5 +160,5 @@ module _ (m : Parts) (more : List Parts) (plan : Plan) (v : AreValid (m ∷ more
         base = subst (λ (o : Option ℕ). IfSome o IsNumber) (sym own.based) (let low : own.base < 2 ^ 64 = omega (arith, begins, most) in low);
       }
 
-  pub sections-made : AllByRecursion IsMadeSection r.sections
-  sections-made = all-in IsMadeSection r.sections section-made
+  pub sections-made : ((section : Section) → In section r.sections → IsMadeButBase section) → AllByRecursion IsMadeSection r.sections
+  sections-made each = all-in IsMadeSection r.sections (λ section k. section-made section k (each section k))

@@ -30,7 +30,7 @@ use Rattle.mufom_module.specs.RecordParts.{begins_item, mode_of, items_mode}
 use Rattle.mufom_module.specs.SpelledRecords.{SpelledRecord, text_in, tree_in}
 use Rattle.mufom_module.proofs.SpelledLaws.{term-spelling}
 use Rattle.mufom_judging.proofs.judged.Stays.{AreBytes-drop, AreBytes-take}
-use Rattle.mufom_run_laws.proofs.Bounded.{IsBoundedToken, IsBoundedTree}
+use Rattle.mufom_bounds.specs.Bounded.{IsBoundedToken, IsBoundedTree}
 
 abbrev Layout : Type 0
 Layout = Layouts.Layout

@@ -25,9 +25,9 @@ use Rattle.mufom_module.specs.Made.{IsMadeNote, IsMadeReference, IsMadeSection, 
 use Rattle.mufom_module.specs.RecordParts.{Part, opens_items}
 use Rattle.mufom_module.specs.SpelledRecords.{SpelledRecord, bytes_of, positioned, positioned_variable, tree_in}
 use Rattle.mufom_judging.specs.Judging.{IsModule}
-use Rattle.mufom_run_laws.proofs.Bounded.{IsBounded, IsBoundedHead, IsBoundedItem, IsBoundedLoad, IsBoundedMark, IsBoundedPublic, IsBoundedTree}
-use Rattle.mufom_run_laws.proofs.Bounded.{all-append, all-first, all-last, renamed-tree}
-use Rattle.mufom_run_laws.proofs.BoundedRecords.{IsBoundedRow, row-bounded, text-bytes}
+use Rattle.mufom_bounds.specs.Bounded.{IsBounded, IsBoundedHead, IsBoundedItem, IsBoundedLoad, IsBoundedMark, IsBoundedPublic, IsBoundedTree}
+use Rattle.mufom_bounds.proofs.Bounded.{all-append, all-first, all-last, renamed-tree}
+use Rattle.mufom_bounds.proofs.BoundedRecords.{IsBoundedRow, row-bounded, text-bytes}
 
 -- ---- records
 

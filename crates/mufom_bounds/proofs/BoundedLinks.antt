@@ -20,8 +20,8 @@ use Rattle.mufom_meaning.specs.Flat.{Sited, flat_references, name_count, public_
 use Rattle.mufom_meaning.specs.Joined.{HasFirstHeader, IsJoined, joined_head, joined_item, joined_load, joined_mark, joined_public, joined_tree}
 use Rattle.mufom_meaning.specs.Joined.{joined_variable, kept_references, same_reference}
 use Rattle.mufom_meaning.proofs.Members.{In, distinct-In, filter-In}
-use Rattle.mufom_run_laws.proofs.Bounded.{IsBounded, IsBoundedHead, IsBoundedItem, IsBoundedLoad, IsBoundedMark, IsBoundedPublic, IsBoundedTree}
-use Rattle.mufom_run_laws.proofs.Bounded.{all-append, renamed-tree}
+use Rattle.mufom_bounds.specs.Bounded.{IsBounded, IsBoundedHead, IsBoundedItem, IsBoundedLoad, IsBoundedMark, IsBoundedPublic, IsBoundedTree}
+use Rattle.mufom_bounds.proofs.Bounded.{all-append, renamed-tree}
 
 -- ---- lists
 

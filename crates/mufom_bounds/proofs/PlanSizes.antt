@@ -1,5 +1,5 @@
--- The plan of a text has no more regions than the text has bytes, and the names of its symbols are no longer.
-use Rattle.std.proofs.Common.{◌≡◌, ℕ, suc, ◌+◌, ◌≤◌, Bool, true, false, not, nat_lt, ◌||◌, List, [], ◌∷◌, ◌++◌, length, Option, Some, None}
+-- The plan of a text has no more regions than the text has bytes, and the names of its regions and of its symbols are no longer.
+use Rattle.std.proofs.Common.{◌≡◌, ℕ, ◌+◌, ◌^◌, ◌<◌, ◌≤◌, Bool, true, false, not, nat_lt, ◌||◌, List, [], ◌∷◌, ◌++◌, length, Option, Some, None}
 use Rattle.std.proofs.Common.{Result, Ok, Err, IfSome, refl, ap, arith, ltb-false, Ordering, Less, Equal, Greater}
 use Rattle.std.specs.Prelude.{◌==◌, if◌then◌else◌, option_and_then, codes}
 use Rattle.std.specs.Ordering.{nat_cmp, match_ordering}
@@ -9,6 +9,7 @@ use Rattle.std.proofs.lemmas.List.Sums.{sum_by-cons}
 use Rattle.toml.specs.Data.{Data, string, integer, float, boolean, datetime, array, table, Items, no_items, item, Members, no_members, member}
 use Rattle.toml.specs.Data.{as_table, get_member}
 use Rattle.toml.specs.Parse.{parse_document}
+use Rattle.mufom_module.specs.Made.{IsNumber}
 use Rattle.mufom_plan.specs.declared.plan.Plan.{Plan}
 use Rattle.mufom_plan.specs.declared.plan.PlanSymbol.{PlanSymbol}
 use Rattle.mufom_plan.specs.declared.plan.Region.{Region}
@@ -16,16 +17,18 @@ use Rattle.mufom_plan.specs.declared.refusal.PlanField.{PlanField}
 use Rattle.mufom_plan.specs.declared.refusal.PlanField.TheVariants as field
 use Rattle.mufom_plan.specs.declared.refusal.PlanTable.TheVariants as at
 use Rattle.mufom_plan.specs.declared.refusal.PlanRefusal.{PlanRefusal}
-use Rattle.mufom_plan.specs.declared.refusal.PlanRefusal.TheVariants.{Shape, Syntax, TooLong}
+use Rattle.mufom_plan.specs.declared.refusal.PlanRefusal.TheVariants.{Beyond, Shape, Syntax, TooLong}
 use Rattle.mufom_plan.specs.Commons.{has_common}
 use Rattle.mufom_plan.specs.Document.{document_of, has_only_keys, list_of, text_at}
 use Rattle.mufom_plan.specs.Loads.{first_wrong_load}
 use Rattle.mufom_plan.specs.Names.{has_name, listed_names, region_names, symbol_names}
 use Rattle.mufom_plan.specs.PlanText.{◌>>=◌, after_symbols, are_tables, in_prefix, kept_names, kinds_in, new_name, of_symbol, or_refuse, plan_keys}
-use Rattle.mufom_plan.specs.PlanText.{plan_of_document, plan_of_text, region_of, regions_of, symbol_keys, symbol_of, symbols_of, tables_at}
-use Rattle.mufom_plan.specs.PlanText.{unless, value_of, with_loads}
+use Rattle.mufom_plan.specs.PlanText.{plan_of_document, plan_of_text, region_of, region_with, regions_of, symbol_keys, symbol_of, symbols_of}
+use Rattle.mufom_plan.specs.PlanText.{tables_at, unless, value_of, with_loads}
 use Rattle.mufom_plan.specs.Symbols.{names_size}
-use Rattle.mufom_run_laws.proofs.TomlSizes.{counted, document-size, items_size, members_size, size}
+use Rattle.mufom_planned.specs.PlanLaws.{regions_size}
+use Rattle.mufom_bounds.specs.PlanBounds.{IsWithin}
+use Rattle.mufom_bounds.proofs.TomlSizes.{counted, document-size, items_size, members_size, size}
 
 -- ---- steps
 
@@ -102,31 +105,7 @@ table-size (boolean b) ms is = absurd cc
 table-size (datetime dt) ms is = absurd cc
 table-size (array ds) ms is = absurd cc
 
--- ---- regions
-
-regions-few : (before : List Region) (values : List Data) (regions : List Region) → regions_of before values ≡ Ok regions → length regions ≤ list_size values
-regions-few before [] regions is =
-    let same : [] ≡ regions = same-ok [] regions is in
-    let equal : 0 ≡ length regions = ap (λ (l : List Region). length l) same in
-    omega (arith, equal)
-regions-few before (value ∷ more) regions is = by is (λ region. regions-few (before ++ region ∷ []) more) where
-  by : or_refuse (Shape None field.Region) (as_table value) >>= (λ ms. region_of (length before) (region_names before) (listed_names before)
-      (has_common before) ms >>= (λ region. in_prefix (region ∷ []) (regions_of (before ++ region ∷ []) more))) ≡ Ok regions
-      → ((region : Region) (rest : List Region) → regions_of (before ++ region ∷ []) more ≡ Ok rest → length rest ≤ list_size more)
-      → length regions ≤ (counted value + size value) + list_size more
-  by is later =
-      let (ms, e, is_region) = bound (or_refuse (Shape None field.Region) (as_table value)) (λ ms. region_of (length before) (region_names before)
-      (listed_names before) (has_common before) ms >>= (λ region. in_prefix (region ∷ []) (regions_of (before ++ region ∷ []) more))) regions is in
-      let (region, f, is_rest) = bound (region_of (length before) (region_names before) (listed_names before) (has_common before) ms)
-      (λ region. in_prefix (region ∷ []) (regions_of (before ++ region ∷ []) more)) regions is_region in
-      let (rest, g, is_all) = bound (regions_of (before ++ region ∷ []) more) (λ r. Ok ((region ∷ []) ++ r)) regions is_rest in
-      let few = later region rest g in
-      let own = table-size value ms (found (Shape None field.Region) (as_table value) ms e) in
-      let same : region ∷ rest ≡ regions = same-ok (region ∷ rest) regions is_all in
-      let equal : suc (length rest) ≡ length regions = ap (λ (l : List Region). length l) same in
-      omega (arith, few, own, equal)
-
--- ---- symbols
+-- ---- names
 
 -- a name that is new is the text
 pub new-same : (names : List (List ℕ)) (text name : List ℕ) → new_name names text ≡ Some name → text ≡ name
@@ -147,6 +126,73 @@ text-short names (Some (boolean b)) n name few is = absurd cc
 text-short names (Some (datetime dt)) n name few is = absurd cc
 text-short names (Some (array ds)) n name few is = absurd cc
 text-short names (Some (table ms)) n name few is = absurd cc
+
+-- ---- regions
+
+-- of a region with parts: its name is the one that was found, and its end is a number
+pub region-parts : (place : ℕ) (has_keys : Bool) (name : Option (List ℕ)) (base size : Option ℕ) (sections : Option (List (List ℕ)))
+    (common : Option Bool) (load : Option (Option (List ℕ))) (region : Region)
+    → region_with place has_keys name base size sections common load ≡ Ok region
+    → (name ≡ Some region.name) × IsNumber (region.base + region.size)
+region-parts place false name base size sections common load region is = absurd cc
+region-parts place true None base size sections common load region is = absurd cc
+region-parts place true (Some name) None size sections common load region is = absurd cc
+region-parts place true (Some name) (Some base) None sections common load region is = absurd cc
+region-parts place true (Some name) (Some base) (Some size) None common load region is = absurd cc
+region-parts place true (Some name) (Some base) (Some size) (Some sections) None load region is = absurd cc
+region-parts place true (Some name) (Some base) (Some size) (Some sections) (Some common) None region is = absurd cc
+region-parts place true (Some name) (Some base) (Some size) (Some sections) (Some common) (Some load) region is =
+    by (nat_lt 9223372036854775807 (base + size)) refl is where
+      own : Region
+      own = record { name = name; base = base; size = size; sections = sections; common = common; load = load }
+
+      by : (past : Bool) → nat_lt 9223372036854775807 (base + size) ≡ past → (if past then Err (Beyond place) else Ok own) ≡ Ok region
+          → (Some name ≡ Some region.name) × IsNumber (region.base + region.size)
+      by true past is = absurd cc
+      by false past is =
+          let same : own ≡ region = same-ok own region is in
+          let ends : base + size ≡ region.base + region.size = ap (λ (r : Region). r.base + r.size) same in
+          let low = ltb-false 9223372036854775807 (base + size) past in
+          (ap (λ (r : Region). Some r.name) same, (let below : region.base + region.size < 2 ^ 64 = omega (arith, ends, low) in below))
+
+region-short : (place : ℕ) (names listed : List (List ℕ)) (earlier : Bool) (ms : Members) (region : Region)
+    → region_of place names listed earlier ms ≡ Ok region → length region.name ≤ members_size ms
+region-short place names listed earlier ms region is =
+    let named = region-parts place _ _ _ _ _ _ _ region is in
+    text-short names (get_member (codes "name") ms) (members_size ms) region.name (at-key (codes "name") ms) named.0
+
+regions-short : (before : List Region) (values : List Data) (regions : List Region) → regions_of before values ≡ Ok regions
+    → regions_size regions ≤ list_size values
+regions-short before [] regions is =
+    let same : [] ≡ regions = same-ok [] regions is in
+    let equal : 0 ≡ regions_size regions = ap (λ (l : List Region). regions_size l) same in
+    omega (arith, equal)
+regions-short before (value ∷ more) regions is = by is (λ region. regions-short (before ++ region ∷ []) more) where
+  by : or_refuse (Shape None field.Region) (as_table value) >>= (λ ms. region_of (length before) (region_names before) (listed_names before)
+      (has_common before) ms >>= (λ region. in_prefix (region ∷ []) (regions_of (before ++ region ∷ []) more))) ≡ Ok regions
+      → ((region : Region) (rest : List Region) → regions_of (before ++ region ∷ []) more ≡ Ok rest → regions_size rest ≤ list_size more)
+      → regions_size regions ≤ (counted value + size value) + list_size more
+  by is later =
+      let (ms, e, is_region) = bound (or_refuse (Shape None field.Region) (as_table value)) (λ ms. region_of (length before) (region_names before)
+      (listed_names before) (has_common before) ms >>= (λ region. in_prefix (region ∷ []) (regions_of (before ++ region ∷ []) more))) regions is in
+      let (region, f, is_rest) = bound (region_of (length before) (region_names before) (listed_names before) (has_common before) ms)
+      (λ region. in_prefix (region ∷ []) (regions_of (before ++ region ∷ []) more)) regions is_region in
+      let (rest, g, is_all) = bound (regions_of (before ++ region ∷ []) more) (λ r. Ok ((region ∷ []) ++ r)) regions is_rest in
+      let few = later region rest g in
+      let own = table-size value ms (found (Shape None field.Region) (as_table value) ms e) in
+      let short = region-short (length before) (region_names before) (listed_names before) (has_common before) ms region f in
+      let same : region ∷ rest ≡ regions = same-ok (region ∷ rest) regions is_all in
+      let equal : regions_size (region ∷ rest) ≡ regions_size regions = ap (λ (l : List Region). regions_size l) same in
+      let sum = sum_by-cons (λ (r : Region). length r.name + 1) region rest in
+      omega (arith, few, own, short, equal, sum)
+
+-- each name counts at least 1
+regions-few : (regions : List Region) → length regions ≤ regions_size regions
+regions-few [] = omega arith
+regions-few (region ∷ regions) =
+    let rest = regions-few regions in let sum = sum_by-cons (λ (r : Region). length r.name + 1) region regions in omega (arith, rest, sum)
+
+-- ---- symbols
 
 symbol-short : (place : ℕ) (names entries regions : List (List ℕ)) (ms : Members) (symbol : PlanSymbol) → symbol_of place names entries regions ms ≡ Ok symbol
     → length symbol.name ≤ members_size ms
@@ -196,11 +242,6 @@ symbols-short entries regions before (value ∷ more) symbols is = by is (λ sym
 
 -- ---- plans
 
--- no more regions than this, and no longer names of symbols
-pub record IsWithin (n : ℕ) (plan : Plan) : Type 0 where
-  pub regions : length plan.regions ≤ n
-  pub names : names_size plan.symbols ≤ n
-
 module _ (document : Members) where
   abbrev pub whole : List (List ℕ) → List Region → List PlanSymbol → Result Plan PlanRefusal
   whole keep regions symbols = Ok (record { regions = regions; symbols = symbols; keep = keep })
@@ -220,7 +261,7 @@ module _ (document : Members) where
   abbrev pub of_items : List Data → Result Plan PlanRefusal
   of_items values = tables_at field.Symbol (get_member (codes "symbol") document) >>= (λ others. of_symbols values others)
 
-  loaded-same : (wrong : Option ℕ) (read regions : List Region) → with_loads wrong read ≡ Ok regions → read ≡ regions
+  pub loaded-same : (wrong : Option ℕ) (read regions : List Region) → with_loads wrong read ≡ Ok regions → read ≡ regions
   loaded-same None read regions is = same-ok read regions is
   loaded-same (Some place) read regions is = absurd cc
 
@@ -240,12 +281,19 @@ module _ (document : Members) where
       = same-ok (record { regions = regions; symbols = symbols; keep = keep }) plan is_whole in
       let first : length regions ≡ length plan.regions = ap (λ (p : Plan). length p.regions) same in
       let second : names_size symbols ≡ names_size plan.symbols = ap (λ (p : Plan). names_size p.symbols) same in
-      let loaded : length read ≡ length regions = ap (λ (l : List Region). length l) (loaded-same (first_wrong_load read) read regions e) in
-      let few = regions-few [] values read d in
+      let names : regions_size regions ≡ regions_size plan.regions = ap (λ (p : Plan). regions_size p.regions) same in
+      let loaded : regions_size read ≡ regions_size regions
+      = ap (λ (l : List Region). regions_size l) (loaded-same (first_wrong_load read) read regions e) in
+      let few = regions-few regions in
+      let all_short = regions-short [] values read d in
       let short = symbols-short (listed_names regions) (region_names regions) [] others symbols f in
       let all = tables-size field.Region (get_member (codes "region") document) (members_size document) values (at-key (codes "region") document) a in
       let rest = tables-size field.Symbol (get_member (codes "symbol") document) (members_size document) others (at-key (codes "symbol") document) b in
-      record { regions = omega (arith, first, loaded, few, all); names = omega (arith, second, short, rest) }
+      record {
+        regions = omega (arith, first, loaded, few, all_short, all);
+        region_names = omega (arith, names, loaded, all_short, all);
+        names = omega (arith, second, short, rest);
+      }
 
 -- the plan of a text
 pub text-within : (bytes : List ℕ) (plan : Plan) → plan_of_text bytes ≡ Ok plan → IsWithin 65536 plan
@@ -256,8 +304,13 @@ text-within bytes plan is = by_length (nat_lt 65536 (length bytes)) refl is wher
   of_document (Some ms) few fits is =
       let within = plan-within ms plan is in
       let regions = within.regions in
+      let region_names = within.region_names in
       let names = within.names in
-      record { regions = omega (arith, regions, fits, few); names = omega (arith, names, fits, few) }
+      record {
+        regions = omega (arith, regions, fits, few);
+        region_names = omega (arith, region_names, fits, few);
+        names = omega (arith, names, fits, few);
+      }
 
   parsed : (o : Option Members) → parse_document bytes ≡ o → IfSome o (λ ms. members_size ms ≤ length bytes)
   parsed None e = tt

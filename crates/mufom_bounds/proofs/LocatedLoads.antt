@@ -34,11 +34,12 @@ use Rattle.mufom_meaning.specs.Steps.{readings_after, step_reading, steps, steps
 use Rattle.mufom_meaning.specs.Values.{Setting, setting}
 use Rattle.mufom_meaning.proofs.Members.{Contains-In, In, In-Contains, In-flat_map, flat_map-In}
 use Rattle.mufom_meaning.proofs.absolute.Cells.{section_cell, section_cells}
-use Rattle.mufom_meaning.proofs.absolute.Rows.{sound}
-use Rattle.mufom_run_laws.proofs.Bounded.{IsBounded, IsBoundedItem, IsBoundedLoad, all-append}
-use Rattle.mufom_run_laws.proofs.BoundedLinks.{in-all}
-use Rattle.mufom_run_laws.proofs.LocatedSections.{in-numbered, section-fits}
-use Rattle.mufom_run_laws.proofs.LocatedValues.{narrow, one-number}
+use Rattle.mufom_meaning.proofs.absolute.Sound.{IsSoundLocation}
+use Rattle.mufom_bounds.specs.Bounded.{IsBounded, IsBoundedItem, IsBoundedLoad}
+use Rattle.mufom_bounds.proofs.Bounded.{all-append}
+use Rattle.mufom_bounds.proofs.BoundedLinks.{in-all}
+use Rattle.mufom_bounds.proofs.LocatedSections.{in-numbered, section-fits}
+use Rattle.mufom_bounds.proofs.LocatedValues.{narrow, one-number}
 
 -- ---- steps
 
@@ -97,7 +98,8 @@ readings-bytes : (s : Setting) (earlier more : List Step) → AllByRecursion IsB
 readings-bytes s earlier [] are = tt
 readings-bytes s earlier (step ∷ more) are = (step-bytes s earlier step are.0, readings-bytes s (step ∷ earlier) more are.1)
 
-abbrev IsByteCell : Cell → Type 0
+-- the byte of a cell is one
+abbrev pub IsByteCell : Cell → Type 0
 IsByteCell cell = cell.1 < 256
 
 cells-bytes : (a : ℕ) (bytes : List ℕ) → AreBytes bytes → AllByRecursion IsByteCell (cells_from a bytes)
@@ -127,10 +129,25 @@ step-cells order modulus (field_reading section (Some at) kind size (Some v)) is
     cells-bytes at (field_bytes order modulus kind size v)
     (ordered-bytes order (number_bytes size (field_number modulus kind size v)) (number-bytes size (field_number modulus kind size v)))
 
-map-cells : (order : Order) (modulus : ℕ) (xs : List StepReading) → AllByRecursion HasBytes xs → AllByRecursion IsByteCell (address_map order modulus xs)
-map-cells order modulus [] are = tt
-map-cells order modulus (x ∷ xs) are =
-    all-append IsByteCell (step_cells order modulus x) (address_map order modulus xs) (step-cells order modulus x are.0) (map-cells order modulus xs are.1)
+module _ (ms : List Parts) (are : AllByRecursion IsBounded ms) (s : Setting) where
+  -- a cell of a step of the list
+  pub step-byte : (order : Order) (x : StepReading) → In x (readings_after s [] (steps ms)) → (cell : Cell) → In cell (step_cells order s.modulus x)
+      → IsByteCell cell
+  step-byte order x k cell there =
+      let all = readings-bytes s [] (steps ms) (all-steps 0 0 0 ms are) in
+      let has = in-all HasBytes (readings_after s [] (steps ms)) all x k in
+      in-all IsByteCell (step_cells order s.modulus x) (step-cells order s.modulus x has) cell there
+
+-- the bytes of a location without copies
+pub plain-bytes : (ms : List Parts) (plan : Plan) → AllByRecursion IsBounded ms → (r : LocatedParts) → IsLocation ms plan r → (cell : Cell)
+    → In cell (run_cells r.runs) → IsByteCell cell
+unfolding readings
+plain-bytes ms plan are r h cell k =
+    let s = setting ms (planned_bases ms plan) in
+    let mapped = Contains-In cell (address_map r.order s.modulus (readings_after s [] (steps ms)))
+    ((h.rows.same cell).1 (In-Contains cell (run_cells r.runs) k)) in
+    let there = flat_map-In (step_cells r.order s.modulus) cell (readings_after s [] (steps ms)) mapped in
+    step-byte ms are s r.order there.0 there.1 cell there.2
 
 -- ---- runs
 
@@ -151,24 +168,10 @@ record IsBoundedRun (run : Run) : Type 0 where
   ends : 0 < length run.bytes → run.address + length run.bytes ≤ 2 ^ 64
 
 module _ (m : Parts) (more : List Parts) (plan : Plan) (v : AreValid (m ∷ more)) (are : AllByRecursion IsBounded (m ∷ more)) (r : LocatedParts)
-    (h : IsLocation (m ∷ more) plan r) where
-  abbrev ms : List Parts
-  ms = m ∷ more
-
-  abbrev s : Setting
-  s = setting ms (planned_bases ms plan)
-
-  cell-byte : (cell : Cell) → In cell (run_cells r.runs) → IsByteCell cell
-  unfolding readings
-  cell-byte cell k =
-      let mapped = Contains-In cell (address_map r.order s.modulus (readings_after s [] (steps ms)))
-      ((h.rows.same cell).1 (In-Contains cell (run_cells r.runs) k)) in
-      in-all IsByteCell (address_map r.order s.modulus (readings_after s [] (steps ms)))
-      (map-cells r.order s.modulus (readings_after s [] (steps ms)) (readings-bytes s [] (steps ms) (all-steps 0 0 0 ms are))) cell mapped
-
+    (h : IsSoundLocation (m ∷ more) plan r) (each-byte : (cell : Cell) → In cell (run_cells r.runs) → IsByteCell cell) where
   cell-below : (cell : Cell) → In cell (run_cells r.runs) → cell.0 < 2 ^ 64
   cell-below cell k =
-      let there = flat_map-In (section_cells r.runs) cell (enumerate_from 0 r.sections) ((sound m more plan r v h).inside cell k) in
+      let there = flat_map-In (section_cells r.runs) cell (enumerate_from 0 r.sections) (h.inside cell k) in
       let lies = (section_cell r.runs there.0 cell there.2).1 in
       let ends = (section-fits m more plan v are r h there.0.1 (in-numbered 0 r.sections there.0 there.1) lies.0 lies.1).ends in
       let most = narrow m more plan v are in
@@ -179,7 +182,7 @@ module _ (m : Parts) (more : List Parts) (plan : Plan) (v : AreValid (m ∷ more
       let cell-in : (cell : Cell) → In cell (cells_from run.address run.bytes) → In cell (run_cells r.runs)
       = λ cell there. In-flat_map (λ (row : Run). cells_from row.address row.bytes) run cell r.runs k there in
       record {
-        bytes = bytes-of-cells run.address run.bytes (λ cell there. cell-byte cell (cell-in cell there));
+        bytes = bytes-of-cells run.address run.bytes (λ cell there. each-byte cell (cell-in cell there));
         ends = run-ends (2 ^ 64) run.address run.bytes (λ cell there. cell-below cell (cell-in cell there));
       }
 
@@ -242,5 +245,6 @@ module _ (runs : List Run) (each : (run : Run) → In run runs → IsBoundedRun 
   loads-bounded sections = all-flat IsBoundedLoad (section_loads runs) sections (λ s k. loads-at s.0 s.1 s.1.base)
 
 pub located-loads : (m : Parts) (more : List Parts) (plan : Plan) → AreValid (m ∷ more) → AllByRecursion IsBounded (m ∷ more) → (r : LocatedParts)
-    → IsLocation (m ∷ more) plan r → AllByRecursion IsBoundedLoad (flat_map (section_loads r.runs) (enumerate_from 0 r.sections))
-located-loads m more plan v are r h = loads-bounded r.runs (run-bounded m more plan v are r h) (enumerate_from 0 r.sections)
+    → IsSoundLocation (m ∷ more) plan r → ((cell : Cell) → In cell (run_cells r.runs) → IsByteCell cell)
+    → AllByRecursion IsBoundedLoad (flat_map (section_loads r.runs) (enumerate_from 0 r.sections))
+located-loads m more plan v are r h bytes = loads-bounded r.runs (run-bounded m more plan v are r h bytes) (enumerate_from 0 r.sections)

@@ -17,7 +17,7 @@ use Rattle.toml.specs.Parse.{parse_document, read_map, scalar_data, skip_bom, va
 use Rattle.toml.specs.Tables.{Definition, Document, Edit, Expression, Node, Nodes, Origin, along_dots, along_header, array_table, at_found, at_key, by_dot}
 use Rattle.toml.specs.Tables.{by_header, close, close_node, define, dot_node, dotted, get_node, header, header_node, implicit, insert, key_value, new_node}
 use Rattle.toml.specs.Tables.{no_nodes, node, open_array, open_table, put, redefine, replace, std_table, value}
-use Rattle.mufom_run_laws.proofs.TextSizes.{Fits, after-byte, blank-less, drop-less, fits-more, key-fits, long, nothing, quoted-fits, unquoted-fits, ws-less}
+use Rattle.mufom_bounds.proofs.TextSizes.{Fits, after-byte, blank-less, drop-less, fits-more, key-fits, long, nothing, quoted-fits, unquoted-fits, ws-less}
 
 -- ---- sizes
 

@@ -16,6 +16,7 @@ use Rattle.mufom_module.proofs.WeightLaws.{weight-sum}
 use Rattle.mufom_plan.specs.declared.plan.Plan.{Plan}
 use Rattle.mufom_meaning.specs.declared.located.LocatedParts.{LocatedParts}
 use Rattle.mufom_meaning.specs.Absolute.{absolute_of}
+use Rattle.mufom_meaning.specs.AddressMap.{Cell, run_cells}
 use Rattle.mufom_meaning.specs.Counts.{loaded_total}
 use Rattle.mufom_meaning.specs.Facts.{image_limit}
 use Rattle.mufom_meaning.specs.Flat.{flat_references, flat_sections, is_common}
@@ -24,19 +25,27 @@ use Rattle.mufom_meaning.specs.Location.{Header, IsLocation}
 use Rattle.mufom_meaning.specs.LocationLaws.{asking_count}
 use Rattle.mufom_meaning.specs.Staging.{AreValid}
 use Rattle.mufom_meaning.specs.StagingLaws.{total_weight}
+use Rattle.mufom_meaning.proofs.Members.{In}
 use Rattle.mufom_meaning.proofs.absolute.Entries.{asked-lighter, asked_weight, lettered, lighter-all}
+use Rattle.mufom_meaning.proofs.absolute.Rows.{sound}
+use Rattle.mufom_meaning.proofs.absolute.Sound.{IsSoundLocation}
 use Rattle.mufom_meaning.proofs.absolute.Weight.{absolute_weighs}
 use Rattle.mufom_meaning.proofs.facts.AllAnswers.{answers_are_facts}
-use Rattle.mufom_run_laws.proofs.Bounded.{IsBounded}
-use Rattle.mufom_run_laws.proofs.LocatedLoads.{located-loads}
-use Rattle.mufom_run_laws.proofs.LocatedSections.{sections-made}
-use Rattle.mufom_run_laws.proofs.LocatedValues.{marks-bounded, publics-bounded, start-bounded}
+use Rattle.mufom_bounds.specs.Bounded.{IsBounded}
+use Rattle.mufom_bounds.proofs.LocatedLoads.{IsByteCell, located-loads, plain-bytes}
+use Rattle.mufom_bounds.proofs.LocatedSections.{IsMadeButBase, plain-made, sections-made}
+use Rattle.mufom_bounds.proofs.LocatedValues.{marks-bounded, publics-bounded, start-bounded}
 
 -- ---- its parts
 
-some-bounded : (m : Parts) (more : List Parts) (plan : Plan) (r : LocatedParts) → AreValid (m ∷ more) → AllByRecursion IsBounded (m ∷ more)
-    → IsLocation (m ∷ more) plan r → IsBounded (absolute_of r)
-some-bounded m more plan r v are h =
+-- what a location needs besides its values: sections within the bounds, and bytes in its runs
+pub record HasBoundedContents (r : LocatedParts) : Type 0 where
+  pub sections : (section : Section) → In section r.sections → IsMadeButBase section
+  pub bytes : (cell : Cell) → In cell (run_cells r.runs) → IsByteCell cell
+
+pub sound-bounded : (m : Parts) (more : List Parts) (plan : Plan) (r : LocatedParts) → AreValid (m ∷ more) → AllByRecursion IsBounded (m ∷ more)
+    → IsSoundLocation (m ∷ more) plan r → HasBoundedContents r → IsBounded (absolute_of r)
+sound-bounded m more plan r v are h contents =
     let header : ◌≡◌ {A = Header} (m.processor, m.name, m.maus, m.order) (r.processor, r.name, r.maus, r.order) = some_same _ _ h.first in
     let first = are.0 in
     record {
@@ -44,18 +53,21 @@ some-bounded m more plan r v are h =
       name = subst AreBytes (ap (λ (x : Header). x.1) header) first.name;
       ext = tt;
       env = tt;
-      sections = sections-made m more plan v are r h;
+      sections = sections-made m more plan v are r h contents.sections;
       publics = publics-bounded m more plan v are r h;
       references = tt;
       debug = marks-bounded m more plan v are r h;
-      loads = located-loads m more plan v are r h;
+      loads = located-loads m more plan v are r h contents.bytes;
       start = start-bounded m more plan v are r h;
     }
 
+-- of a location without copies
 pub absolute-bounded : (ms : List Parts) (plan : Plan) (r : LocatedParts) → AreValid ms → AllByRecursion IsBounded ms → IsLocation ms plan r
     → IsBounded (absolute_of r)
 absolute-bounded [] plan r v are h = let none = h.first in absurd cc
-absolute-bounded (m ∷ more) plan r v are h = some-bounded m more plan r v are h
+absolute-bounded (m ∷ more) plan r v are h =
+    sound-bounded m more plan r v are (sound m more plan r v h)
+    (record { sections = plain-made (m ∷ more) plan are r h; bytes = plain-bytes (m ∷ more) plan are r h })
 
 -- ---- its weight
 
@@ -74,7 +86,8 @@ module-heavy m =
     let e = asked-lighter m.names.references in
     omega (arith, all, a, b, c, d, e)
 
-list-heavy : (ms : List Parts) → 14 * length (flat_sections ms) + 32 * asking_count ms ≤ total_weight ms
+-- what the sections of a list, and its weak references of a size above 0, weigh at least
+pub list-heavy : (ms : List Parts) → 14 * length (flat_sections ms) + 32 * asking_count ms ≤ total_weight ms
 list-heavy [] = omega arith
 list-heavy (m ∷ ms) =
     let own = module-heavy m in

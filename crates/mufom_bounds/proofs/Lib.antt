@@ -1,0 +1,17 @@
+pub mod Bounded
+pub mod BoundedRecords
+pub mod BoundedFiles
+pub mod BoundedLinks
+pub mod LocatedValues
+pub mod LocatedSections
+pub mod LocatedLoads
+pub mod AbsoluteBounded
+pub mod LocatedCopies
+pub mod SymbolsBounded
+pub mod PlannedBounded
+pub mod TextBytes
+pub mod TomlBytes
+pub mod TextSizes
+pub mod TomlSizes
+pub mod PlanSizes
+pub mod PlanBytes

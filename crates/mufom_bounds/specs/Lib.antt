@@ -1,0 +1,3 @@
+pub mod Bounded
+pub mod PlanBounds
+pub mod BoundLaws
